@@ -9,9 +9,9 @@ use Rattle.brc_word.specs.Words.{owner_part, local_part, biased_part, phase_part
 use Rattle.brc_model.specs.declared.duty.Reason.TheVariants.{Handed}
 use Rattle.brc_model.specs.declared.duty.Duty.{Duty}
 use Rattle.brc_model.specs.declared.duty.Duty.TheVariants.{DecideAtZero, SharedLoad, SharedExchange, SetMark, MergeSwap, MergeLoad, MergeExchange}
-use Rattle.brc_model.specs.declared.address.Address.TheVariants.{Local, Shared, Mark}
+use Rattle.brc_model.specs.declared.address.Address.TheVariants.{Local, Shared}
 use Rattle.brc_model.specs.declared.actor.Actor.{Actor}
-use Rattle.brc_model.specs.Machine.{Live, Machine}
+use Rattle.brc_model.specs.Machine.{Live, Machine, mark_of}
 use Rattle.brc_model.specs.Layout.{block_of}
 
 -- ---- weights of a duty at a row
@@ -91,7 +91,7 @@ biased_total m x = local_part (m.memory (Local x)) + biased_part (m.memory (Shar
 
 -- the number of the row's pending decrements: a set mark is one, and the threads' duties have the others
 abbrev pub awaiting : Machine → ℕ → ℕ
-awaiting m x = m.memory (Mark x) + weighed (awaits x) m
+awaiting m x = mark_of m.layout m.memory x + weighed (awaits x) m
 
 pub record AgreesAt (m : Machine) (x : ℕ) : Type 0 where
   -- the counts add up to the references that are held and the pending decrements

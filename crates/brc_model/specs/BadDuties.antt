@@ -3,7 +3,7 @@ use Rattle.std.specs.Prelude.{ℕ, Bool, true, false, ◌||◌, ◌==◌, not, O
 use Rattle.brc_model.specs.AbstractState.{are_allowed}
 use Rattle.brc_model.specs.declared.duty.Duty.{Duty}
 use Rattle.brc_model.specs.declared.address.Address.{Address}
-use Rattle.brc_model.specs.declared.address.Address.TheVariants.{Local, Shared, Gate, KindOf, Mark, Cell, Slot, Resource, ThreadWord}
+use Rattle.brc_model.specs.declared.address.Address.TheVariants.{Local, Shared, Gate, KindOf, Marks, Cell, Slot, Resource, ThreadWord}
 use Rattle.brc_model.specs.Duties.{address_of}
 use Rattle.brc_model.specs.Moves.{reference_effects}
 use Rattle.brc_model.specs.declared.actor.Actor.{Actor}
@@ -18,7 +18,7 @@ touched_row (KindOf x) = Some x
 touched_row (Cell x i) = Some x
 touched_row (Slot x) = Some x
 touched_row (Resource x) = Some x
-touched_row (Mark x) = None
+touched_row (Marks t w) = None
 touched_row (ThreadWord t) = None
 
 -- a closed row is freed for all threads, and a dying one for all but the thread that deallocates it

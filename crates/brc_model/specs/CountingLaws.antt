@@ -43,7 +43,7 @@ DutiesAreKept = (p : Accounts) (n : ℕ) (m : Machine) (t : ℕ) (a : Actor) (d 
 -- What a thread can rely on at its next duty: the word is there, the value found suits the duty, and a store knows the
 -- value that it overwrites.
 pub record DutyWithin (n : ℕ) (m : Machine) (t : ℕ) (a : Actor) (d : Duty) : Type 0 where
-  pub there : IsThere (row_count m.layout) n (address_of m.layout t a.head d)
+  pub there : IsThere m.layout (address_of m.layout t a.head d)
   pub head : a.head ≤ row_count m.layout
   pub used : used_by a.used d ≤ row_count m.layout
   pub suits : Suits t (is_running a.status) (row_count m.layout) d (m.memory (address_of m.layout t a.head d))

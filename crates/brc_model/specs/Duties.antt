@@ -1,7 +1,7 @@
 -- Duties. A duty is one step on one word. What a thread still has to do inside an instruction or its exit is its
 -- agenda, a list of duties. Which duties follow a duty depends on the value that its step finds.
 use Rattle.std.specs.Prelude.{ℕ, zero, suc, ◌+◌, ◌-◌, Bool, ◌&&◌, ◌||◌, ◌==◌, nat_lt, if◌then◌else◌, List, [], ◌∷◌, ◌++◌, Option, None, Some}
-use Rattle.brc_word.specs.declared.values.TheConstants.{RUNNING, LEAVING, GONE, SET, UNSET, NOBODY, ONE_REFERENCE, EMPTY, FULL, LIST, FILE, SOCK}
+use Rattle.brc_word.specs.declared.values.TheConstants.{RUNNING, LEAVING, GONE, SET, NOBODY, ONE_REFERENCE, EMPTY, FULL, LIST, FILE, SOCK}
 use Rattle.brc_model.specs.declared.duty.Holding.TheVariants.{InFlight}
 use Rattle.brc_model.specs.declared.duty.Reason.{Reason}
 use Rattle.brc_model.specs.declared.duty.Reason.TheVariants.{Own, Handed}
@@ -9,9 +9,9 @@ use Rattle.brc_model.specs.declared.duty.Duty.{Duty}
 use Rattle.brc_model.specs.declared.duty.Duty.TheVariants.{RetainLoad, RetainStore, RetainAdd, ReleaseLoad, ReleaseStore, DecideAtZero, SharedLoad, SharedExchange, SetMark, Look, TakeMark, MergeSwap, MergeLoad, MergeExchange, Die, Settle, SettleKind, SettleCell, TakeSlot, CloseResource, SettleEnd, Leave, Scan, Finish, ClaimMark, BirthKind, BirthSlot, BirthLocal, KindLoad, LockGate, UnlockGate, CellLoad, CellSwap, LendSlot, ReturnSlot}
 use Rattle.brc_model.specs.declared.address.Address.{Address}
 use Rattle.brc_model.specs.declared.layout.Layout.{Layout}
-use Rattle.brc_model.specs.declared.address.Address.TheVariants.{Local, Shared, Gate, KindOf, Mark, Cell, Slot, Resource, ThreadWord}
-use Rattle.brc_word.specs.Words.{most_local, local_word, owner_part, local_part, is_immortal_word, fresh_word, dead_word, released_word, merged_word, free_word, locked_word, dying_word, next_part, closed_word, kind_part, argument_part}
-use Rattle.brc_model.specs.Layout.{block_of, row_at}
+use Rattle.brc_model.specs.declared.address.Address.TheVariants.{Local, Shared, Gate, KindOf, Marks, Cell, Slot, Resource, ThreadWord}
+use Rattle.brc_word.specs.Words.{most_local, local_word, owner_part, local_part, is_immortal_word, fresh_word, dead_word, released_word, merged_word, free_word, locked_word, dying_word, next_part, closed_word, kind_part, argument_part, mark_at, marked_word, unmarked_word}
+use Rattle.brc_model.specs.Layout.{block_of, row_at, mark_word, mark_bit}
 
 -- ---- the row that a duty names
 
@@ -55,6 +55,10 @@ duty_row Finish = None
 
 -- ---- the word of a step
 
+-- the place of the mark word in which the row's mark is
+abbrev pub mark_place : Layout → ℕ → Address
+mark_place layout x = Marks (block_of layout x) (mark_word layout x)
+
 -- Returns the address of the word that the duty of thread t accesses. `head` is the head of the thread's dying chain.
 abbrev pub address_of : Layout → ℕ → ℕ → Duty → Address
 address_of layout t head (RetainLoad x h) = Local x
@@ -65,9 +69,9 @@ address_of layout t head (ReleaseStore x w) = Local x
 address_of layout t head (DecideAtZero x) = Shared x
 address_of layout t head (SharedLoad x r) = Shared x
 address_of layout t head (SharedExchange x r w) = Shared x
-address_of layout t head (SetMark x) = Mark x
+address_of layout t head (SetMark x) = mark_place layout x
 address_of layout t head (Look x) = ThreadWord (block_of layout x)
-address_of layout t head (TakeMark x) = Mark x
+address_of layout t head (TakeMark x) = mark_place layout x
 address_of layout t head (MergeSwap x r) = Local x
 address_of layout t head (MergeLoad x c r) = Shared x
 address_of layout t head (MergeExchange x c w r) = Shared x
@@ -79,9 +83,9 @@ address_of layout t head (TakeSlot x) = Slot x
 address_of layout t head (CloseResource x) = Resource x
 address_of layout t head (SettleEnd x) = Gate x
 address_of layout t head (Leave i n) = ThreadWord t
-address_of layout t head (Scan i n) = Mark (row_at layout t i)
+address_of layout t head (Scan i n) = mark_place layout (row_at layout t i)
 address_of layout t head Finish = ThreadWord t
-address_of layout t head (ClaimMark x) = Mark x
+address_of layout t head (ClaimMark x) = mark_place layout x
 address_of layout t head (BirthKind x h w) = KindOf x
 address_of layout t head (BirthSlot x h) = Slot x
 address_of layout t head (BirthLocal x h) = Local x
@@ -94,42 +98,42 @@ address_of layout t head (LendSlot x) = Slot x
 address_of layout t head (ReturnSlot x) = Slot x
 
 -- Returns the new value of the word that the step accesses.
-abbrev pub new_word : ℕ → ℕ → Duty → ℕ → ℕ
-new_word t head (RetainLoad x h) found = found
-new_word t head (RetainStore x h w) found = w + 1
-new_word t head (RetainAdd x h) found = found + ONE_REFERENCE
-new_word t head (ReleaseLoad x h) found = found
-new_word t head (ReleaseStore x w) found = w - 1
-new_word t head (DecideAtZero x) found = found
-new_word t head (SharedLoad x r) found = found
-new_word t head (SharedExchange x r w) found = if found == w then released_word w else found
-new_word t head (SetMark x) found = SET
-new_word t head (Look x) found = found
-new_word t head (TakeMark x) found = UNSET
-new_word t head (MergeSwap x r) found = NOBODY
-new_word t head (MergeLoad x c r) found = found
-new_word t head (MergeExchange x c w r) found = if found == w then merged_word w c else found
-new_word t head (Die x) found = dying_word t head
-new_word t head Settle found = found
-new_word t head (SettleKind x) found = found
-new_word t head (SettleCell x i n) found = EMPTY
-new_word t head (TakeSlot x) found = EMPTY
-new_word t head (CloseResource x) found = found + 1
-new_word t head (SettleEnd x) found = closed_word
-new_word t head (Leave i n) found = LEAVING
-new_word t head (Scan i n) found = UNSET
-new_word t head Finish found = GONE
-new_word t head (ClaimMark x) found = UNSET
-new_word t head (BirthKind x h w) found = w
-new_word t head (BirthSlot x h) found = FULL
-new_word t head (BirthLocal x h) found = local_word t 1
-new_word t head (KindLoad x) found = found
-new_word t head (LockGate x) found = if found == free_word then locked_word t else found
-new_word t head (UnlockGate x) found = free_word
-new_word t head (CellLoad x i) found = found
-new_word t head (CellSwap x i y h) found = y + 1
-new_word t head (LendSlot x) found = EMPTY
-new_word t head (ReturnSlot x) found = FULL
+abbrev pub new_word : Layout → ℕ → ℕ → Duty → ℕ → ℕ
+new_word layout t head (RetainLoad x h) found = found
+new_word layout t head (RetainStore x h w) found = w + 1
+new_word layout t head (RetainAdd x h) found = found + ONE_REFERENCE
+new_word layout t head (ReleaseLoad x h) found = found
+new_word layout t head (ReleaseStore x w) found = w - 1
+new_word layout t head (DecideAtZero x) found = found
+new_word layout t head (SharedLoad x r) found = found
+new_word layout t head (SharedExchange x r w) found = if found == w then released_word w else found
+new_word layout t head (SetMark x) found = marked_word found (mark_bit layout x)
+new_word layout t head (Look x) found = found
+new_word layout t head (TakeMark x) found = unmarked_word found (mark_bit layout x)
+new_word layout t head (MergeSwap x r) found = NOBODY
+new_word layout t head (MergeLoad x c r) found = found
+new_word layout t head (MergeExchange x c w r) found = if found == w then merged_word w c else found
+new_word layout t head (Die x) found = dying_word t head
+new_word layout t head Settle found = found
+new_word layout t head (SettleKind x) found = found
+new_word layout t head (SettleCell x i n) found = EMPTY
+new_word layout t head (TakeSlot x) found = EMPTY
+new_word layout t head (CloseResource x) found = found + 1
+new_word layout t head (SettleEnd x) found = closed_word
+new_word layout t head (Leave i n) found = LEAVING
+new_word layout t head (Scan i n) found = unmarked_word found (mark_bit layout (row_at layout t i))
+new_word layout t head Finish found = GONE
+new_word layout t head (ClaimMark x) found = unmarked_word found (mark_bit layout x)
+new_word layout t head (BirthKind x h w) found = w
+new_word layout t head (BirthSlot x h) found = FULL
+new_word layout t head (BirthLocal x h) found = local_word t 1
+new_word layout t head (KindLoad x) found = found
+new_word layout t head (LockGate x) found = if found == free_word then locked_word t else found
+new_word layout t head (UnlockGate x) found = free_word
+new_word layout t head (CellLoad x i) found = found
+new_word layout t head (CellSwap x i y h) found = y + 1
+new_word layout t head (LendSlot x) found = EMPTY
+new_word layout t head (ReturnSlot x) found = FULL
 
 -- ---- what follows a step
 
@@ -139,7 +143,7 @@ counts_locally t running word = running && (owner_part word == t + 1)
 
 -- after a mark was taken: if it was set, the object is merged, so that the handed reference can be given up
 abbrev pub claimed : ℕ → ℕ → List Duty
-claimed x found = if found == SET then MergeSwap x Handed ∷ [] else []
+claimed x mark = if mark == SET then MergeSwap x Handed ∷ [] else []
 
 -- after a merge that is done: a handed reference is given up
 abbrev pub once_merged : ℕ → Reason → List Duty
@@ -195,7 +199,7 @@ continuation layout t running head (SharedExchange x r w) found =
     if found == w then shared_result x w else SharedLoad x r ∷ []
 continuation layout t running head (SetMark x) found = Look x ∷ []
 continuation layout t running head (Look x) found = if found == RUNNING then [] else TakeMark x ∷ []
-continuation layout t running head (TakeMark x) found = claimed x found
+continuation layout t running head (TakeMark x) found = claimed x (mark_at found (mark_bit layout x))
 continuation layout t running head (MergeSwap x r) found =
     if found == NOBODY then once_merged x r else MergeLoad x (local_part found) r ∷ []
 continuation layout t running head (MergeLoad x c r) found = MergeExchange x c found r ∷ []
@@ -211,9 +215,9 @@ continuation layout t running head (CloseResource x) found = SettleEnd x ∷ []
 continuation layout t running head (SettleEnd x) found = []
 continuation layout t running head (Leave i n) found = Scan i n ∷ Finish ∷ []
 continuation layout t running head (Scan i n) found =
-    claimed (row_at layout t i) found ++ Settle ∷ Scan (i + 1) (n - 1) ∷ []
+    claimed (row_at layout t i) (mark_at found (mark_bit layout (row_at layout t i))) ++ Settle ∷ Scan (i + 1) (n - 1) ∷ []
 continuation layout t running head Finish found = []
-continuation layout t running head (ClaimMark x) found = claimed x found ++ Settle ∷ []
+continuation layout t running head (ClaimMark x) found = claimed x (mark_at found (mark_bit layout x)) ++ Settle ∷ []
 continuation layout t running head (BirthKind x h w) found =
     if has_resource w then BirthSlot x h ∷ [] else BirthLocal x h ∷ []
 continuation layout t running head (BirthSlot x h) found = BirthLocal x h ∷ []

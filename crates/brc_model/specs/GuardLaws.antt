@@ -5,11 +5,11 @@ use Rattle.brc_word.specs.declared.values.TheConstants.{UNSET}
 use Rattle.brc_word.specs.Words.{locked_word}
 use Rattle.brc_model.specs.declared.duty.Duty.{Duty}
 use Rattle.brc_model.specs.declared.actor.Status.TheVariants.{Gone}
-use Rattle.brc_model.specs.declared.address.Address.TheVariants.{Local, Gate, Mark, Cell, Slot}
+use Rattle.brc_model.specs.declared.address.Address.TheVariants.{Local, Gate, Cell, Slot}
 use Rattle.brc_model.specs.Layout.{block_of}
 use Rattle.brc_model.specs.Duties.{address_of}
 use Rattle.brc_model.specs.declared.actor.Actor.{Actor}
-use Rattle.brc_model.specs.Machine.{Machine, Unborn, Dying, same_address, machine_by_duty}
+use Rattle.brc_model.specs.Machine.{Machine, Unborn, Dying, same_address, machine_by_duty, mark_of}
 use Rattle.brc_model.specs.Knowledge.{HasChained, GuardsCells}
 use Rattle.brc_model.specs.Accounts.{Accounts, HoldsNone}
 use Rattle.brc_model.specs.OpenWork.{is_finalising}
@@ -21,7 +21,7 @@ use Rattle.brc_model.specs.CountingLaws.{ComesNext}
 -- Each mark that is set is watched: the thread of its block runs, or its exit will scan the mark, or some thread will
 -- look at it.
 abbrev pub QueuedMarksAreWatched : Type 0
-QueuedMarksAreWatched = (p : Accounts) (n : ℕ) (m : Machine) (x : ℕ) → Counts p n m → m.memory (Mark x) ≢ UNSET
+QueuedMarksAreWatched = (p : Accounts) (n : ℕ) (m : Machine) (x : ℕ) → Counts p n m → mark_of m.layout m.memory x ≢ UNSET
     → IsWatched m x
 
 -- The thread has locked the row's object, and the object's gate names the thread.

@@ -9,9 +9,9 @@ use Rattle.brc_model.specs.Kinds.{kind_number}
 use Rattle.brc_model.specs.declared.duty.Duty.{Duty}
 use Rattle.brc_model.specs.declared.duty.Duty.TheVariants.{Look, TakeMark, BirthSlot, BirthLocal}
 use Rattle.brc_model.specs.declared.address.Address.{Address}
-use Rattle.brc_model.specs.declared.address.Address.TheVariants.{Local, Shared, Gate, KindOf, Mark, Cell, Slot, ThreadWord}
+use Rattle.brc_model.specs.declared.address.Address.TheVariants.{Local, Shared, Gate, KindOf, Cell, Slot, ThreadWord}
 use Rattle.brc_model.specs.declared.actor.Actor.{Actor}
-use Rattle.brc_model.specs.Machine.{Life, Unborn, Live, Closed, Machine}
+use Rattle.brc_model.specs.Machine.{Life, Unborn, Live, Closed, Machine, mark_of}
 use Rattle.brc_model.specs.References.{held, one_if, reference_of, word_holds, cell_reference}
 use Rattle.brc_model.specs.RowInvariant.{waits, carries, merges, decides, weight, Numbers, RowInvariant}
 use Rattle.brc_model.specs.Duties.{cells_of}
@@ -31,7 +31,7 @@ abbrev pub numbers_of : Machine → ℕ → Numbers
 numbers_of m x = record {
   local = m.memory (Local x);
   shared = m.memory (Shared x);
-  mark = m.memory (Mark x);
+  mark = mark_of m.layout m.memory x;
   references = references_to x m.abstract.references;
   waiting = weight (waits x) m.actors;
   carried = weight (carries x) m.actors;
@@ -126,7 +126,8 @@ pub record CoreInvariant (p : Accounts) (n : ℕ) (m : Machine) : Type 0 where
   -- each row's counts, state and life fit together
   pub rows : (x : ℕ) → IsCounted m.layout x → RowInvariant (block_of m.layout x) (m.life x) (numbers_of m x)
   -- a mark is set or not, and a mark that is set is watched
-  pub marks : (x : ℕ) → m.memory (Mark x) ≡ UNSET ⊎ ((m.memory (Mark x) ≡ SET) × (IsCounted m.layout x) × IsWatched m x)
+  pub marks : (x : ℕ) → mark_of m.layout m.memory x ≡ UNSET
+      ⊎ ((mark_of m.layout m.memory x ≡ SET) × (IsCounted m.layout x) × IsWatched m x)
   pub each : (t : ℕ) (a : Actor) → slice_get m.actors t ≡ Some a → Fits (p t) m t a
   -- no other thread holds a reference
   pub beyond : (t : ℕ) → n ≤ t → (k : Holding) (object : ℕ) → held (reference_of t k object) m.abstract.references ≡ 0

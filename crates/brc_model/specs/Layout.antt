@@ -1,6 +1,7 @@
 -- Which rows a machine has, and whose they are. None and the root are main's. Then comes a block of rows for each
 -- worker. The rows behind those are main's again. A thread counts the rows of its block from 0, wherever they are.
-use Rattle.std.specs.Prelude.{◌≡◌, ℕ, zero, suc, ◌+◌, ◌-◌, ◌*◌, ◌/◌, Bool, false, ◌&&◌, ◌||◌, ◌==◌, nat_le, nat_lt, if◌then◌else◌}
+use Rattle.std.specs.Prelude.{◌≡◌, ℕ, zero, suc, ◌+◌, ◌-◌, ◌*◌, ◌/◌, ◌%◌, Bool, false, ◌&&◌, ◌||◌, ◌==◌, nat_le, nat_lt, if◌then◌else◌}
+use Rattle.brc_word.specs.Words.{marks_of_word}
 use Rattle.brc_model.specs.declared.layout.Layout.{Layout}
 
 -- none, which is immortal: no count has its references, and it is never closed
@@ -55,6 +56,22 @@ row_at layout (suc t) i = front_rows + t * layout.rows + i
 abbrev pub index_of : Layout → ℕ → ℕ → ℕ
 index_of layout zero x = if nat_lt x front_rows then x else x - worker_rows layout
 index_of layout (suc t) x = x - (front_rows + t * layout.rows)
+
+-- the number of mark words of the thread's block
+abbrev pub mark_words_of : Layout → ℕ → ℕ
+mark_words_of layout t = (block_size layout t + (marks_of_word - 1)) / marks_of_word
+
+-- the number of all mark words
+abbrev pub mark_words : Layout → ℕ
+mark_words layout = mark_words_of layout 0 + layout.workers * mark_words_of layout 1
+
+-- which mark word of its block has the row's mark
+abbrev pub mark_word : Layout → ℕ → ℕ
+mark_word layout x = index_of layout (block_of layout x) x / marks_of_word
+
+-- which bit of that word is the row's mark
+abbrev pub mark_bit : Layout → ℕ → ℕ
+mark_bit layout x = index_of layout (block_of layout x) x % marks_of_word
 
 -- the first row of an immortal list
 abbrev pub first_immortal_list : Layout → ℕ

@@ -9,11 +9,11 @@ use Rattle.brc_model.specs.declared.duty.Duty.{Duty}
 use Rattle.brc_model.specs.declared.duty.Duty.TheVariants.{Die, SettleEnd, Leave, Finish, BirthLocal, LockGate, UnlockGate, LendSlot, ReturnSlot}
 use Rattle.brc_model.specs.declared.address.Address.{Address}
 use Rattle.brc_model.specs.declared.layout.Layout.{Layout}
-use Rattle.brc_model.specs.declared.address.Address.TheVariants.{Local, Shared, Gate, KindOf, Mark, Cell, Slot, Resource, ThreadWord}
+use Rattle.brc_model.specs.declared.address.Address.TheVariants.{Local, Shared, Gate, KindOf, Marks, Cell, Slot, Resource, ThreadWord}
 use Rattle.brc_model.specs.AbstractState.{AbstractState, Move, moved}
-use Rattle.brc_word.specs.Words.{free_word}
-use Rattle.brc_model.specs.Duties.{address_of, new_word, continuation, new_head, ready}
-use Rattle.brc_model.specs.Layout.{block_size}
+use Rattle.brc_word.specs.Words.{free_word, mark_at}
+use Rattle.brc_model.specs.Duties.{mark_place, address_of, new_word, continuation, new_head, ready}
+use Rattle.brc_model.specs.Layout.{block_size, mark_bit}
 use Rattle.brc_model.specs.Moves.{reference_effects}
 
 -- ---- threads
@@ -88,7 +88,7 @@ same_address (Local x) (Local y) = x == y
 same_address (Shared x) (Shared y) = x == y
 same_address (Gate x) (Gate y) = x == y
 same_address (KindOf x) (KindOf y) = x == y
-same_address (Mark x) (Mark y) = x == y
+same_address (Marks t w) (Marks u v) = (t == u) && (w == v)
 same_address (Cell x i) (Cell y j) = (x == y) && (i == j)
 same_address (Slot x) (Slot y) = x == y
 same_address (Resource x) (Resource y) = x == y
@@ -98,6 +98,10 @@ same_address _ _ = false
 -- the memory with one word changed
 abbrev pub written : (Address → ℕ) → Address → ℕ → Address → ℕ
 written memory a word b = if same_address a b then word else memory b
+
+-- the row's mark: 1 if it is set, else 0
+abbrev pub mark_of : Layout → (Address → ℕ) → ℕ → ℕ
+mark_of layout memory x = mark_at (memory (mark_place layout x)) (mark_bit layout x)
 
 -- ---- life
 
@@ -143,7 +147,7 @@ machine_by_duty m t a d rest =
     let found = m.memory address in
     record {
       layout = m.layout;
-      memory = written m.memory address (new_word t a.head d found);
+      memory = written m.memory address (new_word m.layout t a.head d found);
       actors = slice_set m.actors t (actor_by m.layout t a d rest found);
       abstract = moved m.abstract (reference_effects m.memory t d found);
       life = life_by m.life t d (continuation m.layout t (is_running a.status) a.head d found);

@@ -14,9 +14,9 @@ use Rattle.brc_model.specs.declared.duty.Reason.TheVariants.{Handed}
 use Rattle.brc_model.specs.declared.duty.Duty.{Duty}
 use Rattle.brc_model.specs.declared.duty.Duty.TheVariants.{MergeExchange}
 use Rattle.brc_model.specs.declared.actor.Status.TheVariants.{Running}
-use Rattle.brc_model.specs.declared.address.Address.TheVariants.{Local, Shared, Gate, KindOf, Mark, Cell, Slot, Resource}
+use Rattle.brc_model.specs.declared.address.Address.TheVariants.{Local, Shared, Gate, KindOf, Cell, Slot, Resource}
 use Rattle.brc_model.specs.declared.actor.Actor.{Actor}
-use Rattle.brc_model.specs.Machine.{Unborn, Dying, Machine}
+use Rattle.brc_model.specs.Machine.{Unborn, Dying, Machine, mark_of}
 use Rattle.brc_model.specs.Actions.{StepActor}
 use Rattle.brc_model.specs.StepMachine.{StepMachine, counting, next_machine, first_machine, machine_after}
 use Rattle.brc_model.specs.CountingLaws.{ComesNext}
@@ -76,7 +76,7 @@ pub record StaysAt (m next : StepMachine) (x : ℕ) : Type 0 where
   pub shared : next.memory (Shared x) ≡ m.memory (Shared x)
   pub gate : next.memory (Gate x) ≡ m.memory (Gate x)
   pub kind : next.memory (KindOf x) ≡ m.memory (KindOf x)
-  pub mark : next.memory (Mark x) ≡ m.memory (Mark x)
+  pub mark : mark_of next.layout next.memory x ≡ mark_of m.layout m.memory x
   pub cells : (i : ℕ) → next.memory (Cell x i) ≡ m.memory (Cell x i)
   pub slot : next.memory (Slot x) ≡ m.memory (Slot x)
   pub resource : next.memory (Resource x) ≡ m.memory (Resource x)

@@ -2,7 +2,7 @@
 -- that the step finds, the value that it leaves, the duties that follow, and the moves of references. The rules are in
 -- the order of an object's life. (PEP 703, Biased Reference Counting and Immortalization.)
 use Rattle.std.specs.Prelude.{◌≡◌, ◌≢◌, ℕ, ◌+◌, ◌-◌, ◌<◌, ◌≤◌, Bool, true, false, List, [], ◌∷◌, ◌++◌}
-use Rattle.brc_word.specs.declared.values.TheConstants.{RUNNING, LEAVING, GONE, SET, UNSET, NOBODY, ONE_REFERENCE, QUEUED, EMPTY, FULL}
+use Rattle.brc_word.specs.declared.values.TheConstants.{RUNNING, LEAVING, GONE, SET, NOBODY, ONE_REFERENCE, QUEUED, EMPTY, FULL}
 use Rattle.brc_model.specs.declared.duty.Holding.{Holding}
 use Rattle.brc_model.specs.declared.duty.Reason.{Reason}
 use Rattle.brc_model.specs.declared.duty.Reason.TheVariants.{Own, Handed}
@@ -10,12 +10,12 @@ use Rattle.brc_model.specs.declared.duty.Duty.{Duty}
 use Rattle.brc_model.specs.declared.duty.Duty.TheVariants.{RetainLoad, RetainStore, RetainAdd, ReleaseLoad, ReleaseStore, DecideAtZero, SharedLoad, SharedExchange, SetMark, Look, TakeMark, MergeSwap, MergeLoad, MergeExchange, Die, Settle, SettleKind, SettleCell, TakeSlot, CloseResource, SettleEnd, Leave, Scan, Finish, ClaimMark, BirthKind, BirthSlot, BirthLocal, KindLoad, LockGate, UnlockGate, CellLoad, CellSwap, LendSlot, ReturnSlot}
 use Rattle.brc_model.specs.declared.address.Address.{Address}
 use Rattle.brc_model.specs.declared.address.Address.TheVariants.{KindOf}
-use Rattle.brc_word.specs.Words.{most_local, local_word, local_part, is_immortal_word, fresh_word, dead_word, merged_word, free_word, locked_word, dying_word, closed_word}
+use Rattle.brc_word.specs.Words.{most_local, local_word, local_part, is_immortal_word, fresh_word, dead_word, merged_word, free_word, locked_word, dying_word, closed_word, mark_at, marked_word, unmarked_word}
 use Rattle.brc_model.specs.Kinds.{kind_of_word}
 use Rattle.brc_model.specs.AbstractState.{Move, Finalise}
 use Rattle.brc_model.specs.Duties.{new_word, continuation, counts_locally, once_merged, has_resource, cells_of, cells_from, release_found}
 use Rattle.brc_model.specs.declared.layout.Layout.{Layout}
-use Rattle.brc_model.specs.Layout.{row_at}
+use Rattle.brc_model.specs.Layout.{row_at, mark_bit}
 use Rattle.brc_model.specs.Moves.{reference_effects, gain, lose, put_in_flight, take_out, put_in, birth}
 
 -- A release loses the thread's own reference. A reference that the queue held was lost when its object was queued.
@@ -148,7 +148,7 @@ module _ (memory : Address → ℕ) (layout : Layout) (t : ℕ) (running : Bool)
 
     -- the object is in its owner's queue: the thread looks next whether the owner still runs
     Marked : (x found : ℕ)
-        → Goes (SetMark x) found SET (Look x ∷ []) []
+        → Goes (SetMark x) found (marked_word found (mark_bit layout x)) (Look x ∷ []) []
     -- the owner runs: it will find the mark
     OwnerRuns : (x found : ℕ) → found ≡ RUNNING
         → Goes (Look x) found found [] []
@@ -156,17 +156,17 @@ module _ (memory : Address → ℕ) (layout : Layout) (t : ℕ) (running : Bool)
     OwnerExits : (x found : ℕ) → found ≢ RUNNING
         → Goes (Look x) found found (TakeMark x ∷ []) []
     -- the mark was set: the thread merges the object, and then releases the reference that the queue held
-    MarkTakenBack : (x found : ℕ) → found ≡ SET
-        → Goes (TakeMark x) found UNSET (MergeSwap x Handed ∷ []) []
+    MarkTakenBack : (x found : ℕ) → mark_at found (mark_bit layout x) ≡ SET
+        → Goes (TakeMark x) found (unmarked_word found (mark_bit layout x)) (MergeSwap x Handed ∷ []) []
     -- the owner has taken the mark first
-    MarkGone : (x found : ℕ) → found ≢ SET
-        → Goes (TakeMark x) found UNSET [] []
+    MarkGone : (x found : ℕ) → mark_at found (mark_bit layout x) ≢ SET
+        → Goes (TakeMark x) found (unmarked_word found (mark_bit layout x)) [] []
     -- a running owner, between two calls, finds the mark set, and merges the object
-    MarkClaimed : (x found : ℕ) → found ≡ SET
-        → Goes (ClaimMark x) found UNSET (MergeSwap x Handed ∷ Settle ∷ []) []
+    MarkClaimed : (x found : ℕ) → mark_at found (mark_bit layout x) ≡ SET
+        → Goes (ClaimMark x) found (unmarked_word found (mark_bit layout x)) (MergeSwap x Handed ∷ Settle ∷ []) []
     -- the mark was clear
-    NothingToClaim : (x found : ℕ) → found ≢ SET
-        → Goes (ClaimMark x) found UNSET (Settle ∷ []) []
+    NothingToClaim : (x found : ℕ) → mark_at found (mark_bit layout x) ≢ SET
+        → Goes (ClaimMark x) found (unmarked_word found (mark_bit layout x)) (Settle ∷ []) []
     -- ---- a merge: the local count moves into the shared word, and nobody owns the object any more
 
     -- the object is merged already: the thread does what it wanted the merge for
@@ -223,18 +223,18 @@ module _ (memory : Address → ℕ) (layout : Layout) (t : ℕ) (running : Bool)
     SaysLeaving : (first rows found : ℕ)
         → Goes (Leave first rows) found LEAVING (Scan first rows ∷ Finish ∷ []) []
     -- the object is merged, the reference that the queue held released, and what dies deallocated, before the next row
-    ScanFindsMark : (index rows found : ℕ) → found ≡ SET
-        → Goes (Scan index rows) found UNSET
+    ScanFindsMark : (index rows found : ℕ) → mark_at found (mark_bit layout (row_at layout t index)) ≡ SET
+        → Goes (Scan index rows) found (unmarked_word found (mark_bit layout (row_at layout t index)))
         (MergeSwap (row_at layout t index) Handed ∷ Settle ∷ Scan (index + 1) (rows - 1) ∷ []) []
     -- the mark was clear: the thread goes on to its next row
-    ScanFindsNone : (index rows found : ℕ) → found ≢ SET
-        → Goes (Scan index rows) found UNSET (Settle ∷ Scan (index + 1) (rows - 1) ∷ []) []
+    ScanFindsNone : (index rows found : ℕ) → mark_at found (mark_bit layout (row_at layout t index)) ≢ SET
+        → Goes (Scan index rows) found (unmarked_word found (mark_bit layout (row_at layout t index))) (Settle ∷ Scan (index + 1) (rows - 1) ∷ []) []
     -- the thread takes no further step
     SaysGone : (found : ℕ)
         → Goes Finish found GONE [] []
 
   -- the conclusion of a rule is what the step of the duty computes
   pub record IsComputed (d : Duty) (found left : ℕ) (next : List Duty) (moves : List Move) : Type 0 where
-    pub left_is : left ≡ new_word t head d found
+    pub left_is : left ≡ new_word layout t head d found
     pub next_is : next ≡ continuation layout t running head d found
     pub moves_are : moves ≡ reference_effects memory t d found

@@ -18,7 +18,7 @@ use Rattle.brc_model.specs.declared.state.State.{State}
 use Rattle.brc_model.specs.declared.state.Exit.{Exit}
 use Rattle.brc_model.specs.declared.state.Exit.TheVariants.{Success, Fault}
 use Rattle.brc_model.specs.declared.address.Address.{Address}
-use Rattle.brc_model.specs.declared.address.Address.TheVariants.{Local, Shared, Gate, KindOf, Mark, Cell, Slot, Resource, ThreadWord}
+use Rattle.brc_model.specs.declared.address.Address.TheVariants.{Local, Shared, Gate, KindOf, Marks, Cell, Slot, Resource, ThreadWord}
 use Rattle.brc_model.specs.Limits.{cell_limit, most_faults}
 use Rattle.brc_model.specs.AbstractState.{AbstractState, Reference, Move, ByThread, moved}
 use Rattle.brc_model.specs.declared.layout.Layout.{Layout}
@@ -165,7 +165,7 @@ rooted_memory workers callers (Local x) = by_row (local_word 0 immortal_local) (
 rooted_memory workers callers (Shared x) = fresh_word
 rooted_memory workers callers (Gate x) = FREE
 rooted_memory workers callers (KindOf x) = by_row (NONE * half) (LIST * half + cell_limit) 0 x
-rooted_memory workers callers (Mark x) = UNSET
+rooted_memory workers callers (Marks t w) = 0
 rooted_memory workers callers (Cell x i) = EMPTY
 rooted_memory workers callers (Slot x) = EMPTY
 rooted_memory workers callers (Resource x) = 0

@@ -1,9 +1,9 @@
 -- The duties that store a word whatever they find, and the word that each of them overwrites.
 use Rattle.std.specs.Prelude.{◌≡◌, ℕ, Bool, true, false}
-use Rattle.brc_word.specs.declared.values.TheConstants.{UNSET, NOBODY, EMPTY}
+use Rattle.brc_word.specs.declared.values.TheConstants.{NOBODY, EMPTY}
 use Rattle.brc_word.specs.Words.{free_word, locked_word}
 use Rattle.brc_model.specs.declared.duty.Duty.{Duty}
-use Rattle.brc_model.specs.declared.duty.Duty.TheVariants.{RetainStore, ReleaseStore, SetMark, Die, SettleEnd, Leave, Finish, BirthKind, BirthSlot, BirthLocal, UnlockGate, ReturnSlot}
+use Rattle.brc_model.specs.declared.duty.Duty.TheVariants.{RetainStore, ReleaseStore, Die, SettleEnd, Leave, Finish, BirthKind, BirthSlot, BirthLocal, UnlockGate, ReturnSlot}
 use Rattle.brc_model.specs.declared.actor.Status.TheVariants.{Running, Leaving}
 use Rattle.brc_model.specs.Knowledge.{status_word, IsDyingWord}
 
@@ -11,7 +11,6 @@ use Rattle.brc_model.specs.Knowledge.{status_word, IsDyingWord}
 abbrev pub is_store : Duty → Bool
 is_store (RetainStore x h w) = true
 is_store (ReleaseStore x w) = true
-is_store (SetMark x) = true
 is_store (Die x) = true
 is_store (SettleEnd x) = true
 is_store (Leave x n) = true
@@ -27,7 +26,6 @@ is_store _ = false
 abbrev pub Overwrites : ℕ → Duty → ℕ → Type 0
 Overwrites t (RetainStore x h w) found = found ≡ w
 Overwrites t (ReleaseStore x w) found = found ≡ w
-Overwrites t (SetMark x) found = found ≡ UNSET
 Overwrites t (Die x) found = found ≡ free_word
 Overwrites t (SettleEnd x) found = IsDyingWord t found
 Overwrites t (Leave x n) found = found ≡ status_word Running

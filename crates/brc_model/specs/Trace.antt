@@ -28,7 +28,7 @@ is_word _ = true
 -- the word event of a duty that finds this value
 abbrev pub event_of : Layout → ℕ → Actor → Duty → ℕ → WordEvent
 event_of layout t a d found =
-    record { address = address_of layout t a.head d; found = found; left = new_word t a.head d found }
+    record { address = address_of layout t a.head d; found = found; left = new_word layout t a.head d found }
 
 -- the word events of the duty: none if it is on no word
 abbrev pub events_of : Layout → ℕ → Actor → Duty → ℕ → List WordEvent

@@ -6,10 +6,9 @@ use Rattle.brc_word.specs.declared.values.TheConstants.{UNSET}
 use Rattle.std.specs.List.{list_any}
 use Rattle.brc_model.specs.declared.duty.Duty.{Duty}
 use Rattle.brc_model.specs.declared.duty.Duty.TheVariants.{Look, TakeMark, Scan}
-use Rattle.brc_model.specs.declared.address.Address.TheVariants.{Mark}
 use Rattle.brc_model.specs.declared.actor.Status.TheVariants.{Leaving}
 use Rattle.brc_model.specs.declared.actor.Actor.{Actor}
-use Rattle.brc_model.specs.Machine.{Machine}
+use Rattle.brc_model.specs.Machine.{Machine, mark_of}
 use Rattle.brc_model.specs.StepMachine.{StepMachine, counting}
 use Rattle.brc_model.specs.Progress.{Runs}
 use Rattle.brc_model.specs.Layout.{block_of, index_of}
@@ -35,4 +34,4 @@ pub data IsWatched (m : Machine) (x : ℕ) : Type 0 where
 
 -- each set mark is watched
 abbrev pub MarksWatched : StepMachine → Type 0
-MarksWatched m = (x : ℕ) → m.memory (Mark x) ≢ UNSET → IsWatched (counting m) x
+MarksWatched m = (x : ℕ) → mark_of m.layout m.memory x ≢ UNSET → IsWatched (counting m) x

@@ -5,7 +5,7 @@ use Rattle.brc_word.specs.Words.{half, most_local, owner_part, local_part, biase
 use Rattle.brc_model.specs.declared.thread.Choice.{Choice}
 use Rattle.brc_model.specs.declared.actor.Place.{Place}
 use Rattle.brc_model.specs.declared.address.Address.{Address}
-use Rattle.brc_model.specs.declared.address.Address.TheVariants.{Local, Shared, Gate, KindOf, Mark, Cell, Slot, Resource, ThreadWord}
+use Rattle.brc_model.specs.declared.address.Address.TheVariants.{Local, Shared, Gate, KindOf, Marks, Cell, Slot, Resource, ThreadWord}
 use Rattle.brc_model.specs.declared.duty.Duty.{Duty}
 use Rattle.brc_model.specs.declared.duty.Duty.TheVariants.{RetainLoad, RetainStore, RetainAdd, ReleaseLoad, ReleaseStore, SharedLoad, SharedExchange, MergeLoad, MergeExchange, SettleCell, TakeSlot, CloseResource, CellLoad, CellSwap, LendSlot, ReturnSlot}
 use Rattle.brc_model.specs.Duties.{address_of}
@@ -15,19 +15,19 @@ use Rattle.brc_model.specs.World.{World}
 use Rattle.brc_model.specs.Actions.{StepActor, Does, action_of}
 use Rattle.brc_model.specs.Limits.{cell_limit}
 use Rattle.brc_model.specs.declared.layout.Layout.{Layout}
-use Rattle.brc_model.specs.Layout.{row_count, block_of}
+use Rattle.brc_model.specs.Layout.{row_count, block_of, mark_words_of}
 
--- the address has a word, in a world of n rows and `threads` threads
-abbrev pub IsThere : ℕ → ℕ → Address → Type 0
-IsThere n threads (Local x) = x < n
-IsThere n threads (Shared x) = x < n
-IsThere n threads (Gate x) = x < n
-IsThere n threads (KindOf x) = x < n
-IsThere n threads (Mark x) = x < n
-IsThere n threads (Cell x i) = (x < n) × (i < cell_limit)
-IsThere n threads (Slot x) = x < n
-IsThere n threads (Resource x) = x < n
-IsThere n threads (ThreadWord t) = t < threads
+-- The address has a word in a world with this layout.
+abbrev pub IsThere : Layout → Address → Type 0
+IsThere layout (Local x) = x < row_count layout
+IsThere layout (Shared x) = x < row_count layout
+IsThere layout (Gate x) = x < row_count layout
+IsThere layout (KindOf x) = x < row_count layout
+IsThere layout (Marks t w) = (t < 1 + layout.workers) × (w < mark_words_of layout t)
+IsThere layout (Cell x i) = (x < row_count layout) × (i < cell_limit)
+IsThere layout (Slot x) = x < row_count layout
+IsThere layout (Resource x) = x < row_count layout
+IsThere layout (ThreadWord t) = t < 1 + layout.workers
 
 -- a shared word of a header: its count is from -2^40 to 2^40 - 1, and its state isn't the unused one
 pub record IsShared (word : ℕ) : Type 0 where
@@ -66,7 +66,7 @@ FindsOwner layout _ found = Unit {0}
 
 -- the thread's step of the duty is within all bounds
 pub record IsWithin (w : World) (t : ℕ) (a : Actor) (d : Duty) : Type 0 where
-  pub there : IsThere (row_count w.layout) (length w.actors) (address_of w.layout t a.head d)
+  pub there : IsThere w.layout (address_of w.layout t a.head d)
   pub head : a.head ≤ row_count w.layout
   pub used : used_by a.used d ≤ row_count w.layout
   pub suits : Suits t (is_running a.status) (row_count w.layout) d (w.memory (address_of w.layout t a.head d))

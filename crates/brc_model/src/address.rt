@@ -9,8 +9,9 @@ pub enum Address {
     Gate { row: u32 },
     /// The object's kind, and a number's value or a list's number of cells.
     KindOf { row: u32 },
-    /// Whether the object is in its owner's queue.
-    Mark { row: u32 },
+    /// Which of 64 objects of the thread are in its queue: a mark for each, in a bit of its own. `word` counts the
+    /// thread's mark words from 0.
+    Marks { thread: u32, word: u32 },
     /// A cell of a list, 0 to 7. The word is the row of the object that the cell references, plus 1, or 0 if it is
     /// empty.
     Cell { row: u32, cell: u32 },

@@ -14,7 +14,7 @@ ghost use Rattle.brc_model.specs.Rules.{Goes, IsComputed};
 pub fn steps_go_by_rules()
     ensures each { (memory : Address → ℕ) (layout : Layout) (t : ℕ) (running : Bool) (head : ℕ) (d : Duty)
         (found : ℕ)
-        → Goes memory layout t running head d found (new_word t head d found)
+        → Goes memory layout t running head d found (new_word layout t head d found)
         (continuation layout t running head d found)
         (reference_effects memory t d found) }
     ensures only { (memory : Address → ℕ) (layout : Layout) (t : ℕ) (running : Bool) (head : ℕ) (d : Duty)

@@ -13,7 +13,6 @@ ghost use Rattle.brc_model.specs.declared.state.State.{State};
 ghost use Rattle.brc_model.specs.declared.thread.Call.{Call};
 ghost use Rattle.brc_model.specs.declared.thread.Choice.{Choice};
 ghost use Rattle.brc_model.specs.declared.thread.Choice.TheVariants.{Ok, Fault, Claim, Stop};
-ghost use Rattle.brc_model.specs.declared.address.Address.TheVariants.{Mark};
 ghost use Rattle.brc_model.specs.declared.actor.Status.TheVariants.{Gone};
 ghost use Rattle.brc_model.specs.Actions.{StepActor, may_claim, may_stop};
 ghost use Rattle.brc_model.specs.StepMachine.{StepMachine, at_place, next_machine, machine_after};
@@ -24,6 +23,7 @@ ghost use Rattle.brc_model.specs.declared.actor.Context.{Context};
 ghost use Rattle.brc_model.specs.declared.actor.Place.TheVariants.{Idle, InCall};
 ghost use Rattle.brc_model.specs.Trace.{CanMake, events_on};
 ghost use Rattle.brc_model.specs.Layout.{row_count};
+ghost use Rattle.brc_model.specs.Machine.{mark_of};
 
 /// States that a machine's step is a step of its world: a step depends on nothing else.
 pub fn worlds_follow_machines()
@@ -48,9 +48,9 @@ pub fn steps_move()
     ensures waits { (p : Module) (w : World) (t : ℕ) (a : StepActor) → IsReachable p w → slice_get w.actors t ≡ Some a
         → waits_for_lock w t a ≡ true → (step w t Ok ≡ w) × (step w t Fault ≡ w) }
     ensures claims { (w : World) (t : ℕ) (a : StepActor) (row : ℕ) → slice_get w.actors t ≡ Some a
-        → may_claim w.layout t a row ≡ true → w.memory (Mark row) ≢ UNSET → step w t (Claim row) ≢ w }
+        → may_claim w.layout t a row ≡ true → mark_of w.layout w.memory row ≢ UNSET → step w t (Claim row) ≢ w }
     ensures misses { (p : Module) (w : World) (t : ℕ) (a : StepActor) (row : ℕ) → IsReachable p w → slice_get w.actors t
-        ≡ Some a → may_claim w.layout t a row ≡ true → w.memory (Mark row) ≡ UNSET → step w t (Claim row) ≡ w }
+        ≡ Some a → may_claim w.layout t a row ≡ true → mark_of w.layout w.memory row ≡ UNSET → step w t (Claim row) ≡ w }
     ensures stays { (w : World) (t : ℕ) (a : StepActor) (row : ℕ) → slice_get w.actors t ≡ Some a
         → may_claim w.layout t a row ≡ false → step w t (Claim row) ≡ w }
     ensures stops { (p : Module) (w : World) (t : ℕ) (a : StepActor) → IsReachable p w → slice_get w.actors t ≡ Some a

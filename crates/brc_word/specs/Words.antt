@@ -1,6 +1,6 @@
 -- The words of a header. (PEP 703, Biased Reference Counting: an owning thread, a local count that only the owner
 -- changes, and a shared field of a count and a state in its two lowest bits.)
-use Rattle.std.specs.Prelude.{ℕ, ◌+◌, ◌-◌, ◌*◌, ◌/◌, ◌%◌, ◌^◌, Bool, ◌==◌, if◌then◌else◌}
+use Rattle.std.specs.Prelude.{ℕ, ◌+◌, ◌-◌, ◌*◌, ◌/◌, ◌%◌, ◌^◌, Bool, ◌==◌, if◌then◌else◌, bit_and, bit_or, bit_xor}
 use Rattle.brc_word.specs.declared.values.TheConstants.{ONE_REFERENCE, QUEUED, MERGED, FREE}
 
 -- the number of values of half a word
@@ -56,6 +56,32 @@ released_word word = if word == fresh_word then word + QUEUED else word - ONE_RE
 -- the carried local count is added, and the state is merged
 abbrev pub merged_word : ℕ → ℕ → ℕ
 merged_word word carried = (biased_part word + carried) * ONE_REFERENCE + MERGED
+
+-- ---- marks: a mark word has those of 64 rows, each in a bit of its own
+
+-- the number of marks of a mark word
+abbrev pub marks_of_word : ℕ
+marks_of_word = 64
+
+-- the mark in the bit: 1 if it is set, else 0
+abbrev pub mark_at : ℕ → ℕ → ℕ
+mark_at word bit = word / 2 ^ bit % 2
+
+-- the mask of one bit
+abbrev pub mark_mask : ℕ → ℕ
+mark_mask bit = 2 ^ bit
+
+-- the mask of all other bits
+abbrev pub other_marks : ℕ → ℕ
+other_marks bit = 2 ^ 64 - 1 - 2 ^ bit
+
+-- the mark is set: the other ones stay
+abbrev pub marked_word : ℕ → ℕ → ℕ
+marked_word word bit = bit_or word (mark_mask bit)
+
+-- the mark is taken: the other ones stay
+abbrev pub unmarked_word : ℕ → ℕ → ℕ
+unmarked_word word bit = bit_xor word (bit_and word (mark_mask bit))
 
 -- ---- gates, kinds and thread words
 

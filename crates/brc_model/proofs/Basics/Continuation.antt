@@ -3,14 +3,14 @@
 use Rattle.std.proofs.Common.{◌≡◌, ◌≢◌, ℕ, zero, suc, ◌+◌, ◌-◌, Bool, true, false, cond, List, [], ◌∷◌, ◌++◌, refl, sym, ap, ◌∙◌, arith}
 use Rattle.std.specs.Prelude.{◌==◌, ◌&&◌, nat_lt, if◌then◌else◌}
 use Rattle.std.proofs.lemmas.Bool.{eqb-true}
-use Rattle.brc_word.specs.Words.{most_local, local_part, is_immortal_word, fresh_word, dead_word, released_word, merged_word}
+use Rattle.brc_word.specs.Words.{most_local, local_part, is_immortal_word, fresh_word, dead_word, released_word, merged_word, mark_at}
 use Rattle.brc_model.specs.declared.duty.Holding.{Holding}
 use Rattle.brc_model.specs.declared.duty.Holding.TheVariants.{InFlight}
 use Rattle.brc_model.specs.declared.duty.Reason.TheVariants.{Own, Handed}
 use Rattle.brc_model.specs.declared.duty.Duty.{Duty}
 use Rattle.brc_model.specs.declared.duty.Duty.TheVariants.{RetainLoad, RetainStore, RetainAdd, ReleaseLoad, ReleaseStore, DecideAtZero, SharedLoad, SharedExchange, SetMark, Look, TakeMark, MergeSwap, MergeLoad, MergeExchange, Die, Settle, SettleKind, SettleCell, TakeSlot, CloseResource, SettleEnd, Leave, Scan, Finish, ClaimMark, BirthKind, BirthSlot, BirthLocal, KindLoad, LockGate, UnlockGate, CellLoad, CellSwap, LendSlot, ReturnSlot}
 use Rattle.brc_model.specs.declared.layout.Layout.{Layout}
-use Rattle.brc_model.specs.Layout.{row_at}
+use Rattle.brc_model.specs.Layout.{row_at, mark_bit}
 use Rattle.brc_model.specs.Duties.{continuation, counts_locally, claimed, has_resource, cells_of}
 use Rattle.brc_model.specs.OpenWork.{is_about, is_piece}
 use Rattle.brc_model.specs.Accounts.{lacks}
@@ -147,13 +147,14 @@ pub data Continuation (layout : Layout) (t head found : ℕ) : Duty → List Dut
   -- the first row of the dying chain is finalised, and the chain is settled again
   SettlesRow : Continuation layout t head found Settle (SettleKind (head - 1) ∷ Settle ∷ [])
   -- a mark was set, and the object is merged first; the chain is settled next
-  Claims : (x : ℕ) → found ≡ 1
+  Claims : (x : ℕ) → mark_at found (mark_bit layout x) ≡ 1
       → Continuation layout t head found (ClaimMark x) (MergeSwap x Handed ∷ Settle ∷ [])
   -- no mark was set
   ClaimsNone : (x : ℕ) → Continuation layout t head found (ClaimMark x) (Settle ∷ [])
   -- the exit looks through the marks of the thread's rows one by one, and ends
   Exits : (i n : ℕ) → Continuation layout t head found (Leave i n) (Scan i n ∷ Finish ∷ [])
-  Scans : (i n : ℕ) → found ≡ 1 → Continuation layout t head found (Scan i n)
+  Scans : (i n : ℕ) → mark_at found (mark_bit layout (row_at layout t i)) ≡ 1
+      → Continuation layout t head found (Scan i n)
       (MergeSwap (row_at layout t i) Handed ∷ Settle ∷ Scan (i + 1) (n - 1) ∷ [])
   ScansNone : (i n : ℕ) → Continuation layout t head found (Scan i n) (Settle ∷ Scan (i + 1) (n - 1) ∷ [])
 
@@ -180,13 +181,13 @@ frees x i n y true =
 frees x i n y false = Frees x i n y (SettleEnd x) refl (record { same = refl; other = λ e. cc; origin = tt })
 
 -- a mark that is claimed, or not
-claims : {layout : Layout} {t head : ℕ} (d : Duty) (x found : ℕ) (behind : List Duty)
-    → (found ≡ 1 → Continuation layout t head found d (MergeSwap x Handed ∷ behind))
-    → Continuation layout t head found d behind → Continuation layout t head found d (claimed x found ++ behind)
-claims {layout = layout} {t = t} {head = head} d x found behind set none =
-    elim (found == 1) as (λ b. (found == 1) ≡ b
+claims : {layout : Layout} {t head found : ℕ} (d : Duty) (x mark : ℕ) (behind : List Duty)
+    → (mark ≡ 1 → Continuation layout t head found d (MergeSwap x Handed ∷ behind))
+    → Continuation layout t head found d behind → Continuation layout t head found d (claimed x mark ++ behind)
+claims {layout = layout} {t = t} {head = head} {found = found} d x mark behind set none =
+    elim (mark == 1) as (λ b. (mark == 1) ≡ b
     → Continuation layout t head found d (cond b (MergeSwap x Handed ∷ []) [] ++ behind)) [
-      | true ↦ λ e. set (eqb-true found 1 e)
+      | true ↦ λ e. set (eqb-true mark 1 e)
       | false ↦ λ e. none
     ] refl
 
@@ -213,7 +214,7 @@ continues layout t running head (SharedExchange x r w) found =
 continues layout t running head (SetMark x) found = goes (Look x) refl (λ e. cc) tt
 continues layout t running head (Look x) found = on (found == 1) (Ends refl) (goes (TakeMark x) refl (λ e. cc) tt)
 continues layout t running head (TakeMark x) found =
-    on (found == 1) (goes (MergeSwap x Handed) refl (λ e. cc) tt) (Ends refl)
+    on (mark_at found (mark_bit layout x) == 1) (goes (MergeSwap x Handed) refl (λ e. cc) tt) (Ends refl)
 continues layout t running head (MergeSwap x Own) found =
     on (found == 0) (Ends refl) (goes (MergeLoad x (local_part found) Own) refl (λ e. cc) tt)
 continues layout t running head (MergeSwap x Handed) found =
@@ -239,8 +240,9 @@ continues layout t running head (CloseResource x) found = goes (SettleEnd x) ref
 continues layout t running head Finish found = Finishes
 continues layout t running head (Leave i n) found = Exits i n
 continues layout t running head (Scan i n) found =
-    claims (Scan i n) (row_at layout t i) found _ (Scans i n) (ScansNone i n)
-continues layout t running head (ClaimMark x) found = claims (ClaimMark x) x found _ (Claims x) (ClaimsNone x)
+    claims (Scan i n) (row_at layout t i) (mark_at found (mark_bit layout (row_at layout t i))) _ (Scans i n) (ScansNone i n)
+continues layout t running head (ClaimMark x) found =
+    claims (ClaimMark x) x (mark_at found (mark_bit layout x)) _ (Claims x) (ClaimsNone x)
 continues layout t running head (BirthKind x h w) found =
     on (has_resource w) (goes (BirthSlot x h) refl (λ e. cc) tt) (goes (BirthLocal x h) refl (λ e. cc) tt)
 continues layout t running head (BirthSlot x h) found = goes (BirthLocal x h) refl (λ e. cc) tt

@@ -3,7 +3,7 @@ use Rattle.std.proofs.Common.{◌≡◌, ℕ, Bool, true, false, cond, refl, ap,
 use Rattle.std.specs.Prelude.{◌==◌, ◌&&◌}
 use Rattle.std.proofs.lemmas.Bool.{eqb-true, eq-eqb, ne_eqb}
 use Rattle.brc_model.specs.declared.address.Address.{Address}
-use Rattle.brc_model.specs.declared.address.Address.TheVariants.{Local, Shared, Gate, KindOf, Mark, Cell, Slot, Resource, ThreadWord}
+use Rattle.brc_model.specs.declared.address.Address.TheVariants.{Local, Shared, Gate, KindOf, Marks, Cell, Slot, Resource, ThreadWord}
 use Rattle.brc_model.specs.declared.duty.Duty.{Duty}
 use Rattle.brc_model.specs.declared.duty.Duty.TheVariants.{RetainLoad, RetainAdd}
 use Rattle.brc_model.specs.declared.layout.Layout.{Layout}
@@ -12,12 +12,17 @@ use Rattle.brc_model.specs.OpenWork.{is_about}
 use Rattle.brc_model.specs.Machine.{same_address, written}
 use Rattle.brc_model.proofs.Basics.Lists.{and_first, and_second}
 
+-- One mark word has one place.
+pub same_marks : (t w u v : ℕ) → same_address (Marks t w) (Marks u v) ≡ true → (t ≡ u) × (w ≡ v)
+same_marks t w u v e =
+    (eqb-true t u (and_first (t == u) (w == v) e), eqb-true w v (and_second (t == u) (w == v) e))
+
 same_address-true : (a b : Address) → same_address a b ≡ true → a ≡ b
 same_address-true (Local x) (Local y) e = ap Local (eqb-true x y e)
 same_address-true (Shared x) (Shared y) e = ap Shared (eqb-true x y e)
 same_address-true (Gate x) (Gate y) e = ap Gate (eqb-true x y e)
 same_address-true (KindOf x) (KindOf y) e = ap KindOf (eqb-true x y e)
-same_address-true (Mark x) (Mark y) e = ap Mark (eqb-true x y e)
+same_address-true (Marks t w) (Marks u v) e = λ k. Marks ((same_marks t w u v e).0 k) ((same_marks t w u v e).1 k)
 same_address-true (Cell x i) (Cell y j) e =
     λ k. Cell (eqb-true x y (and_first (x == y) (i == j) e) k) (eqb-true i j (and_second (x == y) (i == j) e) k)
 same_address-true (Slot x) (Slot y) e = ap Slot (eqb-true x y e)
@@ -30,7 +35,7 @@ same_address-refl (Local x) = eq-eqb x x refl
 same_address-refl (Shared x) = eq-eqb x x refl
 same_address-refl (Gate x) = eq-eqb x x refl
 same_address-refl (KindOf x) = eq-eqb x x refl
-same_address-refl (Mark x) = eq-eqb x x refl
+same_address-refl (Marks t w) = ap (λ (b : Bool). b && (w == w)) (eq-eqb t t refl) ∙ eq-eqb w w refl
 same_address-refl (Cell x i) = ap (λ (b : Bool). b && (i == i)) (eq-eqb x x refl) ∙ eq-eqb i i refl
 same_address-refl (Slot x) = eq-eqb x x refl
 same_address-refl (Resource x) = eq-eqb x x refl
@@ -64,9 +69,6 @@ apart_shared x y ne = ne_eqb x y ne
 
 pub apart_gate : (x y : ℕ) → (x ≡ y → ⊥) → same_address (Gate x) (Gate y) ≡ false
 apart_gate x y ne = ne_eqb x y ne
-
-pub apart_mark : (x y : ℕ) → (x ≡ y → ⊥) → same_address (Mark x) (Mark y) ≡ false
-apart_mark x y ne = ne_eqb x y ne
 
 pub apart_thread : (x y : ℕ) → (x ≡ y → ⊥) → same_address (ThreadWord x) (ThreadWord y) ≡ false
 apart_thread x y ne = ne_eqb x y ne

@@ -148,7 +148,7 @@ module _ {p : Accounts} {n : ℕ} {m : Machine} {t : ℕ} {a : Actor} {rest : Li
   pub locals_left : (d : Duty) → AtDuty p n m t a d rest → (u x : ℕ) (b : Actor) → u ≢ t → slice_get m.actors u ≡ Some b
       → OwnsLocally m u b x
       → written m.memory (address_of m.layout t a.head d)
-      (new_word t a.head d (m.memory (address_of m.layout t a.head d))) (Local x) ≡ m.memory (Local x)
+      (new_word m.layout t a.head d (m.memory (address_of m.layout t a.head d))) (Local x) ≡ m.memory (Local x)
   locals_left (RetainLoad y h) here u x b ne found other = written_load m.memory (Local y) (Local x)
   locals_left (ReleaseLoad y h) here u x b ne found other = written_load m.memory (Local y) (Local x)
   locals_left (RetainStore y h w) here u x b ne found other =
@@ -190,7 +190,7 @@ module _ {p : Accounts} {n : ℕ} {m : Machine} {t : ℕ} {a : Actor} {rest : Li
   -- A step leaves a merged row merged.
   pub merged_left : (d : Duty) → AtDuty p n m t a d rest → (x : ℕ) → phase_part (m.memory (Shared x)) ≡ MERGED
       → phase_part (written m.memory (address_of m.layout t a.head d)
-      (new_word t a.head d (m.memory (address_of m.layout t a.head d))) (Shared x)) ≡ 3
+      (new_word m.layout t a.head d (m.memory (address_of m.layout t a.head d))) (Shared x)) ≡ 3
   merged_left (RetainAdd y h) here x was =
       phase_written m y (m.memory (Shared y) + 4) x (λ w. (shared_up (m.memory (Shared y))).1 ∙ w) was
   merged_left (DecideAtZero y) here x was = ap phase_part (written_load m.memory (Shared y) (Shared x)) ∙ was
@@ -226,7 +226,7 @@ thread_written m t u v other was =
 -- A thread that isn't running doesn't run after the step.
 pub stopped_left : (m : Machine) (t : ℕ) (a : Actor) (d : Duty) (u : ℕ) → m.memory (ThreadWord u) ≢ RUNNING
     → written m.memory (address_of m.layout t a.head d)
-    (new_word t a.head d (m.memory (address_of m.layout t a.head d)))
+    (new_word m.layout t a.head d (m.memory (address_of m.layout t a.head d)))
     (ThreadWord u) ≢ 1
 stopped_left m t a (Look y) u was =
     λ e. was (sym (written_load m.memory (ThreadWord (block_of m.layout y)) (ThreadWord u)) ∙ e)
@@ -237,7 +237,7 @@ stopped_left m t a _ u was = was
 -- A step doesn't change another thread's word.
 pub words_left : (m : Machine) (t : ℕ) (a : Actor) (d : Duty) (u : ℕ) → u ≢ t
     → written m.memory (address_of m.layout t a.head d)
-    (new_word t a.head d (m.memory (address_of m.layout t a.head d)))
+    (new_word m.layout t a.head d (m.memory (address_of m.layout t a.head d)))
     (ThreadWord u) ≡ m.memory (ThreadWord u)
 words_left m t a (Look y) u ne = written_load m.memory (ThreadWord (block_of m.layout y)) (ThreadWord u)
 words_left m t a (Leave y k) u ne =
@@ -301,7 +301,7 @@ module _ {p : Accounts} {n : ℕ} {m : Machine} {t : ℕ} {a : Actor} {rest : Li
   -- A step doesn't change the gate of a list that another thread has locked.
   pub locks_left : (d : Duty) → AtDuty p n m t a d rest → (u x : ℕ) (b : Actor) → u ≢ t → slice_get m.actors u ≡ Some b
       → b.locked ≡ Some x → written m.memory (address_of m.layout t a.head d)
-      (new_word t a.head d (m.memory (address_of m.layout t a.head d))) (Gate x) ≡ m.memory (Gate x)
+      (new_word m.layout t a.head d (m.memory (address_of m.layout t a.head d))) (Gate x) ≡ m.memory (Gate x)
   locks_left (Die y) here u x b ne found e =
       written_apart m.memory (Gate y) (Gate x) _
       (apart_gate y x (alive_apart m t x y (head_of here).1 (locked_alive u b x here.core found e)))
@@ -314,7 +314,7 @@ module _ {p : Accounts} {n : ℕ} {m : Machine} {t : ℕ} {a : Actor} {rest : Li
         | inl same ↦
             let gate : m.memory (Gate y) ≡ locked_word u =
             ap (λ (z : ℕ). m.memory (Gate z)) same.1 ∙ ((here.core.each u b found).0.locks x e).gate in
-            let kept : new_word t a.head (LockGate y) (m.memory (Gate y)) ≡ m.memory (Gate y) =
+            let kept : new_word m.layout t a.head (LockGate y) (m.memory (Gate y)) ≡ m.memory (Gate y) =
             ap (λ (c : Bool). cond c (locked_word t) (m.memory (Gate y))) (locked_unfree u (m.memory (Gate y)) gate) in
             ap (λ (w : ℕ). written m.memory (Gate y) w (Gate x)) kept ∙ written_load m.memory (Gate y) (Gate x)
         | inr other ↦ written_apart m.memory (Gate y) (Gate x) _ (apart_gate y x other.1)
@@ -342,7 +342,7 @@ module _ {p : Accounts} {n : ℕ} {m : Machine} {t : ℕ} {a : Actor} {rest : Li
   -- A step doesn't change the gate of a row that another thread is finalising.
   pub gates_left : (d : Duty) → AtDuty p n m t a d rest → (u x : ℕ) → u ≢ t → dies_by (m.life x) u ≡ true
       → written m.memory (address_of m.layout t a.head d)
-      (new_word t a.head d (m.memory (address_of m.layout t a.head d))) (Gate x) ≡ m.memory (Gate x)
+      (new_word m.layout t a.head d (m.memory (address_of m.layout t a.head d))) (Gate x) ≡ m.memory (Gate x)
   gates_left (Die y) here u x ne dies =
       written_apart m.memory (Gate y) (Gate x) _ (apart_gate y x (gate_clash m t u x y ne (head_of here).1 dies))
   gates_left Settle here u x ne dies = written_load m.memory (Gate (a.head - 1)) (Gate x)

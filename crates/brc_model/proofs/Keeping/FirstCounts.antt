@@ -23,6 +23,7 @@ use Rattle.brc_model.proofs.Basics.Lists.{some_is, none_some}
 use Rattle.brc_model.proofs.Keeping.Callers.{callers_beyond, callers_off_cells, callers_hold, root_references, other_references}
 use Rattle.brc_model.proofs.Dispatch.Holds.{the_root}
 use Rattle.brc_model.proofs.Frame.Aside.{alone_fits}
+use Rattle.brc_model.proofs.Basics.Marks.{blank_mark}
 use Rattle.brc_model.proofs.Basics.Blocks.{immortal_apart, root_counted, only_none, front_block, front_is_index, mains_low}
 use Rattle.brc_word.specs.Words.{most_local, kind_part}
 use Rattle.brc_model.specs.Kinds.{kind_number}
@@ -30,7 +31,7 @@ use Rattle.brc_model.specs.AbstractState.{is_among}
 use Rattle.brc_model.specs.Limits.{row_limit, worker_limit, cell_limit}
 use Rattle.brc_model.proofs.Basics.Bag.{one_if_low}
 use Rattle.brc_model.specs.declared.layout.Layout.{Layout}
-use Rattle.brc_model.specs.Layout.{root_row, front_rows, block_of, block_size, index_of, IsCounted}
+use Rattle.brc_model.specs.Layout.{root_row, front_rows, block_of, block_size, index_of, mark_bit, IsCounted}
 
 -- ---- the machine
 
@@ -116,7 +117,7 @@ rooted_rows layout callers is (suc (suc x)) counted =
     record {
       local = refl;
       shared = refl;
-      mark = refl;
+      mark = blank_mark (mark_bit layout (suc (suc x)));
       references = other_references callers (suc (suc x)) (λ e. absurd (omega (arith, e)));
       waiting = no_weight (waits (suc (suc x))) w;
       carried = no_weight (carries (suc (suc x))) w;
@@ -349,7 +350,7 @@ rooted_core p layout callers is hold = record {
   few_cells = is.few_cells;
   few_immortals = omega (arith, is.no_lists);
   rows = rooted_rows layout callers is;
-  marks = λ x. inl refl;
+  marks = λ x. inl (blank_mark (mark_bit layout x));
   each =
       each_idle (λ t a. Fits (p t) (rooted_machine layout callers) t a) layout.workers
       (idle_fits p layout callers hold 0 front_rows (omega arith))

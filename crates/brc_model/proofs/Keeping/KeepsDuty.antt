@@ -5,9 +5,8 @@ use Rattle.std.proofs.lemmas.List.{length-set}
 use Rattle.std.proofs.lemmas.Option.{slice_get_within}
 use Rattle.brc_word.specs.declared.values.TheConstants.{SET, UNSET}
 use Rattle.brc_model.specs.declared.duty.Duty.{Duty}
-use Rattle.brc_model.specs.declared.address.Address.TheVariants.{Mark}
 use Rattle.brc_model.specs.declared.actor.Actor.{Actor}
-use Rattle.brc_model.specs.Machine.{Machine, actor_by, machine_by_duty}
+use Rattle.brc_model.specs.Machine.{Machine, actor_by, machine_by_duty, mark_of}
 use Rattle.brc_model.proofs.Frame.AsideAfter.{aside_after}
 use Rattle.brc_model.specs.OpenWork.{AsideFits}
 use Rattle.brc_model.specs.Accounts.{Accounts}
@@ -43,8 +42,8 @@ module _ {p : Accounts} {n : ℕ} {m : Machine} {t : ℕ} {a : Actor} {d : Duty}
   -- ---- the core invariant
 
   pub keeps_by : AtDuty p n m t a d rest → NotGone a → FitsAfter p m t a d rest
-      → ((x : ℕ) → ((machine_by_duty m t a d rest).memory (Mark x) ≡ UNSET) ⊎
-      (((machine_by_duty m t a d rest).memory (Mark x) ≡ SET) × (IsCounted m.layout x)
+      → ((x : ℕ) → (mark_of m.layout (machine_by_duty m t a d rest).memory x ≡ UNSET) ⊎
+      ((mark_of m.layout (machine_by_duty m t a d rest).memory x ≡ SET) × (IsCounted m.layout x)
       × IsWatched (machine_by_duty m t a d rest) x))
       → CoreInvariant p n (machine_by_duty m t a d rest)
   keeps_by here alive own marks =

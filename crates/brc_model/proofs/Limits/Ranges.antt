@@ -3,15 +3,16 @@ use Rattle.std.proofs.Common.{◌≡◌, ℕ, zero, suc, ◌+◌, ◌<◌, ◌�
 use Rattle.std.specs.Prelude.{◌==◌, slice_get, count_by}
 use Rattle.std.proofs.lemmas.Bool.{eq-eqb, eqb-true}
 use Rattle.std.proofs.lemmas.List.Sums.{sum_by-cons}
+use Rattle.brc_word.specs.Words.{mark_at}
 use Rattle.brc_model.specs.AbstractState.{references_to}
 use Rattle.brc_model.specs.declared.duty.Holding.TheVariants.{InFlight}
 use Rattle.brc_model.specs.declared.duty.Reason.TheVariants.{Handed}
 use Rattle.brc_model.specs.declared.duty.Duty.{Duty}
 use Rattle.brc_model.specs.declared.duty.Duty.TheVariants.{ReleaseLoad, MergeSwap, Settle, SettleKind, SettleCell, Leave, Scan, Finish, BirthKind, KindLoad, CellLoad, CellSwap}
-use Rattle.brc_model.specs.declared.address.Address.TheVariants.{KindOf, Mark, Cell}
+use Rattle.brc_model.specs.declared.address.Address.TheVariants.{KindOf, Cell}
 use Rattle.brc_model.specs.Duties.{address_of, new_word, continuation, ready, cells_of}
 use Rattle.brc_model.specs.declared.actor.Actor.{Actor}
-use Rattle.brc_model.specs.Machine.{Life, Unborn, Live, Machine, written, is_running, actor_by, machine_by_duty}
+use Rattle.brc_model.specs.Machine.{Life, Unborn, Live, Machine, written, is_running, actor_by, machine_by_duty, mark_of}
 use Rattle.brc_model.specs.References.{one_if, cell_reference}
 use Rattle.brc_model.specs.RowInvariant.{RowInvariant}
 use Rattle.brc_model.specs.Accounts.{Accounts}
@@ -29,7 +30,7 @@ use Rattle.brc_model.specs.Limits.{cell_limit}
 use Rattle.brc_model.specs.declared.layout.Layout.{Layout}
 use Rattle.std.proofs.lemmas.Bool.{cases_Bool}
 use Rattle.brc_word.specs.declared.values.TheConstants.{SET}
-use Rattle.brc_model.specs.Layout.{row_count, block_of, row_at, is_immortal_row}
+use Rattle.brc_model.specs.Layout.{row_count, block_of, row_at, mark_bit, is_immortal_row}
 
 -- ---- duties
 
@@ -46,7 +47,8 @@ FindsSmall k layout t head Settle found = head - 1 < k
 FindsSmall k layout t head (SettleKind x) found = cells_of found ≤ cell_limit
 FindsSmall k layout t head (SettleCell x i n) found = (y : ℕ) → found ≡ suc y → y < k
 FindsSmall k layout t head (CellSwap x i y h) found = (z : ℕ) → found ≡ suc z → z < k
-FindsSmall k layout t head (Scan i n) found = found ≡ 1 → row_at layout t i < k
+FindsSmall k layout t head (Scan i n) found =
+    mark_at found (mark_bit layout (row_at layout t i)) ≡ 1 → row_at layout t i < k
 FindsSmall k layout t head _ found = Unit {0}
 
 -- ---- the duties that follow a step
@@ -147,7 +149,7 @@ module _ {p : Accounts} {n : ℕ} {m : Machine} where
             absurd (omega (arith, row.references, some))
       ])
 
-  pub marked_small : (x : ℕ) → CoreInvariant p n m → m.memory (Mark x) ≡ SET → x < row_count m.layout
+  pub marked_small : (x : ℕ) → CoreInvariant p n m → mark_of m.layout m.memory x ≡ SET → x < row_count m.layout
   marked_small x core set = born_within x core (marked_born x core set)
 
   -- The head of a chain is at most the number of all rows.
@@ -188,7 +190,7 @@ module _ {p : Accounts} {n : ℕ} {m : Machine} where
 kinds_left : (m : Machine) (t : ℕ) (a : Actor) (d : Duty) (k : ℕ) (x : ℕ) → IsSmall k d
     → cells_of (m.memory (KindOf x)) ≤ cell_limit
     → cells_of (written m.memory (address_of m.layout t a.head d)
-    (new_word t a.head d (m.memory (address_of m.layout t a.head d))) (KindOf x)) ≤ cell_limit
+    (new_word m.layout t a.head d (m.memory (address_of m.layout t a.head d))) (KindOf x)) ≤ cell_limit
 kinds_left m t a (SettleKind y) k x small was =
     subst (λ (w : ℕ). cells_of w ≤ cell_limit) (sym (written_load m.memory (KindOf y) (KindOf x))) was
 kinds_left m t a (KindLoad y) k x small was =

@@ -6,11 +6,11 @@ use Rattle.std.proofs.lemmas.Bool.{eq-eqb, cases_Bool}
 use Rattle.std.proofs.lemmas.Option.{slice_get_within}
 use Rattle.brc_lang.specs.declared.module.Module.{Module}
 use Rattle.brc_model.specs.declared.duty.Duty.{Duty}
-use Rattle.brc_model.specs.declared.duty.Duty.TheVariants.{RetainLoad, ReleaseLoad, Look, Settle, SettleCell, Leave, Scan, Finish, CellLoad, CellSwap}
-use Rattle.brc_model.specs.declared.address.Address.TheVariants.{Local}
+use Rattle.brc_model.specs.declared.duty.Duty.TheVariants.{RetainLoad, ReleaseLoad, SetMark, Look, TakeMark, ClaimMark, Settle, SettleCell, Leave, Scan, Finish, CellLoad, CellSwap}
+use Rattle.brc_model.specs.declared.address.Address.TheVariants.{Local, ThreadWord}
 use Rattle.brc_word.specs.Words.{owner_part}
 use Rattle.brc_model.specs.declared.actor.Place.{Place}
-use Rattle.brc_model.specs.Duties.{address_of}
+use Rattle.brc_model.specs.Duties.{mark_place, address_of}
 use Rattle.brc_model.specs.declared.actor.Actor.{Actor}
 use Rattle.brc_model.specs.Machine.{Life, Live, Machine, with_actor, used_by}
 use Rattle.brc_model.specs.Tables.{AreTrueWhereReached}
@@ -35,32 +35,46 @@ use Rattle.brc_model.specs.Ranges.{IsSmall}
 use Rattle.brc_model.proofs.Limits.Ranges.{head_small}
 use Rattle.brc_model.proofs.Limits.RangesEvents.{Bounded, bounded_after, first_ranges}
 use Rattle.brc_model.proofs.Limits.Bounds.{IsFew, duty_suits}
+use Rattle.brc_model.proofs.Basics.Marks.{word_within}
 use Rattle.brc_model.proofs.Basics.Blocks.{used_low, block_within, size_within, thread_there, rows_low, immortal_block}
 use Rattle.brc_model.specs.Accounts.{Accounts}
 use Rattle.brc_model.specs.Invariant.{AtDuty, CoreInvariant, numbers_of}
 use Rattle.brc_model.proofs.Objects.UsesAfter.{own_uses}
 use Rattle.brc_model.specs.Limits.{row_limit, thread_limit, total_limit}
-use Rattle.brc_model.specs.Layout.{row_count, block_of, block_size, is_immortal_row}
+use Rattle.brc_model.specs.Layout.{row_count, block_of, block_size, row_at, is_immortal_row}
 
 -- ---- the word exists
 
+module _ {p : Accounts} {n : ℕ} {m : Machine} {t : ℕ} {a : Actor} {d : Duty} {rest : List Duty} where
+  -- An existing row's mark word exists.
+  mark_there : (x : ℕ) → AtDuty p n m t a d rest → x < row_count m.layout → IsThere m.layout (mark_place m.layout x)
+  mark_there x here low =
+      (omega (arith, block_within m.layout x here.core.some_rows), word_within m.layout x here.core.some_rows low)
+
+  thread_word : AtDuty p n m t a d rest → IsThere m.layout (ThreadWord t)
+  thread_word here =
+      omega (arith, slice_get_within m.actors t a here.found, here.core.threads, here.core.workers)
+
 module _ {p : Accounts} {n : ℕ} {m : Machine} {t : ℕ} {a : Actor} {rest : List Duty} where
   duty_there : (d : Duty) → AtDuty p n m t a d rest → NotGone a → IsSmall (row_count m.layout) d
-      → IsThere (row_count m.layout) (length m.actors) (address_of m.layout t a.head d)
+      → IsThere m.layout (address_of m.layout t a.head d)
   duty_there (Look x) here alive small =
-      omega (arith, block_within m.layout x here.core.some_rows, here.core.threads, here.core.workers)
+      omega (arith, block_within m.layout x here.core.some_rows)
+  duty_there (SetMark x) here alive small = mark_there x here (small.row x (eq-eqb x x refl))
+  duty_there (TakeMark x) here alive small = mark_there x here (small.row x (eq-eqb x x refl))
+  duty_there (ClaimMark x) here alive small = mark_there x here (small.row x (eq-eqb x x refl))
   duty_there Settle here alive small = omega (arith, head_small t a here.core here.found)
   duty_there (SettleCell x i c) here alive small =
       let (pos, dies, more, gate, empty, none) = head_of here in
       (small.row x (eq-eqb x x refl), omega (arith, more, small.cells))
   duty_there (CellLoad x i) here alive small = (small.row x (eq-eqb x x refl), omega (arith, small.cells))
   duty_there (CellSwap x i y h) here alive small = (small.row x (eq-eqb x x refl), omega (arith, small.cells))
-  duty_there (Leave x c) here alive small = slice_get_within m.actors t a here.found
+  duty_there (Leave x c) here alive small = thread_word here
   duty_there (Scan x c) here alive small =
       let fits = agenda_here here alive in
       let some = head_of here in
-      used_low t a x here.core here.found (omega (arith, fits.1, some))
-  duty_there Finish here alive small = slice_get_within m.actors t a here.found
+      mark_there (row_at m.layout t x) here (used_low t a x here.core here.found (omega (arith, fits.1, some)))
+  duty_there Finish here alive small = thread_word here
   duty_there _ here alive small = small.row _ (eq-eqb _ _ refl)
 
 -- ---- used rows
@@ -121,9 +135,7 @@ module _ {p : Accounts} {n : ℕ} {m : Machine} {t : ℕ} {a : Actor} where
       let core = doing.kept.core in
       let here : AtDuty p n m t a d rest = record { core = core; found = doing.found; agenda = doing.agenda } in
       record {
-        there =
-            subst (λ (l : ℕ). IsThere (row_count m.layout) l (address_of m.layout t a.head d)) core.threads
-            (duty_there d here doing.alive small);
+        there = duty_there d here doing.alive small;
         head = head_small t a core doing.found;
         used = duty_used here;
         suits = duty_suits d here doing.alive few;
@@ -147,10 +159,8 @@ does_within p n m t a d rest place bounded few found fits =
     duty_within d rest
     fits.doing (fits.small bounded.ranges.kinds (bounded.ranges.each t a.actor (its_found m t a found))).0
     (record { threads = few; cells = bounded.ranges.kinds }) in
-    let long = threads_in p n m bounded.whole in
     record {
-      there =
-          subst (λ (l : ℕ). IsThere (row_count m.layout) l (address_of m.layout t a.actor.head d)) long within.there;
+      there = within.there;
       head = within.head;
       used = within.used;
       suits = within.suits;

@@ -2,19 +2,22 @@
 use Rattle.std.proofs.Common.{◌≡◌, ℕ, zero, suc, Bool, true, false, cond, List, [], ◌∷◌, ◌++◌, refl, sym, ap, ◌∙◌, arith}
 use Rattle.std.specs.List.{list_any}
 use Rattle.std.specs.Prelude.{◌==◌, nat_lt, if◌then◌else◌, sum_by, unwrap_or}
+use Rattle.std.proofs.lemmas.Bool.{eqb-false}
 use Rattle.std.proofs.lemmas.List.Sums.{sum_by-cons}
 use Rattle.brc_model.specs.declared.duty.Holding.TheVariants.{InFlight}
 use Rattle.brc_model.specs.AbstractState.{Reference, same, without, references_to, AbstractState, Move, Born, Gain, Lose, PassOn, Finalise, move, moved}
 use Rattle.brc_model.specs.declared.duty.Reason.TheVariants.{Handed}
 use Rattle.brc_model.specs.declared.duty.Duty.{Duty}
-use Rattle.brc_model.specs.declared.duty.Duty.TheVariants.{ReleaseLoad, DecideAtZero, SharedLoad, SharedExchange, SetMark, MergeSwap, MergeLoad, MergeExchange, Die, Settle, SettleCell, SettleEnd, Scan, BirthLocal, CellSwap}
-use Rattle.brc_model.specs.declared.address.Address.TheVariants.{Local, Shared, Mark, Cell}
+use Rattle.brc_model.specs.declared.duty.Duty.TheVariants.{ReleaseLoad, DecideAtZero, SharedLoad, SharedExchange, SetMark, TakeMark, MergeSwap, MergeLoad, MergeExchange, Die, Settle, SettleCell, SettleEnd, Scan, ClaimMark, BirthLocal, CellSwap}
+use Rattle.brc_model.specs.declared.address.Address.{Address}
+use Rattle.brc_model.specs.declared.address.Address.TheVariants.{Local, Shared, Cell}
 use Rattle.brc_model.specs.Duties.{duty_row, address_of, new_word, cells_from, release_found}
 use Rattle.brc_model.specs.declared.actor.Actor.{Actor}
-use Rattle.brc_model.specs.Machine.{Life, Machine, is_running, same_address, dies_next, with_life, ended_row, born_row}
+use Rattle.brc_model.specs.Machine.{Life, Machine, is_running, written, mark_of, dies_next, with_life, ended_row, born_row}
 use Rattle.brc_model.specs.Moves.{reference_effects}
 use Rattle.brc_model.proofs.Basics.Bag.{references_to-cons, same-true}
 use Rattle.brc_model.proofs.Basics.Written.{written_apart, other_local, other_shared}
+use Rattle.brc_model.proofs.Basics.Marks.{set_elsewhere, taken_elsewhere}
 use Rattle.brc_model.proofs.Basics.Moves.{object_of, IsOfOther, effects_elsewhere, moved_keeps}
 use Rattle.brc_model.specs.References.{one_if}
 use Rattle.brc_model.specs.RowInvariant.{waits, carries, merges, decides}
@@ -37,10 +40,18 @@ subject layout t d = unwrap_or (duty_row d) 0
 
 -- ---- words
 
-other_mark : (layout : Layout) (t head : ℕ) (d : Duty) (x : ℕ) → (subject layout t d == x) ≡ false
-    → same_address (address_of layout t head d) (Mark x) ≡ false
-other_mark layout t head (SetMark y) x e = e
-other_mark layout t head _ x e = cc
+-- A step that sets or takes the mark of one row keeps those of all others.
+mark_elsewhere : (layout : Layout) (t head : ℕ) (d : Duty) (memory : Address → ℕ) (x : ℕ)
+    → (subject layout t d == x) ≡ false
+    → mark_of layout (written memory (address_of layout t head d)
+    (new_word layout t head d (memory (address_of layout t head d)))) x
+    ≡ mark_of layout memory x
+mark_elsewhere layout t head (SetMark y) memory x e =
+    set_elsewhere layout memory y x (eqb-false y x e)
+mark_elsewhere layout t head (TakeMark y) memory x e = taken_elsewhere layout memory y x (eqb-false y x e)
+mark_elsewhere layout t head (ClaimMark y) memory x e = taken_elsewhere layout memory y x (eqb-false y x e)
+mark_elsewhere layout t head (Scan i n) memory x e = taken_elsewhere layout memory (row_at layout t i) x (eqb-false _ x e)
+mark_elsewhere layout t head _ memory x e = refl
 
 -- ---- references
 
@@ -231,7 +242,7 @@ module _ {p : Accounts} {n : ℕ} {m : Machine} {t : ℕ} {a : Actor} {d : Duty}
   row_elsewhere s x some e =
       let found = found_by m t a d in
       let at = address_of m.layout t a.head d in
-      let left = new_word t a.head d found in
+      let left = new_word m.layout t a.head d found in
       let shape = continues m.layout t (is_running a.status) a.head d found in
       let next = next_apart x d (following m t a d) shape e in
       let about = not_about m.layout t x d e in
@@ -241,7 +252,7 @@ module _ {p : Accounts} {n : ℕ} {m : Machine} {t : ℕ} {a : Actor} {d : Duty}
         lives = not_born m.layout t x d e _ _ ∙ not_ended m.layout t x d e _ _ ∙ next.lives m.life _;
         local = sym (written_apart m.memory at (Local x) left (other_local m.layout t a.head d x about));
         shared = sym (written_apart m.memory at (Shared x) left (other_shared m.layout t a.head d x about));
-        mark = sym (written_apart m.memory at (Mark x) left (other_mark m.layout t a.head d x e));
+        mark = sym (mark_elsewhere m.layout t a.head d m.memory x e);
         references = sym (references_elsewhere d x s about);
         waiting = next.waiting ∙ sym this.waiting;
         carried = next.carried ∙ sym this.carried;

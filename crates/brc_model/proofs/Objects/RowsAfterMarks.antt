@@ -7,19 +7,20 @@ use Rattle.brc_model.specs.AbstractState.{references_to}
 use Rattle.brc_model.specs.declared.duty.Reason.TheVariants.{Handed}
 use Rattle.brc_model.specs.declared.duty.Duty.{Duty}
 use Rattle.brc_model.specs.declared.duty.Duty.TheVariants.{SetMark, Look, TakeMark, MergeSwap, Settle, SettleKind, SettleCell, TakeSlot, SettleEnd, Scan, ClaimMark}
-use Rattle.brc_model.specs.declared.address.Address.TheVariants.{Local, Shared, Mark, Cell, KindOf}
+use Rattle.brc_model.specs.declared.address.Address.TheVariants.{Local, Shared, Cell, KindOf}
 use Rattle.brc_model.specs.Duties.{claimed, has_resource, cells_of, cells_from}
 use Rattle.brc_model.specs.declared.actor.Actor.{Actor}
-use Rattle.brc_model.specs.Machine.{Life, Live, Dying, Closed, Machine, with_life, dies_next, life_by, machine_by_duty}
+use Rattle.brc_model.specs.Machine.{Life, Live, Dying, Closed, Machine, with_life, dies_next, life_by, machine_by_duty, mark_of}
 use Rattle.brc_model.proofs.Frame.CellsHeld.{cell_held}
 use Rattle.brc_model.proofs.Frame.Cells.{taken_references}
 use Rattle.brc_model.specs.RowInvariant.{waits, carries, merges, decides, RowInvariant}
 use Rattle.brc_model.specs.Accounts.{Accounts}
 use Rattle.brc_model.specs.Invariant.{AtDuty, numbers_of}
+use Rattle.brc_model.proofs.Basics.Marks.{set_mark, taken_mark}
 use Rattle.brc_model.proofs.Objects.RowMerges.{mark_set, mark_taken}
 use Rattle.brc_model.proofs.Objects.RowsAfterStep.{head_fits_of, following, KeepsRow, weighed, row_becomes, row_stays}
 use Rattle.brc_model.proofs.Objects.RowsAfterElsewhere.{IsApart, AreApart, none_apart, apart_if, light_apart, all_light, cells_apart, released_apart}
-use Rattle.brc_model.proofs.Objects.RowsAfterOwn.{own, one_own, written_here, lives_so, row_apart}
+use Rattle.brc_model.proofs.Objects.RowsAfterOwn.{own, one_own, lives_so, row_apart}
 use Rattle.brc_model.specs.Layout.{block_of, row_at, IsCounted}
 
 -- ---- a mark is set
@@ -38,7 +39,7 @@ module _ {p : Accounts} {n : ℕ} {m : Machine} {t : ℕ} {a : Actor} {rest : Li
       (record k { mark = 1; waiting = k.waiting - 1 }) (record {
         local = refl;
         shared = refl;
-        mark = sym (written_here m.memory (Mark y) 1 (own y));
+        mark = sym (set_mark m.layout m.memory y);
         references = refl;
         waiting = omega (arith, weights.waiting, one);
         carried = omega (arith, weights.carried);
@@ -60,20 +61,20 @@ module _ {p : Accounts} {n : ℕ} {m : Machine} {t : ℕ} {a : Actor} {rest : Li
 -- both cases.
 pub record Takes (m : Machine) (t : ℕ) (a : Actor) (d : Duty) (rest : List Duty) (y : ℕ) (tail : List Duty) : Type 0
   where
-    pub follows : following m t a d ≡ claimed y (m.memory (Mark y)) ++ tail
+    pub follows : following m t a d ≡ claimed y (mark_of m.layout m.memory y) ++ tail
     pub this : IsApart y d
     pub others : AreApart y tail
     pub lives : (next : List Duty) → life_by m.life t d next y ≡ with_life m.life (dies_next next) (Dying t) y
     pub local : m.memory (Local y) ≡ (machine_by_duty m t a d rest).memory (Local y)
     pub shared : m.memory (Shared y) ≡ (machine_by_duty m t a d rest).memory (Shared y)
-    pub mark : (machine_by_duty m t a d rest).memory (Mark y) ≡ UNSET
+    pub mark : mark_of m.layout (machine_by_duty m t a d rest).memory y ≡ UNSET
     pub references : references_to y m.abstract.references
         ≡ references_to y (machine_by_duty m t a d rest).abstract.references
 
 module _ {p : Accounts} {n : ℕ} {m : Machine} {t : ℕ} {a : Actor} {d : Duty} {rest : List Duty} where
   -- `MarkGone`, `ScanFindsNone` and `NothingToClaim`: if the mark wasn't set, the row is unchanged.
   takes_none : {tail : List Duty} {y : ℕ} → AtDuty p n m t a d rest → IsCounted m.layout y → Takes m t a d rest y tail
-      → m.memory (Mark y) ≡ UNSET → KeepsRow m t a d rest y
+      → mark_of m.layout m.memory y ≡ UNSET → KeepsRow m t a d rest y
   takes_none {tail = tail} {y = y} s some takes unset =
       let follows : following m t a d ≡ tail = takes.follows ∙ ap (λ (w : ℕ). claimed y w ++ tail) unset in
       row_stays {next = tail} {x = y} s some (record {
@@ -96,7 +97,7 @@ module _ {p : Accounts} {n : ℕ} {m : Machine} {t : ℕ} {a : Actor} {d : Duty}
   -- `MarkTakenBack`, `ScanFindsMark` and `MarkClaimed`: if the mark was set, its pending decrement goes over to the
   -- duty that merges the object.
   takes_one : {tail : List Duty} {y : ℕ} → AtDuty p n m t a d rest → IsCounted m.layout y → Takes m t a d rest y tail
-      → m.memory (Mark y) ≡ SET → KeepsRow m t a d rest y
+      → mark_of m.layout m.memory y ≡ SET → KeepsRow m t a d rest y
   takes_one {tail = tail} {y = y} s some takes set =
       let k = numbers_of m y in
       let follows : following m t a d ≡ hands y ++ tail = takes.follows ∙ ap (λ (w : ℕ). claimed y w ++ tail) set in
@@ -157,7 +158,7 @@ module _ {p : Accounts} {n : ℕ} {m : Machine} {t : ℕ} {a : Actor} {rest : Li
   pub row_after_take_mark : {y : ℕ} → AtDuty p n m t a (TakeMark y) rest → KeepsRow m t a (TakeMark y) rest y
   row_after_take_mark {y = y} s =
       let takes : Takes m t a (TakeMark y) rest y [] = record {
-        follows = elim (m.memory (Mark y) == SET) as (λ b. cond b (hands y) [] ≡ cond b (hands y) [] ++ []) [
+        follows = elim (mark_of m.layout m.memory y == SET) as (λ b. cond b (hands y) [] ≡ cond b (hands y) [] ++ []) [
           | true ↦ refl
           | false ↦ refl
         ];
@@ -166,7 +167,7 @@ module _ {p : Accounts} {n : ℕ} {m : Machine} {t : ℕ} {a : Actor} {rest : Li
         lives = λ next. refl;
         local = refl;
         shared = refl;
-        mark = written_here m.memory (Mark y) 0 (own y);
+        mark = taken_mark m.layout m.memory y;
         references = refl;
       } in
       row_after_taking s (head_fits_of s).0 takes
@@ -183,7 +184,7 @@ module _ {p : Accounts} {n : ℕ} {m : Machine} {t : ℕ} {a : Actor} {rest : Li
         lives = λ next. refl;
         local = refl;
         shared = refl;
-        mark = written_here m.memory (Mark y) 0 (own y);
+        mark = taken_mark m.layout m.memory y;
         references = refl;
       } in
       row_after_taking s some takes
@@ -199,7 +200,7 @@ module _ {p : Accounts} {n : ℕ} {m : Machine} {t : ℕ} {a : Actor} {rest : Li
         lives = λ next. refl;
         local = refl;
         shared = refl;
-        mark = written_here m.memory (Mark y) 0 (own y);
+        mark = taken_mark m.layout m.memory y;
         references = refl;
       } in
       row_after_taking s some takes

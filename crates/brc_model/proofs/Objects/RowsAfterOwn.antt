@@ -8,9 +8,9 @@ use Rattle.brc_model.specs.AbstractState.{Reference, same, without, references_t
 use Rattle.brc_word.specs.Words.{immortal_local, local_part, is_immortal_word}
 use Rattle.brc_model.specs.declared.duty.Duty.{Duty}
 use Rattle.brc_model.specs.declared.address.Address.{Address}
-use Rattle.brc_model.specs.declared.address.Address.TheVariants.{Local, Shared, Mark}
+use Rattle.brc_model.specs.declared.address.Address.TheVariants.{Local, Shared}
 use Rattle.brc_model.specs.declared.actor.Actor.{Actor}
-use Rattle.brc_model.specs.Machine.{Life, Live, Machine, written, same_address, with_life, ended_row, born_row, machine_by_duty}
+use Rattle.brc_model.specs.Machine.{Life, Live, Machine, written, same_address, with_life, ended_row, born_row, machine_by_duty, mark_of}
 use Rattle.brc_model.proofs.Basics.Bag.{held_has, held-le-references_to, references_to-without}
 use Rattle.brc_model.specs.References.{held, one_if, reference_of}
 use Rattle.brc_model.specs.RowInvariant.{Numbers, InOwned, InSwapped, InMerged, IsLive}
@@ -89,7 +89,7 @@ counted_word owner n live =
 pub record KeepsWords (m after : Machine) (x : ℕ) : Type 0 where
   pub local : m.memory (Local x) ≡ after.memory (Local x)
   pub shared : m.memory (Shared x) ≡ after.memory (Shared x)
-  pub mark : m.memory (Mark x) ≡ after.memory (Mark x)
+  pub mark : mark_of m.layout m.memory x ≡ mark_of after.layout after.memory x
   pub references : references_to x m.abstract.references ≡ references_to x after.abstract.references
 
 module _ {p : Accounts} {n : ℕ} {m : Machine} {t : ℕ} {a : Actor} {d : Duty} {rest : List Duty} where

@@ -3,10 +3,10 @@ use Rattle.std.proofs.Common.{◌≡◌, ℕ, ◌+◌, ◌≤◌, List, refl, sy
 use Rattle.std.specs.Prelude.{sum_by}
 use Rattle.brc_model.specs.AbstractState.{references_to}
 use Rattle.brc_model.specs.declared.duty.Duty.{Duty}
-use Rattle.brc_model.specs.declared.address.Address.TheVariants.{Local, Shared, Mark}
+use Rattle.brc_model.specs.declared.address.Address.TheVariants.{Local, Shared}
 use Rattle.brc_model.specs.Duties.{address_of, continuation}
 use Rattle.brc_model.specs.declared.actor.Actor.{Actor}
-use Rattle.brc_model.specs.Machine.{Life, Unborn, Live, Dying, Closed, Machine, is_running, life_by, machine_by_duty}
+use Rattle.brc_model.specs.Machine.{Life, Unborn, Live, Dying, Closed, Machine, is_running, life_by, machine_by_duty, mark_of}
 use Rattle.brc_model.specs.RowInvariant.{waits, carries, merges, decides, Numbers, IsLive, RowInvariant}
 use Rattle.brc_model.specs.Accounts.{Accounts}
 use Rattle.brc_model.specs.Invariant.{AtDuty, numbers_of}
@@ -81,7 +81,7 @@ pub record RowStays (m : Machine) (t : ℕ) (a : Actor) (d : Duty) (rest : List 
     pub lives : life_by m.life t d next x ≡ m.life x
     pub local : m.memory (Local x) ≡ (machine_by_duty m t a d rest).memory (Local x)
     pub shared : m.memory (Shared x) ≡ (machine_by_duty m t a d rest).memory (Shared x)
-    pub mark : m.memory (Mark x) ≡ (machine_by_duty m t a d rest).memory (Mark x)
+    pub mark : mark_of m.layout m.memory x ≡ mark_of m.layout (machine_by_duty m t a d rest).memory x
     pub references : references_to x m.abstract.references
         ≡ references_to x (machine_by_duty m t a d rest).abstract.references
     pub waiting : sum_by (waits x) next ≡ waits x d

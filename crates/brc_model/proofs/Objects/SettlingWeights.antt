@@ -6,8 +6,9 @@ use Rattle.brc_model.specs.declared.duty.Holding.TheVariants.{InFlight}
 use Rattle.brc_model.specs.declared.duty.Reason.TheVariants.{Handed}
 use Rattle.brc_model.specs.declared.duty.Duty.{Duty}
 use Rattle.brc_model.specs.declared.duty.Duty.TheVariants.{ReleaseLoad, MergeSwap, Settle, SettleKind, SettleCell, TakeSlot, CloseResource, SettleEnd, Leave, Scan, Finish, ClaimMark, CellSwap}
+use Rattle.brc_word.specs.Words.{mark_at}
 use Rattle.brc_model.specs.declared.layout.Layout.{Layout}
-use Rattle.brc_model.specs.Layout.{row_at}
+use Rattle.brc_model.specs.Layout.{row_at, mark_bit}
 use Rattle.brc_model.specs.Duties.{address_of, new_head, continuation, has_resource, cells_of, cells_from, release_found, claimed}
 use Rattle.brc_model.specs.declared.actor.Actor.{Actor}
 use Rattle.brc_model.specs.Machine.{Machine, is_running, actor_by, machine_by_duty}
@@ -119,9 +120,9 @@ module _ (x : ℕ) (f : Duty → ℕ) (of : IsOfSettling x f) where
   released_light (suc y) ds =
       omega (arith, sum_by-cons f (ReleaseLoad y InFlight) ds, of.others (ReleaseLoad y InFlight) refl)
 
-  claimed_light : (y found : ℕ) → sum_by f (claimed y found) ≡ 0
-  claimed_light y found =
-      either (λ (l : List Duty). sum_by f l ≡ 0) (found == 1) (MergeSwap y Handed ∷ []) []
+  claimed_light : (y mark : ℕ) → sum_by f (claimed y mark) ≡ 0
+  claimed_light y mark =
+      either (λ (l : List Duty). sum_by f l ≡ 0) (mark == 1) (MergeSwap y Handed ∷ []) []
       (λ e. one_light (MergeSwap y Handed) refl) refl
 
   -- What follows a duty that doesn't settle the row doesn't settle it either.
@@ -147,20 +148,22 @@ module _ (x : ℕ) (f : Duty → ℕ) (of : IsOfSettling x f) where
       omega (arith, sum_by-cons f (Scan i n) (Finish ∷ []), of.others (Scan i n) refl, one_light Finish refl)
   next_light layout t running head (Scan i n) found apart =
       let later : List Duty = Scan (i + 1) (n - 1) ∷ [] in
+      let mark = mark_at found (mark_bit layout (row_at layout t i)) in
       omega (
         arith,
-        sum_by-append f (claimed (row_at layout t i) found) (Settle ∷ later),
-        claimed_light (row_at layout t i) found,
+        sum_by-append f (claimed (row_at layout t i) mark) (Settle ∷ later),
+        claimed_light (row_at layout t i) mark,
         sum_by-cons f Settle later,
         of.others Settle refl,
         one_light (Scan (i + 1) (n - 1)) refl,
       )
   next_light layout t running head Finish found apart = refl
   next_light layout t running head (ClaimMark y) found apart =
+      let mark = mark_at found (mark_bit layout y) in
       omega (
         arith,
-        sum_by-append f (claimed y found) (Settle ∷ []),
-        claimed_light y found,
+        sum_by-append f (claimed y mark) (Settle ∷ []),
+        claimed_light y mark,
         one_light Settle refl,
       )
   next_light layout t running head (CellSwap y i z h) zero apart = refl

@@ -9,9 +9,9 @@ use Rattle.std.proofs.lemmas.Option.{slice_get_cases}
 use Rattle.brc_model.specs.declared.duty.Holding.{Holding}
 use Rattle.brc_model.specs.AbstractState.{Holder, ByThread, ByCell, Reference, is_among, references_to}
 use Rattle.brc_model.specs.declared.duty.Duty.{Duty}
-use Rattle.brc_model.specs.declared.address.Address.TheVariants.{Mark, Cell, ThreadWord}
+use Rattle.brc_model.specs.declared.address.Address.TheVariants.{Cell, ThreadWord}
 use Rattle.brc_model.specs.declared.actor.Actor.{Actor}
-use Rattle.brc_model.specs.Machine.{Life, Unborn, Live, Dying, Closed, Machine}
+use Rattle.brc_model.specs.Machine.{Life, Unborn, Live, Dying, Closed, Machine, mark_of}
 use Rattle.brc_model.specs.Safety.{IsHeldByOpenList}
 use Rattle.brc_model.proofs.Basics.Bag.{held-cons, held_itself}
 use Rattle.brc_model.specs.References.{held, one_if, reference_of, word_holds, cell_reference}
@@ -99,7 +99,7 @@ module _ {p : Accounts} {n : ℕ} {m : Machine} where
       omega (arith, agenda, aside))
 
   -- No mark is set, since no thread would watch it.
-  no_mark : (x : ℕ) → CoreInvariant p n m → AreAtEnd p m → m.memory (Mark x) ≡ UNSET
+  no_mark : (x : ℕ) → CoreInvariant p n m → AreAtEnd p m → mark_of m.layout m.memory x ≡ UNSET
   no_mark x core done =
       elim (core.marks x) [
         | inl none ↦ none

@@ -153,7 +153,7 @@ module _ {p : Accounts} {n : ℕ} {m : Machine} {t : ℕ} {a : Actor} {d : Duty}
       let word : IsDyingWord t (m.memory (Gate x)) =
       subst (IsDyingWord t)
       (written_apart m.memory (address_of m.layout t a.head d) (Gate x)
-      (new_word t a.head d (m.memory (address_of m.layout t a.head d))) apart) chained.1 in
+      (new_word m.layout t a.head d (m.memory (address_of m.layout t a.head d))) apart) chained.1 in
       let dying = dying_gate t a x here.core here.found word in
       elim (eqb_tells dying.0 t) [
         | inl same ↦ (dying.1 ∙ ap Dying same.1, word)

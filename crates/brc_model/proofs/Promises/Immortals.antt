@@ -9,9 +9,9 @@ use Rattle.brc_model.specs.declared.thread.Choice.{Choice}
 use Rattle.brc_model.specs.declared.duty.Reason.TheVariants.{Own, Handed}
 use Rattle.brc_model.specs.declared.duty.Duty.{Duty}
 use Rattle.brc_model.specs.declared.duty.Duty.TheVariants.{RetainAdd, DecideAtZero, SharedLoad, SharedExchange, MergeLoad, MergeExchange, Die, Settle, SettleKind, SettleEnd, TakeSlot, CloseResource, BirthKind, BirthSlot, KindLoad, LockGate, UnlockGate, SettleCell, CellLoad, CellSwap, LendSlot, ReturnSlot}
-use Rattle.brc_model.specs.declared.address.Address.TheVariants.{Local, Shared, Gate, KindOf, Mark, Slot, Resource, Cell}
+use Rattle.brc_model.specs.declared.address.Address.TheVariants.{Local, Shared, Gate, KindOf, Slot, Resource, Cell}
 use Rattle.brc_model.specs.declared.actor.Actor.{Actor}
-use Rattle.brc_model.specs.Machine.{Life, Unborn, Live, Dying, Closed, Machine, written}
+use Rattle.brc_model.specs.Machine.{Life, Unborn, Live, Dying, Closed, Machine, written, mark_of}
 use Rattle.brc_model.specs.StepMachine.{StepMachine, next_machine}
 use Rattle.brc_model.specs.Progress.{StaysAt, ImmortalsStay}
 use Rattle.brc_model.specs.RowInvariant.{Numbers, InOwned, InSwapped, InMerged, RowInvariant}
@@ -197,7 +197,7 @@ immortals_shown n = record {
 
 module _ {p : Accounts} {n : ℕ} {m : Machine} where
   -- An immortal object's mark is never set.
-  immortal_mark : (x : ℕ) → CoreInvariant p n m → is_immortal_row m.layout x ≡ true → m.memory (Mark x) ≡ UNSET
+  immortal_mark : (x : ℕ) → CoreInvariant p n m → is_immortal_row m.layout x ≡ true → mark_of m.layout m.memory x ≡ UNSET
   immortal_mark x core immortal = elim (core.marks x) [
     | inl none ↦ none
     | inr set ↦ absurd (immortal_apart m.layout x x set.1 immortal refl)

@@ -9,11 +9,11 @@ use Rattle.brc_lang.specs.Grammar.{IsModule}
 use Rattle.brc_model.specs.Paths.{IsAcceptable}
 use Rattle.brc_model.specs.declared.duty.Duty.{Duty}
 use Rattle.brc_model.specs.declared.duty.Duty.TheVariants.{Look, TakeMark, Settle, SettleCell, SettleEnd, Leave, Scan, Finish}
-use Rattle.brc_model.specs.declared.address.Address.TheVariants.{Mark, ThreadWord}
+use Rattle.brc_model.specs.declared.address.Address.TheVariants.{ThreadWord}
 use Rattle.brc_model.specs.declared.actor.Status.{Status}
 use Rattle.brc_model.specs.declared.actor.Status.TheVariants.{Running, Leaving, Gone}
 use Rattle.brc_model.specs.declared.actor.Actor.{Actor}
-use Rattle.brc_model.specs.Machine.{Machine}
+use Rattle.brc_model.specs.Machine.{Machine, mark_of}
 use Rattle.brc_model.specs.StepMachine.{StepMachine, first_machine}
 use Rattle.brc_model.specs.Progress.{Always}
 use Rattle.brc_model.specs.Watched.{looks_at, scans_over, IsWatched, ByRunning, ByExit, ByLook, MarksWatched}
@@ -42,7 +42,7 @@ status_runs Gone e = absurd (omega (arith, e))
 
 module _ {p : Accounts} {n : ℕ} {m : Machine} where
   -- A marked row was born, so the thread of its block exists.
-  by_running : (x : ℕ) → CoreInvariant p n m → m.memory (Mark x) ≡ SET
+  by_running : (x : ℕ) → CoreInvariant p n m → mark_of m.layout m.memory x ≡ SET
       → m.memory (ThreadWord (block_of m.layout x)) ≡ RUNNING
       → IsWatched m x
   by_running x core marked word =
@@ -98,7 +98,7 @@ exit_scans a Running x fits low e = agenda_scans a.used Running x a.agenda fits 
 exit_scans a Leaving x fits low e = agenda_scans a.used Leaving x a.agenda fits low e
 
 module _ {p : Accounts} {n : ℕ} {m : Machine} where
-  by_exit : (x : ℕ) (a : Actor) → CoreInvariant p n m → m.memory (Mark x) ≡ SET
+  by_exit : (x : ℕ) (a : Actor) → CoreInvariant p n m → mark_of m.layout m.memory x ≡ SET
       → slice_get m.actors (block_of m.layout x) ≡ Some a
       → scans (index_of m.layout (block_of m.layout x) x) a.agenda ≡ true → IsWatched m x
   by_exit x a core marked found e =
@@ -122,13 +122,13 @@ by_look m x weighs =
 -- ---- all marks
 
 module _ {p : Accounts} {n : ℕ} {m : Machine} where
-  watched_so : (x : ℕ) → CoreInvariant p n m → m.memory (Mark x) ≡ SET → core.IsWatched m x → IsWatched m x
+  watched_so : (x : ℕ) → CoreInvariant p n m → mark_of m.layout m.memory x ≡ SET → core.IsWatched m x → IsWatched m x
   watched_so x kept marked (core.ByRunning word) = by_running x kept marked word
   watched_so x kept marked (core.ByExit a found e) = by_exit x a kept marked found e
   watched_so x kept marked (core.ByLook weighs) = by_look m x weighs
 
   -- A mark that is set is watched, whatever code the threads run.
-  pub mark_watched : (x : ℕ) → CoreInvariant p n m → m.memory (Mark x) ≢ UNSET → IsWatched m x
+  pub mark_watched : (x : ℕ) → CoreInvariant p n m → mark_of m.layout m.memory x ≢ UNSET → IsWatched m x
   mark_watched x kept set =
       elim (kept.marks x) [
         | inl none ↦ absurd (set none)

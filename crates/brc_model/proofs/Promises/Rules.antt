@@ -5,7 +5,7 @@ use Rattle.std.specs.Prelude.{◌==◌, nat_lt}
 use Rattle.brc_word.specs.declared.values.TheConstants.{ONE_REFERENCE}
 use Rattle.std.proofs.lemmas.Bool.Decides.{eqb_tells, leb_tells}
 use Rattle.std.proofs.lemmas.List.{append-nil}
-use Rattle.brc_word.specs.Words.{most_local, local_part, is_immortal_word, fresh_word, dead_word, merged_word, free_word}
+use Rattle.brc_word.specs.Words.{most_local, local_part, is_immortal_word, fresh_word, dead_word, merged_word, free_word, mark_at}
 use Rattle.brc_model.specs.declared.duty.Holding.{Holding}
 use Rattle.brc_model.specs.declared.duty.Reason.{Reason}
 use Rattle.brc_model.specs.declared.duty.Reason.TheVariants.{Own, Handed}
@@ -18,6 +18,7 @@ use Rattle.brc_model.specs.Duties.{new_word, continuation, counts_locally, has_r
 use Rattle.brc_model.specs.Moves.{reference_effects, put_in_flight}
 use Rattle.brc_model.specs.AbstractState.{Move}
 use Rattle.brc_model.specs.declared.layout.Layout.{Layout}
+use Rattle.brc_model.specs.Layout.{row_at, mark_bit}
 
 -- Case analysis on a test of two numbers.
 by_test : (a b : ℕ) (P : Bool → Type 0) → (a ≡ b → P true) → (a ≢ b → P false) → P (a == b)
@@ -127,13 +128,13 @@ module _ (memory : Address → ℕ) (layout : Layout) (t : ℕ) (running : Bool)
   computed d found left next moves (rules.OwnerExits x f exits) =
       record { left_is = refl; next_is = rw (other_test f 1 exits) refl; moves_are = refl }
   computed d found left next moves (rules.MarkTakenBack x f set) =
-      record { left_is = refl; next_is = rw (same_test f 1 set) refl; moves_are = refl }
+      record { left_is = refl; next_is = rw (same_test (mark_at f (mark_bit layout x)) 1 set) refl; moves_are = refl }
   computed d found left next moves (rules.MarkGone x f gone) =
-      record { left_is = refl; next_is = rw (other_test f 1 gone) refl; moves_are = refl }
+      record { left_is = refl; next_is = rw (other_test (mark_at f (mark_bit layout x)) 1 gone) refl; moves_are = refl }
   computed d found left next moves (rules.MarkClaimed x f set) =
-      record { left_is = refl; next_is = rw (same_test f 1 set) refl; moves_are = refl }
+      record { left_is = refl; next_is = rw (same_test (mark_at f (mark_bit layout x)) 1 set) refl; moves_are = refl }
   computed d found left next moves (rules.NothingToClaim x f none) =
-      record { left_is = refl; next_is = rw (other_test f 1 none) refl; moves_are = refl }
+      record { left_is = refl; next_is = rw (other_test (mark_at f (mark_bit layout x)) 1 none) refl; moves_are = refl }
   computed d found left next moves (rules.NobodysCount x reason f nobody) =
       record { left_is = refl; next_is = rw (same_test f 0 nobody) refl; moves_are = refl }
   computed d found left next moves (rules.LocalTakenOut x reason f owned) =
@@ -154,9 +155,9 @@ module _ (memory : Address → ℕ) (layout : Layout) (t : ℕ) (running : Bool)
   computed d found left next moves (rules.DyingCells x f is) =
       record { left_is = refl; next_is = rw is refl; moves_are = refl }
   computed d found left next moves (rules.ScanFindsMark index rows f set) =
-      record { left_is = refl; next_is = rw (same_test f 1 set) refl; moves_are = refl }
+      record { left_is = refl; next_is = rw (same_test (mark_at f (mark_bit layout (row_at layout t index))) 1 set) refl; moves_are = refl }
   computed d found left next moves (rules.ScanFindsNone index rows f none) =
-      record { left_is = refl; next_is = rw (other_test f 1 none) refl; moves_are = refl }
+      record { left_is = refl; next_is = rw (other_test (mark_at f (mark_bit layout (row_at layout t index))) 1 none) refl; moves_are = refl }
   -- the other rules have no condition
   computed d found left next moves _ = record { left_is = refl; next_is = refl; moves_are = refl }
 
@@ -165,7 +166,7 @@ module _ (memory : Address → ℕ) (layout : Layout) (t : ℕ) (running : Bool)
   -- Some rule concludes what the step computes.
   abbrev pub GoesByRule : Duty → ℕ → Type 0
   GoesByRule d found =
-      By d found (new_word t head d found) (continuation layout t running head d found)
+      By d found (new_word layout t head d found) (continuation layout t running head d found)
       (reference_effects memory t d found)
 
   applies : {d : Duty} {found left : ℕ} {next : List Duty} {moves : List Move} → By d found left next moves
@@ -173,8 +174,8 @@ module _ (memory : Address → ℕ) (layout : Layout) (t : ℕ) (running : Bool)
   applies {d = d} {found = found} {left = left} {next = next} {moves = moves} rule =
       let c = computed d found left next moves rule in
       let word = subst (λ w. By d found w next moves) c.left_is rule in
-      let duties = subst (λ ds. By d found (new_word t head d found) ds moves) c.next_is word in
-      subst (By d found (new_word t head d found) (continuation layout t running head d found)) c.moves_are duties
+      let duties = subst (λ ds. By d found (new_word layout t head d found) ds moves) c.next_is word in
+      subst (By d found (new_word layout t head d found) (continuation layout t running head d found)) c.moves_are duties
 
   -- One rule applies where the numbers are the same, the other where they differ.
   by_same : {d : Duty} {found : ℕ} (a b : ℕ) → (a ≡ b → GoesByRule d found) → (a ≢ b → GoesByRule d found)
@@ -256,9 +257,10 @@ module _ (memory : Address → ℕ) (layout : Layout) (t : ℕ) (running : Bool)
       by_same found 1 (λ runs. applies (rules.OwnerRuns x found runs))
       (λ exits. applies (rules.OwnerExits x found exits))
   by_rule (TakeMark x) found =
-      by_same found 1 (λ set. applies (rules.MarkTakenBack x found set)) (λ gone. applies (rules.MarkGone x found gone))
+      by_same (mark_at found (mark_bit layout x)) 1 (λ set. applies (rules.MarkTakenBack x found set))
+      (λ gone. applies (rules.MarkGone x found gone))
   by_rule (ClaimMark x) found =
-      by_same found 1 (λ set. applies (rules.MarkClaimed x found set))
+      by_same (mark_at found (mark_bit layout x)) 1 (λ set. applies (rules.MarkClaimed x found set))
       (λ none. applies (rules.NothingToClaim x found none))
   by_rule (MergeSwap x reason) found =
       by_same found 0 (λ nobody. applies (rules.NobodysCount x reason found nobody))
@@ -278,6 +280,6 @@ module _ (memory : Address → ℕ) (layout : Layout) (t : ℕ) (running : Bool)
   by_rule (SettleEnd x) found = rules.Closes x found
   by_rule (Leave first rows) found = rules.SaysLeaving first rows found
   by_rule (Scan index rows) found =
-      by_same found 1 (λ set. applies (rules.ScanFindsMark index rows found set))
+      by_same (mark_at found (mark_bit layout (row_at layout t index))) 1 (λ set. applies (rules.ScanFindsMark index rows found set))
       (λ none. applies (rules.ScanFindsNone index rows found none))
   by_rule Finish found = rules.SaysGone found

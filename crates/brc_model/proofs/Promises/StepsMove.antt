@@ -9,25 +9,26 @@ use Rattle.brc_word.specs.declared.values.TheConstants.{UNSET}
 use Rattle.brc_lang.specs.declared.module.Module.{Module}
 use Rattle.brc_model.specs.declared.thread.Choice.{Choice}
 use Rattle.brc_model.specs.declared.thread.Choice.TheVariants.{Ok, Fault, Claim, Stop}
-use Rattle.brc_word.specs.Words.{free_word}
+use Rattle.brc_word.specs.Words.{free_word, unmarked_word}
 use Rattle.brc_model.specs.Threads.{code_of}
 use Rattle.brc_model.specs.declared.duty.Reason.TheVariants.{Handed}
 use Rattle.brc_model.specs.declared.duty.Duty.{Duty}
 use Rattle.brc_model.specs.declared.duty.Duty.TheVariants.{MergeSwap, Settle, ClaimMark, LockGate}
 use Rattle.brc_model.specs.declared.address.Address.{Address}
-use Rattle.brc_model.specs.declared.address.Address.TheVariants.{Gate, Mark}
-use Rattle.brc_model.specs.Duties.{address_of, new_head, ready}
+use Rattle.brc_model.specs.declared.address.Address.TheVariants.{Gate}
+use Rattle.brc_model.specs.Duties.{mark_place, address_of, new_head, ready}
 use Rattle.brc_model.specs.declared.actor.Status.{Status}
 use Rattle.brc_model.specs.declared.actor.Status.TheVariants.{Running, Leaving, Gone}
 use Rattle.brc_model.specs.declared.actor.Place.{Place}
-use Rattle.brc_model.specs.Machine.{is_running, written}
+use Rattle.brc_model.specs.Machine.{is_running, written, mark_of}
 use Rattle.brc_model.specs.declared.state.Exit.{Exit}
 use Rattle.brc_model.specs.declared.state.Exit.TheVariants.{Success}
 use Rattle.brc_model.specs.Actions.{StepActor, Action, Skip, Stuck, Silent, Calls, Does, always, may_claim, agenda_action, status_action, exit_of, action_of, is_before_instruction, may_stop, stop_action, stop_in_call, row_locked, owned_rows, none_of}
 use Rattle.brc_model.specs.StepMachine.{StepMachine, of_thread, at_place, step_actor, does_by, machine_by, next_machine, first_machine, machine_after}
 use Rattle.brc_model.specs.World.{World, world_of, machine_of, step, finds_locked, waits_for_lock, IsReachable}
 use Rattle.brc_model.proofs.Basics.Lists.{some_is, slice_get-set_same, set_found}
-use Rattle.brc_model.proofs.Basics.Written.{written_here, written_load}
+use Rattle.brc_model.proofs.Basics.Written.{written_load}
+use Rattle.brc_model.proofs.Basics.Marks.{none_taken, taken_mark}
 use Rattle.brc_model.proofs.Dispatch.Claims.{claimer, gone_claims_none, stopper, gone_stops_not}
 use Rattle.brc_model.proofs.Dispatch.Actions.{ActionFits, action_fits}
 use Rattle.brc_model.specs.Accounts.{Accounts}
@@ -42,6 +43,7 @@ use Rattle.brc_model.proofs.Promises.Emptied.{chain_empty}
 use Rattle.brc_lang.specs.Grammar.{IsModule}
 use Rattle.brc_lang.specs.declared.module.Function.{Function}
 use Rattle.brc_model.specs.declared.layout.Layout.{Layout}
+use Rattle.brc_model.specs.Layout.{mark_bit}
 use Rattle.brc_model.proofs.Dispatch.Decided.{stopping_decides, stop_decides}
 use Rattle.brc_model.specs.declared.actor.Place.TheVariants.{Idle, InCall}
 use Rattle.brc_model.specs.declared.state.State.{State}
@@ -190,17 +192,20 @@ claim_is w t a row may found is =
     ∙ ap (λ (b : Bool). world_of (machine_by (machine_of w) t a Success (claimed row a b))) is
 
 pub claim_moves : (w : World) (t : ℕ) (a : StepActor) (row : ℕ) → slice_get w.actors t ≡ Some a
-    → may_claim w.layout t a row ≡ true → w.memory (Mark row) ≢ UNSET → step w t (Claim row) ≢ w
+    → may_claim w.layout t a row ≡ true → mark_of w.layout w.memory row ≢ UNSET → step w t (Claim row) ≢ w
 claim_moves w t a row found may marked e =
     let done : world_of (does_by (machine_of w) t a Success (ClaimMark row) [] (always a.place)) ≡ w =
     sym (claim_is w t a row true found may) ∙ e in
-    marked (sym (ap (λ (v : World). v.memory (Mark row)) done) ∙ written_here w.memory (Mark row) 0)
+    marked (sym (ap (λ (v : World). mark_of w.layout v.memory row) done) ∙ taken_mark w.layout w.memory row)
 
--- Clearing a mark that isn't set leaves memory unchanged.
-unmarked_stays : (memory : Address → ℕ) (row : ℕ) → memory (Mark row) ≡ UNSET → written memory (Mark row) 0 ≡ memory
-unmarked_stays memory row none =
-    fun_ext (λ (b : Address). ap (λ (word : ℕ). written memory (Mark row) word b) (sym none)
-    ∙ written_load memory (Mark row) b)
+-- Taking a mark that isn't set leaves memory unchanged.
+unmarked_stays : (layout : Layout) (memory : Address → ℕ) (row : ℕ) → mark_of layout memory row ≡ UNSET
+    → written memory (mark_place layout row)
+    (unmarked_word (memory (mark_place layout row)) (mark_bit layout row)) ≡ memory
+unmarked_stays layout memory row none =
+    fun_ext (λ (b : Address). ap (λ (word : ℕ). written memory (mark_place layout row) word b)
+    (none_taken (memory (mark_place layout row)) (mark_bit layout row) none)
+    ∙ written_load memory (mark_place layout row) b)
 
 none_claimed : (head row found : ℕ) → head ≡ 0 → found ≡ 0
     → ready head ((cond (found == 1) (MergeSwap row Handed ∷ []) [] ++ Settle ∷ []) ++ []) ≡ []
@@ -209,20 +214,21 @@ none_claimed head row found empty none =
     ∙ ap (λ (h : ℕ). ready h (Settle ∷ [])) empty
 
 miss_stays : (w : World) (t : ℕ) (a : StepActor) (row : ℕ) → slice_get w.actors t ≡ Some a → a.actor.agenda ≡ []
-    → a.actor.head ≡ 0 → w.memory (Mark row) ≡ UNSET
+    → a.actor.head ≡ 0 → mark_of w.layout w.memory row ≡ UNSET
     → world_of (does_by (machine_of w) t a Success (ClaimMark row) [] (always a.place)) ≡ w
 miss_stays w t a row found rest empty none =
-    let agenda = none_claimed a.actor.head row (w.memory (Mark row)) empty none ∙ sym rest in
-    let same : step_actor w.layout t a (ClaimMark row) [] a.place (w.memory (Mark row)) ≡ a =
+    let agenda = none_claimed a.actor.head row (mark_of w.layout w.memory row) empty none ∙ sym rest in
+    let word = w.memory (mark_place w.layout row) in
+    let same : step_actor w.layout t a (ClaimMark row) [] a.place word ≡ a =
     λ i. record a { actor = record (a.actor) { agenda = agenda i } } in
     let actors : slice_set w.actors t
-    (step_actor w.layout t a (ClaimMark row) [] a.place (w.memory (Mark row))) ≡ w.actors =
+    (step_actor w.layout t a (ClaimMark row) [] a.place word) ≡ w.actors =
     ap (slice_set w.actors t) same ∙ set_found w.actors t a found in
-    let memory = unmarked_stays w.memory row none in
+    let memory = unmarked_stays w.layout w.memory row none in
     λ i. record w { memory = memory i; actors = actors i }
 
 pub claim_misses : (p : Module) (w : World) (t : ℕ) (a : StepActor) (row : ℕ) → IsReachable p w
-    → slice_get w.actors t ≡ Some a → may_claim w.layout t a row ≡ true → w.memory (Mark row) ≡ UNSET
+    → slice_get w.actors t ≡ Some a → may_claim w.layout t a row ≡ true → mark_of w.layout w.memory row ≡ UNSET
     → step w t (Claim row) ≡ w
 claim_misses p w t a row here found may none =
     let rest = (claimer w.layout t a row may).agenda in

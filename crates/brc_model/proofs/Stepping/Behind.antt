@@ -57,7 +57,7 @@ module _ {p : Accounts} {n : ℕ} {m : Machine} {t : ℕ} {a : Actor} {rest : Li
   -- unlocks lives.
   gate_stays : (d : Duty) (x : ℕ) → AtDuty p n m t a d rest → is_finalising d x ≡ false → m.life x ≡ Dying t
       → written m.memory (address_of m.layout t a.head d)
-      (new_word t a.head d (m.memory (address_of m.layout t a.head d))) (Gate x) ≡ m.memory (Gate x)
+      (new_word m.layout t a.head d (m.memory (address_of m.layout t a.head d))) (Gate x) ≡ m.memory (Gate x)
   gate_stays (Die y) x here other dies =
       written_apart m.memory (Gate y) (Gate x) _ (apart_gate y x (eqb-false y x other))
   gate_stays Settle x here other dies = written_load m.memory (Gate (a.head - 1)) (Gate x)

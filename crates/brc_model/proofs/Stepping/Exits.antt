@@ -8,11 +8,11 @@ use Rattle.brc_model.specs.declared.duty.Holding.{Holding}
 use Rattle.brc_model.specs.declared.duty.Reason.TheVariants.{Handed}
 use Rattle.brc_model.specs.declared.duty.Duty.{Duty}
 use Rattle.brc_model.specs.declared.duty.Duty.TheVariants.{MergeSwap, Settle, Leave, Scan, Finish, ClaimMark}
-use Rattle.brc_model.specs.declared.address.Address.TheVariants.{Gate, Mark, ThreadWord}
+use Rattle.brc_model.specs.declared.address.Address.TheVariants.{Gate, ThreadWord}
 use Rattle.brc_model.specs.Duties.{claimed, ready}
 use Rattle.brc_model.specs.declared.actor.Status.TheVariants.{Leaving, Gone}
 use Rattle.brc_model.specs.declared.actor.Actor.{Actor}
-use Rattle.brc_model.specs.Machine.{Life, Machine, dies_next, machine_by_duty, Unborn}
+use Rattle.brc_model.specs.Machine.{Life, Machine, dies_next, machine_by_duty, Unborn, mark_of}
 use Rattle.brc_model.specs.References.{one_if}
 use Rattle.brc_model.specs.Accounts.{Accounts, extra_of, lacks_of}
 use Rattle.brc_model.specs.Knowledge.{AllBehind}
@@ -37,14 +37,14 @@ use Rattle.brc_model.proofs.Stepping.Steps.{own_steady, is_steady}
 
 module _ {p : Accounts} {n : ℕ} {m : Machine} where
   -- A marked row is counted.
-  pub mark_above : (x : ℕ) → CoreInvariant p n m → m.memory (Mark x) ≡ SET → IsCounted m.layout x
+  pub mark_above : (x : ℕ) → CoreInvariant p n m → mark_of m.layout m.memory x ≡ SET → IsCounted m.layout x
   mark_above x core marked = elim (core.marks x) [
     | inl none ↦ absurd (omega (arith, none, marked))
     | inr some ↦ some.1
   ]
 
   -- A marked row was born.
-  pub marked_born : (x : ℕ) → CoreInvariant p n m → m.memory (Mark x) ≡ SET → m.life x ≢ Unborn
+  pub marked_born : (x : ℕ) → CoreInvariant p n m → mark_of m.layout m.memory x ≡ SET → m.life x ≢ Unborn
   marked_born x core marked = λ unborn.
       let row =
       subst (λ (l : Life). RowInvariant (block_of m.layout x) l (numbers_of m x)) unborn
@@ -55,13 +55,13 @@ module _ {p : Accounts} {n : ℕ} {m : Machine} where
 
 -- What `Scan` and `ClaimMark` have in common. `behind` are the duties that follow whether or not the mark was set.
 record ClaimStep (m : Machine) (t : ℕ) (a : Actor) (d : Duty) (x : ℕ) (rest behind : List Duty) : Type 0 where
-  next_is : next_of m t a d ≡ claimed x (m.memory (Mark x)) ++ behind
+  next_is : next_of m t a d ≡ claimed x (mark_of m.layout m.memory x) ++ behind
   none_dies : dies_next behind ≡ None
   hands : (y : ℕ) → finalised (behind ++ rest) y ≡ finalised (d ∷ rest) y
   held : (agenda : List Duty) → ((h : Holding) (object : ℕ) → extra_of agenda h object ≡ false)
       → ((h : Holding) (object : ℕ) → lacks_of agenda h object ≡ false)
       → HeldStep m.abstract.references (bag_by m t a d) t (d ∷ rest) agenda
-  block : m.memory (Mark x) ≡ SET → block_of m.layout x ≡ t
+  block : mark_of m.layout m.memory x ≡ SET → block_of m.layout x ≡ t
   later : Later a.used a.status (behind ++ rest)
   knows : (new : Machine) → AllBehind new t rest → AllBehind new t (behind ++ rest)
 
@@ -69,9 +69,9 @@ module _ {p : Accounts} {n : ℕ} {m : Machine} {t : ℕ} {a : Actor} {d : Duty}
   claim_step : (x : ℕ) (behind : List Duty) → AtDuty p n m t a d rest → NotGone a → is_steady d ≡ true
       → ClaimStep m t a d x rest behind → FitsAfter p m t a d rest
   claim_step x behind here alive steady step =
-      elim (m.memory (Mark x) == SET) as (λ b. (m.memory (Mark x) == SET) ≡ b → FitsAfter p m t a d rest) [
+      elim (mark_of m.layout m.memory x == SET) as (λ b. (mark_of m.layout m.memory x == SET) ≡ b → FitsAfter p m t a d rest) [
         | true ↦ λ e.
-            let marked : m.memory (Mark x) ≡ SET = eqb-true (m.memory (Mark x)) 1 e in
+            let marked : mark_of m.layout m.memory x ≡ SET = eqb-true (mark_of m.layout m.memory x) 1 e in
             let above = mark_above x here.core marked in
             own_steady (MergeSwap x Handed ∷ behind) (MergeSwap x Handed ∷ (behind ++ rest)) here alive steady (record {
               next_is = step.next_is ∙ ap (λ (b : Bool). cond b (MergeSwap x Handed ∷ []) [] ++ behind) e;

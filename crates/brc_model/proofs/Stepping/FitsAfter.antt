@@ -27,7 +27,7 @@ abbrev pub bag_by : Machine → ℕ → Actor → Duty → List Reference
 bag_by m t a d = (moved m.abstract (reference_effects m.memory t d (found_by m t a d))).references
 
 abbrev pub memory_by : Machine → ℕ → Actor → Duty → Address → ℕ
-memory_by m t a d = written m.memory (address_of m.layout t a.head d) (new_word t a.head d (found_by m t a d))
+memory_by m t a d = written m.memory (address_of m.layout t a.head d) (new_word m.layout t a.head d (found_by m t a d))
 
 -- What the lemmas `thread_after_*` conclude: the thread fits after its step.
 abbrev pub FitsAfter : Accounts → Machine → ℕ → Actor → Duty → List Duty → Type 0

@@ -11,7 +11,7 @@ use Rattle.brc_model.specs.declared.duty.Duty.TheVariants.{SharedLoad, SetMark, 
 use Rattle.brc_model.specs.declared.address.Address.TheVariants.{Local, Shared, ThreadWord}
 use Rattle.brc_model.specs.Duties.{merge_result}
 use Rattle.brc_model.specs.declared.actor.Actor.{Actor}
-use Rattle.brc_model.specs.Machine.{Machine, machine_by_duty}
+use Rattle.brc_model.specs.Machine.{Machine, machine_by_duty, mark_of}
 use Rattle.brc_model.specs.References.{one_if}
 use Rattle.brc_model.specs.RowInvariant.{waits, decides, InOwned, InSwapped, InMerged}
 use Rattle.brc_model.specs.Accounts.{Accounts}
@@ -76,10 +76,10 @@ module _ {p : Accounts} {n : ℕ} {m : Machine} {t : ℕ} {a : Actor} {rest : Li
       → FitsAfter p m t a (TakeMark x) rest
   thread_after_take_mark x here alive =
       let d : Duty = TakeMark x in
-      let found = found_by m t a d in
+      let mark = mark_of m.layout m.memory x in
       let fits = head_of here in
       let later = agenda_here here alive in
-      elim (found == 1) as (λ b. (found == 1) ≡ b → FitsAfter p m t a d rest) [
+      elim (mark == 1) as (λ b. (mark == 1) ≡ b → FitsAfter p m t a d rest) [
         | true ↦ λ e.
             own_next (MergeSwap x Handed) here alive refl refl refl
             (ap (λ (b : Bool). cond b (MergeSwap x Handed ∷ []) []) e)

@@ -6,25 +6,23 @@
 use Rattle.std.proofs.Common.{◌≡◌, ℕ, ◌<◌, ◌≤◌, Bool, true, List, [], ◌∷◌, refl, sym, ap, ◌∙◌, subst, arith, Option}
 use Rattle.std.specs.Prelude.{◌==◌}
 use Rattle.std.proofs.lemmas.Bool.{eq-eqb}
-use Rattle.brc_word.specs.declared.values.TheConstants.{UNSET, NOBODY}
+use Rattle.brc_word.specs.declared.values.TheConstants.{NOBODY}
 use Rattle.brc_model.specs.declared.duty.Duty.{Duty}
-use Rattle.brc_model.specs.declared.duty.Duty.TheVariants.{RetainStore, ReleaseStore, SetMark, Die, SettleEnd, Leave, Finish, BirthKind, BirthSlot, BirthLocal, UnlockGate, ReturnSlot}
+use Rattle.brc_model.specs.declared.duty.Duty.TheVariants.{RetainStore, ReleaseStore, Die, SettleEnd, Leave, Finish, BirthKind, BirthSlot, BirthLocal, UnlockGate, ReturnSlot}
 use Rattle.brc_model.specs.declared.address.Address.{Address}
-use Rattle.brc_model.specs.declared.address.Address.TheVariants.{Local, Mark, ThreadWord}
+use Rattle.brc_model.specs.declared.address.Address.TheVariants.{Local, ThreadWord}
 use Rattle.brc_model.specs.declared.actor.Status.{Status}
 use Rattle.brc_model.specs.declared.actor.Status.TheVariants.{Running, Leaving, Gone}
 use Rattle.brc_model.specs.Duties.{new_word, continuation, new_head}
 use Rattle.brc_model.specs.declared.actor.Actor.{Actor}
 use Rattle.brc_model.specs.Machine.{Life, Machine, locked_by, lent_by}
 use Rattle.brc_model.specs.Moves.{reference_effects}
-use Rattle.brc_model.specs.References.{one_if}
-use Rattle.brc_model.specs.RowInvariant.{waits, Numbers, IsDefault, IsQueued, InOwned, InSwapped, InMerged, Phased, RowInvariant}
+use Rattle.brc_model.specs.RowInvariant.{RowInvariant}
 use Rattle.brc_model.specs.Accounts.{Accounts}
 use Rattle.brc_model.specs.Invariant.{AtDuty, numbers_of}
 use Rattle.brc_model.specs.Knowledge.{status_word, IsNext}
 use Rattle.brc_model.specs.Stores.{is_store, Overwrites}
 use Rattle.brc_model.specs.OpenWork.{Agenda, AgendaFits}
-use Rattle.brc_model.proofs.Frame.Alive.{first_weighs, alive_waiting}
 use Rattle.brc_model.proofs.Basics.Blocks.{next_counted, next_index, next_block, next_unborn}
 use Rattle.brc_model.proofs.Frame.Leaves.{head_of}
 use Rattle.brc_model.proofs.Stepping.FitsAfter.{found_by}
@@ -39,7 +37,7 @@ use Rattle.brc_model.specs.Layout.{block_of, index_of}
 pub record StoresBlindly (memory : Address → ℕ) (layout : Layout) (t : ℕ) (running : Bool) (head : ℕ) (d : Duty)
     (found other : ℕ)
     : Type 0 where
-  pub left : new_word t head d found ≡ new_word t head d other
+  pub left : new_word layout t head d found ≡ new_word layout t head d other
   pub next : continuation layout t running head d found ≡ continuation layout t running head d other
   pub head_after : new_head head d found ≡ new_head head d other
   pub locked : (l : Option ℕ) → locked_by l d found ≡ locked_by l d other
@@ -53,8 +51,6 @@ pub stores_blindly : (memory : Address → ℕ) (layout : Layout) (t : ℕ) (run
 stores_blindly memory layout t running head (RetainStore x h w) found other is =
     record { left = refl; next = refl; head_after = refl; locked = λ l. refl; lent = λ l. refl; moves = refl }
 stores_blindly memory layout t running head (ReleaseStore x w) found other is =
-    record { left = refl; next = refl; head_after = refl; locked = λ l. refl; lent = λ l. refl; moves = refl }
-stores_blindly memory layout t running head (SetMark x) found other is =
     record { left = refl; next = refl; head_after = refl; locked = λ l. refl; lent = λ l. refl; moves = refl }
 stores_blindly memory layout t running head (Die x) found other is =
     record { left = refl; next = refl; head_after = refl; locked = λ l. refl; lent = λ l. refl; moves = refl }
@@ -77,26 +73,6 @@ stores_blindly memory layout t running head (ReturnSlot x) found other is =
 stores_blindly memory layout t running head _ found other is = absurd cc
 
 -- ---- the word that a store overwrites
-
--- ---- marks
-
-phased_free : (n : Numbers) → Phased n → 0 < n.waiting → n.mark ≡ 0
-phased_free n (IsDefault phase none count) some = absurd (omega (arith, none, some))
-phased_free n (IsQueued phase one) some = omega (arith, one, some)
-
-module _ {p : Accounts} {n : ℕ} {m : Machine} {t : ℕ} {a : Actor} {rest : List Duty} where
-  -- At most one decrement is pending, and it is the one that this duty is about to queue. So the mark is clear.
-  mark_free : (x : ℕ) → AtDuty p n m t a (SetMark x) rest → m.memory (Mark x) ≡ UNSET
-  mark_free x here =
-      let one : one_if (x == x) ≡ 1 = ap one_if (eq-eqb x x refl) in
-      let weighs = first_weighs (waits x) m.actors t a (SetMark x) rest here.found here.agenda in
-      let some : 0 < (numbers_of m x).waiting = omega (arith, weighs, one) in
-      let alive = alive_waiting x here.core (head_of here) some in
-      elim alive.live.mode [
-        | InOwned o ↦ phased_free (numbers_of m x) o.phased some
-        | InSwapped s ↦ phased_free (numbers_of m x) s.phased some
-        | InMerged s ↦ let most = s.awaits in omega (arith, most, some)
-      ]
 
 -- ---- a thread's own word
 
@@ -145,7 +121,6 @@ module _ {p : Accounts} {n : ℕ} {m : Machine} {t : ℕ} {a : Actor} {rest : Li
   pub overwritten : (d : Duty) → AtDuty p n m t a d rest → Overwrites t d (found_by m t a d)
   overwritten (RetainStore x h w) here = (head_of here).3
   overwritten (ReleaseStore x w) here = (head_of here).2
-  overwritten (SetMark x) here = mark_free x here
   overwritten (Die x) here = (head_of here).2
   overwritten (SettleEnd x) here = (head_of here).2
   overwritten (Leave x k) here =

@@ -5,14 +5,16 @@ use Rattle.std.proofs.lemmas.Bool.{eqb-true, ne_eqb, leb-true, le-leb}
 use Rattle.std.proofs.lemmas.Bool.Decides.{eqb_tells}
 use Rattle.std.proofs.lemmas.List.Sums.{sum_by-cons}
 use Rattle.brc_word.specs.declared.values.TheConstants.{RUNNING, LEAVING, SET, UNSET}
+use Rattle.brc_word.specs.Words.{marked_word, unmarked_word}
 use Rattle.brc_model.specs.declared.duty.Duty.{Duty}
 use Rattle.brc_model.specs.declared.duty.Duty.TheVariants.{SetMark, Look, TakeMark, Settle, SettleCell, SettleEnd, Leave, Scan, Finish, ClaimMark}
-use Rattle.brc_model.specs.declared.address.Address.TheVariants.{Mark, ThreadWord}
-use Rattle.brc_model.specs.Duties.{new_head, ready}
+use Rattle.brc_model.specs.declared.address.Address.{Address}
+use Rattle.brc_model.specs.declared.address.Address.TheVariants.{ThreadWord}
+use Rattle.brc_model.specs.Duties.{mark_place, new_head, ready}
 use Rattle.brc_model.specs.declared.actor.Status.{Status}
 use Rattle.brc_model.specs.declared.actor.Status.TheVariants.{Gone}
 use Rattle.brc_model.specs.declared.actor.Actor.{Actor}
-use Rattle.brc_model.specs.Machine.{Machine, is_running, actor_by, machine_by_duty, written}
+use Rattle.brc_model.specs.Machine.{Machine, is_running, actor_by, machine_by_duty, written, mark_of}
 use Rattle.brc_model.proofs.Basics.Lists.{some_is, slice_get-set_other}
 use Rattle.brc_model.specs.References.{one_if}
 use Rattle.brc_model.specs.RowInvariant.{weight}
@@ -20,7 +22,8 @@ use Rattle.brc_model.specs.Accounts.{Accounts}
 use Rattle.brc_model.specs.OpenWork.{Later, Agenda, scans}
 use Rattle.brc_model.specs.Invariant.{AtDuty, looks, IsWatched, ByRunning, ByExit, ByLook, CoreInvariant}
 use Rattle.brc_model.specs.Knowledge.{status_word}
-use Rattle.brc_model.proofs.Basics.Written.{written_here, written_apart, written_load, apart_mark}
+use Rattle.brc_model.proofs.Basics.Written.{written_apart, written_load}
+use Rattle.brc_model.proofs.Basics.Marks.{set_mark, set_elsewhere, taken_mark, taken_elsewhere}
 use Rattle.brc_model.proofs.Basics.Continuation.{is_inner, next_inner, first_inner, Continuation, Ends, GoesOn, Frees, Exits, Scans, ScansNone, continues}
 use Rattle.brc_model.proofs.Frame.Leaves.{head_of, words_left}
 use Rattle.brc_model.proofs.Frame.Lives.{next_of}
@@ -29,7 +32,7 @@ use Rattle.brc_model.proofs.Stepping.Exits.{marked_born}
 use Rattle.brc_model.proofs.Basics.Blocks.{row_back, born_used}
 use Rattle.brc_model.proofs.Objects.Weights.{weight-stepped}
 use Rattle.brc_model.specs.declared.layout.Layout.{Layout}
-use Rattle.brc_model.specs.Layout.{block_of, row_at, index_of, IsCounted}
+use Rattle.brc_model.specs.Layout.{block_of, row_at, index_of, mark_bit, IsCounted}
 
 -- ---- actors
 
@@ -178,7 +181,7 @@ module _ {p : Accounts} {n : ℕ} {m : Machine} {t : ℕ} {a : Actor} {rest : Li
 module _ {p : Accounts} {n : ℕ} {m : Machine} where
   -- A marked row is among the rows that the thread of its block has used.
   pub marked_within : (t : ℕ) (a : Actor) (x : ℕ) → CoreInvariant p n m → slice_get m.actors t ≡ Some a
-      → m.memory (Mark x) ≡ SET → block_of m.layout x ≡ t → index_of m.layout t x < a.used
+      → mark_of m.layout m.memory x ≡ SET → block_of m.layout x ≡ t → index_of m.layout t x < a.used
   marked_within t a x core found marked block =
       let used = born_used x core (marked_born x core marked) in
       let it : used.by ≡ a = some_is used.by a (sym used.found ∙ ap (slice_get m.actors) block ∙ found) in
@@ -196,7 +199,7 @@ mine_after m t a d rest x found block e =
     (ap (λ (u : ℕ). scans (index_of m.layout u x) after.agenda) block ∙ e)
 
 running_after : (p : Accounts) (n : ℕ) (m : Machine) (t : ℕ) (a : Actor) (d : Duty) (rest : List Duty) (x : ℕ)
-    → AtDuty p n m t a d rest → (a.status ≡ Gone → ⊥) → m.memory (Mark x) ≡ SET
+    → AtDuty p n m t a d rest → (a.status ≡ Gone → ⊥) → mark_of m.layout m.memory x ≡ SET
     → m.memory (ThreadWord (block_of m.layout x)) ≡ RUNNING → IsWatched (machine_by_duty m t a d rest) x
 running_after p n m t a (Leave y k) [] x here alive marked runs =
     elim (eqb_tells (block_of m.layout x) t) [
@@ -224,7 +227,7 @@ running_after p n m t a (Look y) rest x here alive marked runs =
 running_after p n m t a _ rest x here alive marked runs = ByRunning runs
 
 module _ {p : Accounts} {n : ℕ} {m : Machine} {t : ℕ} {a : Actor} {d : Duty} {rest : List Duty} where
-  exit_after : (x : ℕ) (b : Actor) → AtDuty p n m t a d rest → NotGone a → m.memory (Mark x) ≡ SET
+  exit_after : (x : ℕ) (b : Actor) → AtDuty p n m t a d rest → NotGone a → mark_of m.layout m.memory x ≡ SET
       → Spares m.layout t d x → slice_get m.actors (block_of m.layout x) ≡ Some b
       → scans (index_of m.layout (block_of m.layout x) x) b.agenda ≡ true → IsWatched (machine_by_duty m t a d rest) x
   exit_after x b here alive marked spares found e =
@@ -244,7 +247,7 @@ module _ {p : Accounts} {n : ℕ} {m : Machine} {t : ℕ} {a : Actor} {d : Duty}
             (actor_by m.layout t a d rest (found_by m t a d)) other.1 ∙ found) e
       ]
 
-  watched_after : (x : ℕ) → AtDuty p n m t a d rest → NotGone a → m.memory (Mark x) ≡ SET → Spares m.layout t d x
+  watched_after : (x : ℕ) → AtDuty p n m t a d rest → NotGone a → mark_of m.layout m.memory x ≡ SET → Spares m.layout t d x
       → IsWatched m x → IsWatched (machine_by_duty m t a d rest) x
   watched_after x here alive marked spares (ByRunning runs) = running_after p n m t a d rest x here alive marked runs
   watched_after x here alive marked spares (ByExit b found e) = exit_after x b here alive marked spares found e
@@ -252,12 +255,22 @@ module _ {p : Accounts} {n : ℕ} {m : Machine} {t : ℕ} {a : Actor} {d : Duty}
 
 -- ---- all marks
 
+-- the memory once the row's mark is taken
+abbrev taking : Machine → ℕ → Address → ℕ
+taking m y = written m.memory (mark_place m.layout y)
+    (unmarked_word (m.memory (mark_place m.layout y)) (mark_bit m.layout y))
+
+-- the memory once the row's mark is set
+abbrev setting : Machine → ℕ → Address → ℕ
+setting m y = written m.memory (mark_place m.layout y)
+    (marked_word (m.memory (mark_place m.layout y)) (mark_bit m.layout y))
+
 abbrev pub MarkFits : Machine → ℕ → Type 0
-MarkFits m x = (m.memory (Mark x) ≡ UNSET) ⊎ ((m.memory (Mark x) ≡ SET) × (IsCounted m.layout x) × IsWatched m x)
+MarkFits m x = (mark_of m.layout m.memory x ≡ UNSET) ⊎ ((mark_of m.layout m.memory x ≡ SET) × (IsCounted m.layout x) × IsWatched m x)
 
 module _ {p : Accounts} {n : ℕ} {m : Machine} {t : ℕ} {a : Actor} {d : Duty} {rest : List Duty} where
   mark_kept : (x : ℕ) → AtDuty p n m t a d rest → NotGone a → Spares m.layout t d x
-      → memory_by m t a d (Mark x) ≡ m.memory (Mark x) → MarkFits (machine_by_duty m t a d rest) x
+      → mark_of m.layout (memory_by m t a d) x ≡ mark_of m.layout m.memory x → MarkFits (machine_by_duty m t a d rest) x
   mark_kept x here alive spares same =
       elim (here.core.marks x) [
         | inl none ↦ inl (same ∙ none)
@@ -266,15 +279,16 @@ module _ {p : Accounts} {n : ℕ} {m : Machine} {t : ℕ} {a : Actor} {d : Duty}
 
   -- A duty that clears the mark of row `y` keeps every mark either clear or watched.
   mark_taken : (y x : ℕ) → AtDuty p n m t a d rest → NotGone a → (y ≢ x → Spares m.layout t d x)
-      → ((z : ℕ) → memory_by m t a d (Mark z) ≡ written m.memory (Mark y) 0 (Mark z))
+      → memory_by m t a d ≡ taking m y
       → MarkFits (machine_by_duty m t a d rest) x
   mark_taken y x here alive spares now =
       elim (eqb_tells y x) [
         | inl same ↦
-            inl (now x ∙ ap (λ (z : ℕ). written m.memory (Mark z) 0 (Mark x)) same.1 ∙ written_here m.memory (Mark x) 0)
+            inl (ap (λ (memory : Address → ℕ). mark_of m.layout memory x) now
+            ∙ ap (λ (z : ℕ). mark_of m.layout (taking m z) x) same.1 ∙ taken_mark m.layout m.memory x)
         | inr other ↦
             mark_kept x here alive (spares other.1)
-            (now x ∙ written_apart m.memory (Mark y) (Mark x) 0 (apart_mark y x other.1))
+            (ap (λ (memory : Address → ℕ). mark_of m.layout memory x) now ∙ taken_elsewhere m.layout m.memory y x other.1)
       ]
 
 module _ {p : Accounts} {n : ℕ} {m : Machine} {t : ℕ} {a : Actor} {rest : List Duty} where
@@ -288,13 +302,13 @@ module _ {p : Accounts} {n : ℕ} {m : Machine} {t : ℕ} {a : Actor} {rest : Li
             let one : one_if (y == x) ≡ 1 = ap one_if same.0 in
             let next : sum_by (looks x) (Look y ∷ []) ≡ one_if (y == x) + 0 = sum_by-cons (looks x) (Look y) [] in
             inr (
-              ap (λ (z : ℕ). written m.memory (Mark z) 1 (Mark x)) same.1 ∙ written_here m.memory (Mark x) 1,
+              ap (λ (z : ℕ). mark_of m.layout (setting m z) x) same.1 ∙ set_mark m.layout m.memory x,
               subst (IsCounted m.layout) same.1 counted,
               ByLook (omega (arith, looks_step m t a (SetMark y) rest x here.found here.agenda, one, next)),
             )
-        | inr other ↦ mark_kept x here alive tt (written_apart m.memory (Mark y) (Mark x) 1 (apart_mark y x other.1))
+        | inr other ↦ mark_kept x here alive tt (set_elsewhere m.layout m.memory y x other.1)
       ]
-  marks_after (TakeMark y) here alive x = mark_taken y x here alive (λ ne. ne) (λ z. refl)
-  marks_after (Scan y k) here alive x = mark_taken (row_at m.layout t y) x here alive (λ ne. ne) (λ z. refl)
-  marks_after (ClaimMark y) here alive x = mark_taken y x here alive (λ ne. tt) (λ z. refl)
+  marks_after (TakeMark y) here alive x = mark_taken y x here alive (λ ne. ne) refl
+  marks_after (Scan y k) here alive x = mark_taken (row_at m.layout t y) x here alive (λ ne. ne) refl
+  marks_after (ClaimMark y) here alive x = mark_taken y x here alive (λ ne. tt) refl
   marks_after d here alive x = mark_kept x here alive tt refl

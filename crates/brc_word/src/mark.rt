@@ -1,0 +1,34 @@
+//! Mark words. Each has the marks of 64 rows of one thread, so that one load looks at all of them.
+
+ghost use Rattle.std.specs.Prelude.{◌≡◌, ◌<◌};
+ghost use Rattle.brc_word.specs.Words.{mark_at, mark_mask, marks_of_word, other_marks};
+
+/// The marks of a mark word.
+pub const MARKS_OF_WORD: u32 = 64;
+
+/// Returns the mark in the bit: 1 if it is set, else 0.
+#[inline(always)]
+pub fn mark_at(word: u64, bit: u32) -> u64
+    requires bit { bit < marks_of_word }
+    ensures { result ≡ mark_at word bit }
+{
+    (word >> bit) & 1
+}
+
+/// Returns the mask of one bit: an or with it sets that mark.
+#[inline(always)]
+pub fn mark_mask(bit: u32) -> u64
+    requires bit { bit < marks_of_word }
+    ensures { result ≡ mark_mask bit }
+{
+    1 << bit
+}
+
+/// Returns the mask of all other bits: an and with it takes that mark.
+#[inline(always)]
+pub fn other_marks(bit: u32) -> u64
+    requires bit { bit < marks_of_word }
+    ensures { result ≡ other_marks bit }
+{
+    !(1 << bit)
+}
