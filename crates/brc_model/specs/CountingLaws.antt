@@ -5,7 +5,7 @@ use Rattle.brc_model.specs.declared.duty.Holding.TheVariants.{ByVariable, AsCall
 use Rattle.brc_word.specs.Words.{dead_word, merged_word}
 use Rattle.brc_model.specs.declared.duty.Reason.TheVariants.{Handed}
 use Rattle.brc_model.specs.declared.duty.Duty.{Duty}
-use Rattle.brc_model.specs.declared.duty.Duty.TheVariants.{RetainLoad, ReleaseLoad, MergeExchange, BirthKind, KindLoad, LockGate, UnlockGate, CellLoad, Settle, ClaimMark, Leave}
+use Rattle.brc_model.specs.declared.duty.Duty.TheVariants.{RetainLoad, ReleaseLoad, MergeExchange, BirthKind, KindLoad, LockGate, UnlockGate, CellLoad, Settle, ClaimMark, MarksLoad, Leave}
 use Rattle.brc_model.specs.declared.actor.Status.TheVariants.{Gone}
 use Rattle.brc_model.specs.declared.address.Address.TheVariants.{Shared, KindOf, Cell}
 use Rattle.brc_model.specs.declared.layout.Layout.{Layout}
@@ -14,7 +14,7 @@ use Rattle.brc_model.specs.AbstractState.{PassOn, Holder, ByThread, ByCell, Refe
 use Rattle.brc_model.specs.References.{held, reference_of, word_holds}
 use Rattle.brc_model.specs.Duties.{address_of, cells_of}
 use Rattle.brc_model.specs.Moves.{gain}
-use Rattle.brc_model.specs.Layout.{row_count, row_at, block_of, is_immortal_row, IsCounted}
+use Rattle.brc_model.specs.Layout.{row_count, row_at, block_of, mark_words_of, is_immortal_row, IsCounted}
 use Rattle.brc_model.specs.Limits.{cell_limit}
 use Rattle.brc_model.specs.declared.actor.Actor.{Actor}
 use Rattle.brc_model.specs.Machine.{Machine, Unborn, has_room, is_running, used_by, with_actor, with_moves, machine_by_duty}
@@ -161,6 +161,12 @@ abbrev pub ClaimsBegin : Type 0
 ClaimsBegin = (p : Accounts) (n : ℕ) (m : Machine) (t : ℕ) (a : Actor) (x : ℕ) → Counts p n m → IsReady m t a
     → a.aside ≡ [] → block_of m.layout x ≡ t → x < row_count m.layout
     → Counts p n (with_actor m t (working a (ClaimMark x ∷ []) a.aside))
+
+-- A ready thread that has put nothing aside begins to load a mark word of its own block.
+abbrev pub MarkLoadsBegin : Type 0
+MarkLoadsBegin = (p : Accounts) (n : ℕ) (m : Machine) (t : ℕ) (a : Actor) (w : ℕ) → Counts p n m → IsReady m t a
+    → a.aside ≡ [] → w < mark_words_of m.layout t
+    → Counts p n (with_actor m t (working a (MarksLoad w ∷ []) a.aside))
 
 -- A ready thread that holds nothing, has put nothing aside and has an empty chain begins to leave.
 abbrev pub ExitsBegin : Type 0

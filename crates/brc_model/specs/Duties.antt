@@ -1,16 +1,16 @@
 -- Duties. A duty is one step on one word. What a thread still has to do inside an instruction or its exit is its
 -- agenda, a list of duties. Which duties follow a duty depends on the value that its step finds.
-use Rattle.std.specs.Prelude.{ℕ, zero, suc, ◌+◌, ◌-◌, Bool, ◌&&◌, ◌||◌, ◌==◌, nat_lt, if◌then◌else◌, List, [], ◌∷◌, ◌++◌, Option, None, Some}
+use Rattle.std.specs.Prelude.{ℕ, zero, suc, ◌+◌, ◌-◌, ◌*◌, Bool, ◌&&◌, ◌||◌, ◌==◌, nat_lt, if◌then◌else◌, List, [], ◌∷◌, ◌++◌, Option, None, Some}
 use Rattle.brc_word.specs.declared.values.TheConstants.{RUNNING, LEAVING, GONE, SET, NOBODY, ONE_REFERENCE, EMPTY, FULL, LIST, FILE, SOCK}
 use Rattle.brc_model.specs.declared.duty.Holding.TheVariants.{InFlight}
 use Rattle.brc_model.specs.declared.duty.Reason.{Reason}
 use Rattle.brc_model.specs.declared.duty.Reason.TheVariants.{Own, Handed}
 use Rattle.brc_model.specs.declared.duty.Duty.{Duty}
-use Rattle.brc_model.specs.declared.duty.Duty.TheVariants.{RetainLoad, RetainStore, RetainAdd, ReleaseLoad, ReleaseStore, DecideAtZero, SharedLoad, SharedExchange, SetMark, Look, TakeMark, MergeSwap, MergeLoad, MergeExchange, Die, Settle, SettleKind, SettleCell, TakeSlot, CloseResource, SettleEnd, Leave, Scan, Finish, ClaimMark, BirthKind, BirthSlot, BirthLocal, KindLoad, LockGate, UnlockGate, CellLoad, CellSwap, LendSlot, ReturnSlot}
+use Rattle.brc_model.specs.declared.duty.Duty.TheVariants.{RetainLoad, RetainStore, RetainAdd, ReleaseLoad, ReleaseStore, DecideAtZero, SharedLoad, SharedExchange, SetMark, Look, TakeMark, MergeSwap, MergeLoad, MergeExchange, Die, Settle, SettleKind, SettleCell, TakeSlot, CloseResource, SettleEnd, Leave, Scan, TakeFound, Finish, ClaimMark, MarksLoad, BirthKind, BirthSlot, BirthLocal, KindLoad, LockGate, UnlockGate, CellLoad, CellSwap, LendSlot, ReturnSlot}
 use Rattle.brc_model.specs.declared.address.Address.{Address}
 use Rattle.brc_model.specs.declared.layout.Layout.{Layout}
 use Rattle.brc_model.specs.declared.address.Address.TheVariants.{Local, Shared, Gate, KindOf, Marks, Cell, Slot, Resource, ThreadWord}
-use Rattle.brc_word.specs.Words.{most_local, local_word, owner_part, local_part, is_immortal_word, fresh_word, dead_word, released_word, merged_word, free_word, locked_word, dying_word, next_part, closed_word, kind_part, argument_part, mark_at, marked_word, unmarked_word}
+use Rattle.brc_word.specs.Words.{most_local, local_word, owner_part, local_part, is_immortal_word, fresh_word, dead_word, released_word, merged_word, free_word, locked_word, dying_word, next_part, closed_word, kind_part, argument_part, marks_of_word, mark_at, marked_word, unmarked_word, lowest_mark, first_marks}
 use Rattle.brc_model.specs.Layout.{block_of, row_at, mark_word, mark_bit}
 
 -- ---- the row that a duty names
@@ -49,9 +49,15 @@ duty_row (CellSwap x i y h) = Some x
 duty_row (LendSlot x) = Some x
 duty_row (ReturnSlot x) = Some x
 duty_row Settle = None
-duty_row (Leave i n) = None
-duty_row (Scan i n) = None
+duty_row (Leave w n) = None
+duty_row (Scan w n) = None
+duty_row (TakeFound w marks) = None
+duty_row (MarksLoad w) = None
 duty_row Finish = None
+
+-- the row of the lowest of the marks that thread t has found in a mark word of its block
+abbrev pub found_row : Layout → ℕ → ℕ → ℕ → ℕ
+found_row layout t w marks = row_at layout t (marks_of_word * w + lowest_mark marks)
 
 -- ---- the word of a step
 
@@ -82,10 +88,12 @@ address_of layout t head (SettleCell x i n) = Cell x i
 address_of layout t head (TakeSlot x) = Slot x
 address_of layout t head (CloseResource x) = Resource x
 address_of layout t head (SettleEnd x) = Gate x
-address_of layout t head (Leave i n) = ThreadWord t
-address_of layout t head (Scan i n) = mark_place layout (row_at layout t i)
+address_of layout t head (Leave w n) = ThreadWord t
+address_of layout t head (Scan w n) = Marks t w
+address_of layout t head (TakeFound w marks) = mark_place layout (found_row layout t w marks)
 address_of layout t head Finish = ThreadWord t
 address_of layout t head (ClaimMark x) = mark_place layout x
+address_of layout t head (MarksLoad w) = Marks t w
 address_of layout t head (BirthKind x h w) = KindOf x
 address_of layout t head (BirthSlot x h) = Slot x
 address_of layout t head (BirthLocal x h) = Local x
@@ -120,10 +128,13 @@ new_word layout t head (SettleCell x i n) found = EMPTY
 new_word layout t head (TakeSlot x) found = EMPTY
 new_word layout t head (CloseResource x) found = found + 1
 new_word layout t head (SettleEnd x) found = closed_word
-new_word layout t head (Leave i n) found = LEAVING
-new_word layout t head (Scan i n) found = unmarked_word found (mark_bit layout (row_at layout t i))
+new_word layout t head (Leave w n) found = LEAVING
+new_word layout t head (Scan w n) found = found
+new_word layout t head (TakeFound w marks) found =
+    unmarked_word found (mark_bit layout (found_row layout t w marks))
 new_word layout t head Finish found = GONE
 new_word layout t head (ClaimMark x) found = unmarked_word found (mark_bit layout x)
+new_word layout t head (MarksLoad w) found = found
 new_word layout t head (BirthKind x h w) found = w
 new_word layout t head (BirthSlot x h) found = FULL
 new_word layout t head (BirthLocal x h) found = local_word t 1
@@ -213,11 +224,15 @@ continuation layout t running head (SettleCell x i n) found = release_found foun
 continuation layout t running head (TakeSlot x) found = CloseResource x ∷ []
 continuation layout t running head (CloseResource x) found = SettleEnd x ∷ []
 continuation layout t running head (SettleEnd x) found = []
-continuation layout t running head (Leave i n) found = Scan i n ∷ Finish ∷ []
-continuation layout t running head (Scan i n) found =
-    claimed (row_at layout t i) (mark_at found (mark_bit layout (row_at layout t i))) ++ Settle ∷ Scan (i + 1) (n - 1) ∷ []
+continuation layout t running head (Leave w n) found = Scan w n ∷ Finish ∷ []
+continuation layout t running head (Scan w n) found =
+    TakeFound w (first_marks found n) ∷ Scan (w + 1) (n - marks_of_word) ∷ []
+continuation layout t running head (TakeFound w marks) found =
+    claimed (found_row layout t w marks) (mark_at found (mark_bit layout (found_row layout t w marks)))
+    ++ Settle ∷ TakeFound w (unmarked_word marks (lowest_mark marks)) ∷ []
 continuation layout t running head Finish found = []
 continuation layout t running head (ClaimMark x) found = claimed x (mark_at found (mark_bit layout x)) ++ Settle ∷ []
+continuation layout t running head (MarksLoad w) found = []
 continuation layout t running head (BirthKind x h w) found =
     if has_resource w then BirthSlot x h ∷ [] else BirthLocal x h ∷ []
 continuation layout t running head (BirthSlot x h) found = BirthLocal x h ∷ []
@@ -236,9 +251,10 @@ new_head head (Die x) found = x + 1
 new_head head Settle found = next_part found
 new_head head _ found = head
 
--- Skips the duties that need no step: settling an empty chain, and scanning no rows.
+-- Skips the duties that need no step: settling an empty chain, scanning no rows, and taking no marks.
 abbrev pub ready : ℕ → List Duty → List Duty
 ready head [] = []
 ready zero (Settle ∷ rest) = ready zero rest
-ready head (Scan i zero ∷ rest) = ready head rest
+ready head (Scan w zero ∷ rest) = ready head rest
+ready head (TakeFound w zero ∷ rest) = ready head rest
 ready head (d ∷ rest) = d ∷ rest

@@ -7,7 +7,7 @@ use Rattle.brc_model.specs.Kinds.{kind_of_word, is_counted_kind}
 use Rattle.brc_model.specs.declared.duty.Reason.{Reason}
 use Rattle.brc_model.specs.declared.duty.Reason.TheVariants.{Own, Handed}
 use Rattle.brc_model.specs.declared.duty.Duty.{Duty}
-use Rattle.brc_model.specs.declared.duty.Duty.TheVariants.{RetainLoad, RetainStore, RetainAdd, ReleaseLoad, ReleaseStore, DecideAtZero, SharedLoad, SharedExchange, SetMark, Look, TakeMark, MergeSwap, MergeLoad, MergeExchange, Die, Settle, SettleKind, SettleCell, TakeSlot, CloseResource, SettleEnd, Leave, Scan, Finish, ClaimMark, BirthKind, BirthSlot, BirthLocal, KindLoad, LockGate, UnlockGate, CellLoad, CellSwap, LendSlot, ReturnSlot}
+use Rattle.brc_model.specs.declared.duty.Duty.TheVariants.{RetainLoad, RetainStore, RetainAdd, ReleaseLoad, ReleaseStore, DecideAtZero, SharedLoad, SharedExchange, SetMark, Look, TakeMark, MergeSwap, MergeLoad, MergeExchange, Die, Settle, SettleKind, SettleCell, TakeSlot, CloseResource, SettleEnd, Leave, Scan, TakeFound, Finish, ClaimMark, MarksLoad, BirthKind, BirthSlot, BirthLocal, KindLoad, LockGate, UnlockGate, CellLoad, CellSwap, LendSlot, ReturnSlot}
 use Rattle.brc_model.specs.declared.address.Address.{Address}
 use Rattle.brc_model.specs.declared.address.Address.TheVariants.{Local, Shared, Gate, KindOf, Cell, Slot, ThreadWord}
 use Rattle.brc_model.specs.declared.actor.Status.{Status}
@@ -16,7 +16,7 @@ use Rattle.brc_model.specs.Duties.{cells_of, has_resource, resources_of}
 use Rattle.brc_model.specs.declared.actor.Actor.{Actor}
 use Rattle.brc_model.specs.Machine.{Unborn, Dying, Machine}
 use Rattle.brc_model.specs.References.{held, reference_of}
-use Rattle.brc_model.specs.Layout.{block_of, block_size, row_at, IsCounted}
+use Rattle.brc_model.specs.Layout.{block_of, block_size, row_at, mark_words_of, IsCounted}
 
 -- the thread word of a status
 abbrev pub status_word : Status → ℕ
@@ -143,10 +143,12 @@ HeadFits m t a (CloseResource x) rest =
     (IsCounted m.layout x) × (m.life x ≡ Dying t) × IsDyingWord t (m.memory (Gate x)) × IsEmpty m.memory x
 HeadFits m t a (SettleEnd x) rest =
     (IsCounted m.layout x) × (m.life x ≡ Dying t) × IsDyingWord t (m.memory (Gate x)) × IsEmpty m.memory x
-HeadFits m t a (Leave i n) rest = Unit {0}
-HeadFits m t a (Scan i n) rest = 0 < n
+HeadFits m t a (Leave w n) rest = Unit {0}
+HeadFits m t a (Scan w n) rest = 0 < n
+HeadFits m t a (TakeFound w marks) rest = 0 < marks
 HeadFits m t a Finish rest = Unit {0}
 HeadFits m t a (ClaimMark x) rest = block_of m.layout x ≡ t
+HeadFits m t a (MarksLoad w) rest = w < mark_words_of m.layout t
 HeadFits m t a (BirthKind x h w) rest = IsNext m t a x × (rest ≡ []) × (is_counted_kind (kind_of_word w) ≡ true)
 HeadFits m t a (BirthSlot x h) rest =
     IsNext m t a x × (rest ≡ []) × HasCountedKind m.memory x × (resources_of (m.memory (KindOf x)) ≡ 1)

@@ -1,8 +1,9 @@
 -- A thread's open work: the order of its agenda, the rows that it finalises, and the duties that it has put aside.
-use Rattle.std.specs.Prelude.{◌≡◌, ◌⊎◌, ℕ, ◌+◌, ◌<◌, ◌≤◌, Bool, true, false, ◌==◌, nat_le, List, [], ◌∷◌, Option, None, Some, count_by, if◌then◌else◌}
-use Rattle.brc_word.specs.Words.{half, dying_word}
+use Rattle.std.specs.Prelude.{◌≡◌, ◌⊎◌, ℕ, ◌+◌, ◌-◌, ◌*◌, ◌/◌, ◌%◌, ◌^◌, min, ◌<◌, ◌≤◌, Bool, true, false, ◌&&◌, ◌||◌, ◌==◌, nat_le, List, [], ◌∷◌, Option, None, Some, count_by, if◌then◌else◌}
+use Rattle.brc_word.specs.declared.values.TheConstants.{SET}
+use Rattle.brc_word.specs.Words.{half, dying_word, marks_of_word, mark_at}
 use Rattle.brc_model.specs.declared.duty.Duty.{Duty}
-use Rattle.brc_model.specs.declared.duty.Duty.TheVariants.{RetainLoad, RetainStore, RetainAdd, ReleaseLoad, ReleaseStore, DecideAtZero, SharedLoad, SharedExchange, SetMark, Look, TakeMark, MergeSwap, MergeLoad, MergeExchange, Die, Settle, SettleKind, SettleCell, TakeSlot, CloseResource, SettleEnd, Leave, Scan, Finish, BirthKind, BirthSlot, BirthLocal, KindLoad, LockGate, UnlockGate, CellLoad, LendSlot, ReturnSlot}
+use Rattle.brc_model.specs.declared.duty.Duty.TheVariants.{RetainLoad, RetainStore, RetainAdd, ReleaseLoad, ReleaseStore, DecideAtZero, SharedLoad, SharedExchange, SetMark, Look, TakeMark, MergeSwap, MergeLoad, MergeExchange, Die, Settle, SettleKind, SettleCell, TakeSlot, CloseResource, SettleEnd, Leave, Scan, TakeFound, Finish, BirthKind, BirthSlot, BirthLocal, KindLoad, LockGate, UnlockGate, CellLoad, LendSlot, ReturnSlot}
 use Rattle.brc_model.specs.declared.address.Address.{Address}
 use Rattle.brc_model.specs.declared.address.Address.TheVariants.{Gate}
 use Rattle.brc_model.specs.declared.actor.Status.{Status}
@@ -15,17 +16,24 @@ use Rattle.brc_model.specs.Knowledge.{HeadFits}
 
 -- ---- what is for later
 
+-- The marks are those of rows of the word that the thread has used.
+abbrev pub AreUsedMarks : ℕ → ℕ → ℕ → Type 0
+AreUsedMarks used w marks = marks < 2 ^ min (used - marks_of_word * w) marks_of_word
+
 -- What may be behind an agenda's first duty: the rest of a dying list, settling, and the end of the thread's exit. A
--- leaving thread still has to scan the marks of its used rows, from the index `i` on.
+-- leaving thread still has to scan the marks of its used rows, from the mark word `w` on, and to take those that it has
+-- found.
 abbrev pub Later : ℕ → Status → List Duty → Type 0
 Later used status [] = status ≡ Running
 Later used status (Settle ∷ rest) = Later used status rest
 Later used status (SettleCell x i n ∷ rest) = Later used status rest
 Later used status (SettleEnd x ∷ rest) = Later used status rest
-Later used status (Leave i n ∷ []) =
-    (status ≡ Running) × (i ≡ 0) × (n ≡ used)
-Later used status (Scan i n ∷ rest) =
-    (status ≡ Leaving) × (i + n ≡ used) × Later used status rest
+Later used status (Leave w n ∷ []) =
+    (status ≡ Running) × (w ≡ 0) × (n ≡ used)
+Later used status (Scan w n ∷ rest) =
+    (status ≡ Leaving) × (n ≡ used - marks_of_word * w) × Later used status rest
+Later used status (TakeFound w marks ∷ rest) =
+    (status ≡ Leaving) × AreUsedMarks used w marks × Later used status rest
 Later used status (Finish ∷ []) = status ≡ Leaving
 Later used status _ = ⊥
 
@@ -33,8 +41,9 @@ Later used status _ = ⊥
 abbrev pub Agenda : ℕ → Status → List Duty → Type 0
 Agenda used status [] = Later used status []
 Agenda used status (Settle ∷ rest) = Later used status (Settle ∷ rest)
-Agenda used status (Leave i n ∷ rest) = Later used status (Leave i n ∷ rest)
-Agenda used status (Scan i n ∷ rest) = Later used status (Scan i n ∷ rest)
+Agenda used status (Leave w n ∷ rest) = Later used status (Leave w n ∷ rest)
+Agenda used status (Scan w n ∷ rest) = Later used status (Scan w n ∷ rest)
+Agenda used status (TakeFound w marks ∷ rest) = Later used status (TakeFound w marks ∷ rest)
 Agenda used status (Finish ∷ rest) = Later used status (Finish ∷ rest)
 Agenda used status (d ∷ rest) = Later used status rest
 
@@ -50,10 +59,16 @@ exits Running agenda = has_leave agenda
 exits Leaving agenda = true
 exits Gone agenda = true
 
--- Says whether the thread's exit still has to look at the mark of its row with the index.
+-- Says whether the mark of the row with the index is among those that were found in the word.
+abbrev pub is_found : ℕ → ℕ → ℕ → Bool
+is_found i w marks = (i / marks_of_word == w) && (mark_at marks (i % marks_of_word) == SET)
+
+-- Says whether the thread's exit still has to look at the mark of its row with the index: it hasn't loaded the mark's
+-- word yet, or it has found the mark there and hasn't taken it yet.
 abbrev pub scans : ℕ → List Duty → Bool
 scans i [] = false
-scans i (Scan j n ∷ rest) = nat_le j i
+scans i (Scan w n ∷ rest) = nat_le w (i / marks_of_word)
+scans i (TakeFound w marks ∷ rest) = is_found i w marks || scans i rest
 scans i (d ∷ rest) = scans i rest
 
 -- a thread that is gone has nothing to do
@@ -70,7 +85,8 @@ abbrev pub IsSettled : ℕ → List Duty → Type 0
 IsSettled head [] = Unit {0}
 IsSettled head (Settle ∷ rest) = IsSettled 0 rest
 IsSettled head (Leave x k ∷ rest) = (head ≡ 0) × IsSettled 0 rest
-IsSettled head (Scan x k ∷ rest) = (head ≡ 0) × IsSettled 0 rest
+IsSettled head (Scan w n ∷ rest) = (head ≡ 0) × IsSettled 0 rest
+IsSettled head (TakeFound w marks ∷ rest) = (head ≡ 0) × IsSettled 0 rest
 IsSettled head (Finish ∷ rest) = (head ≡ 0) × IsSettled 0 rest
 IsSettled head (d ∷ rest) = IsSettled 1 rest
 

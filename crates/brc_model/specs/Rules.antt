@@ -7,15 +7,15 @@ use Rattle.brc_model.specs.declared.duty.Holding.{Holding}
 use Rattle.brc_model.specs.declared.duty.Reason.{Reason}
 use Rattle.brc_model.specs.declared.duty.Reason.TheVariants.{Own, Handed}
 use Rattle.brc_model.specs.declared.duty.Duty.{Duty}
-use Rattle.brc_model.specs.declared.duty.Duty.TheVariants.{RetainLoad, RetainStore, RetainAdd, ReleaseLoad, ReleaseStore, DecideAtZero, SharedLoad, SharedExchange, SetMark, Look, TakeMark, MergeSwap, MergeLoad, MergeExchange, Die, Settle, SettleKind, SettleCell, TakeSlot, CloseResource, SettleEnd, Leave, Scan, Finish, ClaimMark, BirthKind, BirthSlot, BirthLocal, KindLoad, LockGate, UnlockGate, CellLoad, CellSwap, LendSlot, ReturnSlot}
+use Rattle.brc_model.specs.declared.duty.Duty.TheVariants.{RetainLoad, RetainStore, RetainAdd, ReleaseLoad, ReleaseStore, DecideAtZero, SharedLoad, SharedExchange, SetMark, Look, TakeMark, MergeSwap, MergeLoad, MergeExchange, Die, Settle, SettleKind, SettleCell, TakeSlot, CloseResource, SettleEnd, Leave, Scan, TakeFound, Finish, ClaimMark, MarksLoad, BirthKind, BirthSlot, BirthLocal, KindLoad, LockGate, UnlockGate, CellLoad, CellSwap, LendSlot, ReturnSlot}
 use Rattle.brc_model.specs.declared.address.Address.{Address}
 use Rattle.brc_model.specs.declared.address.Address.TheVariants.{KindOf}
-use Rattle.brc_word.specs.Words.{most_local, local_word, local_part, is_immortal_word, fresh_word, dead_word, merged_word, free_word, locked_word, dying_word, closed_word, mark_at, marked_word, unmarked_word}
+use Rattle.brc_word.specs.Words.{most_local, local_word, local_part, is_immortal_word, fresh_word, dead_word, merged_word, free_word, locked_word, dying_word, closed_word, marks_of_word, mark_at, marked_word, unmarked_word, lowest_mark, first_marks}
 use Rattle.brc_model.specs.Kinds.{kind_of_word}
 use Rattle.brc_model.specs.AbstractState.{Move, Finalise}
-use Rattle.brc_model.specs.Duties.{new_word, continuation, counts_locally, once_merged, has_resource, cells_of, cells_from, release_found}
+use Rattle.brc_model.specs.Duties.{found_row, new_word, continuation, counts_locally, once_merged, has_resource, cells_of, cells_from, release_found}
 use Rattle.brc_model.specs.declared.layout.Layout.{Layout}
-use Rattle.brc_model.specs.Layout.{row_at, mark_bit}
+use Rattle.brc_model.specs.Layout.{mark_bit}
 use Rattle.brc_model.specs.Moves.{reference_effects, gain, lose, put_in_flight, take_out, put_in, birth}
 
 -- A release loses the thread's own reference. A reference that the queue held was lost when its object was queued.
@@ -161,6 +161,9 @@ module _ (memory : Address → ℕ) (layout : Layout) (t : ℕ) (running : Bool)
     -- the owner has taken the mark first
     MarkGone : (x found : ℕ) → mark_at found (mark_bit layout x) ≢ SET
         → Goes (TakeMark x) found (unmarked_word found (mark_bit layout x)) [] []
+    -- a running owner, between two calls, looks which marks of a word are set
+    MarksLooked : (word found : ℕ)
+        → Goes (MarksLoad word) found found [] []
     -- a running owner, between two calls, finds the mark set, and merges the object
     MarkClaimed : (x found : ℕ) → mark_at found (mark_bit layout x) ≡ SET
         → Goes (ClaimMark x) found (unmarked_word found (mark_bit layout x)) (MergeSwap x Handed ∷ Settle ∷ []) []
@@ -220,15 +223,23 @@ module _ (memory : Address → ℕ) (layout : Layout) (t : ℕ) (running : Bool)
     -- ---- a thread's exit: it announces the exit, and only then scans its marks
 
     -- whoever sets a mark from then on finds that the owner no longer runs
-    SaysLeaving : (first rows found : ℕ)
-        → Goes (Leave first rows) found LEAVING (Scan first rows ∷ Finish ∷ []) []
-    -- the object is merged, the reference that the queue held released, and what dies deallocated, before the next row
-    ScanFindsMark : (index rows found : ℕ) → mark_at found (mark_bit layout (row_at layout t index)) ≡ SET
-        → Goes (Scan index rows) found (unmarked_word found (mark_bit layout (row_at layout t index)))
-        (MergeSwap (row_at layout t index) Handed ∷ Settle ∷ Scan (index + 1) (rows - 1) ∷ []) []
-    -- the mark was clear: the thread goes on to its next row
-    ScanFindsNone : (index rows found : ℕ) → mark_at found (mark_bit layout (row_at layout t index)) ≢ SET
-        → Goes (Scan index rows) found (unmarked_word found (mark_bit layout (row_at layout t index))) (Settle ∷ Scan (index + 1) (rows - 1) ∷ []) []
+    SaysLeaving : (word rows found : ℕ)
+        → Goes (Leave word rows) found LEAVING (Scan word rows ∷ Finish ∷ []) []
+    -- the marks of used rows that the load finds are taken next, one by one
+    MarksRead : (word rows found : ℕ)
+        → Goes (Scan word rows) found found
+        (TakeFound word (first_marks found rows) ∷ Scan (word + 1) (rows - marks_of_word) ∷ []) []
+    -- the object is merged, the reference that the queue held released, and what dies deallocated, before the next mark
+    FoundMarkTaken : (word marks found : ℕ) → mark_at found (mark_bit layout (found_row layout t word marks)) ≡ SET
+        → Goes (TakeFound word marks) found
+        (unmarked_word found (mark_bit layout (found_row layout t word marks)))
+        (MergeSwap (found_row layout t word marks) Handed ∷ Settle
+        ∷ TakeFound word (unmarked_word marks (lowest_mark marks)) ∷ []) []
+    -- the thread that queued the object has taken the mark back since the load
+    FoundMarkGone : (word marks found : ℕ) → mark_at found (mark_bit layout (found_row layout t word marks)) ≢ SET
+        → Goes (TakeFound word marks) found
+        (unmarked_word found (mark_bit layout (found_row layout t word marks)))
+        (Settle ∷ TakeFound word (unmarked_word marks (lowest_mark marks)) ∷ []) []
     -- the thread takes no further step
     SaysGone : (found : ℕ)
         → Goes Finish found GONE [] []

@@ -24,9 +24,8 @@ pub enum Reason {
     Handed,
 }
 
-/// What a thread still has to do: one step on one word. `row` is the row of the duty's object, and `index` that of a
-/// row in the thread's own block. `word` is the value that an earlier step found, on which this step relies; of a birth
-/// it is the kind word.
+/// What a thread still has to do: one step on one word. `row` is the row of the duty's object. Where a duty has a row,
+/// `word` is the value that an earlier step found, on which this step relies; of a birth it is the kind word.
 #[derive(Clone, Copy, Debug)]
 pub enum Duty {
     /// Loads the local word, to make a new reference for the holder.
@@ -130,21 +129,32 @@ pub enum Duty {
     SettleEnd {
         row: u32,
     },
-    /// Announces the thread's exit. The thread then scans the marks of `rows` rows of its block, from `index` on.
+    /// Announces the thread's exit. The thread then scans the marks of `rows` rows of its block, from the mark word
+    /// with the number `word` on.
     Leave {
-        index: u32,
+        word: u32,
         rows: u32,
     },
-    /// Takes the mark of the thread's row with the index. `rows` rows are still to be scanned, this one included.
+    /// Loads the thread's mark word with the number `word`. `rows` rows are still to be scanned, those of this word
+    /// included.
     Scan {
-        index: u32,
+        word: u32,
         rows: u32,
+    },
+    /// Takes the lowest of the `marks` that the thread's exit found set in its mark word and hasn't taken yet.
+    TakeFound {
+        word: u32,
+        marks: u64,
     },
     /// Says that the thread is gone.
     Finish,
     /// Takes the mark of a row of the thread's own block, while the thread runs.
     ClaimMark {
         row: u32,
+    },
+    /// Loads a mark word of the thread's own block, while the thread runs.
+    MarksLoad {
+        word: u32,
     },
     /// Stores the kind word of a new object for the holder.
     BirthKind {

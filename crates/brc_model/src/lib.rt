@@ -64,7 +64,7 @@ pub use state::{Exit, State, VarState};
 pub use thread::{Call, Choice};
 pub use work_laws::{
     births_begin, cell_loads_begin, claims_begin, exits_begin, immortals_are_free, kinds_are_asked,
-    locks_begin, releases_begin, retains_begin, settles_begin, unlocks_begin, work_is_put_aside,
+    locks_begin, mark_loads_begin, releases_begin, retains_begin, settles_begin, unlocks_begin, work_is_put_aside,
     work_is_taken_back,
 };
 pub use world_laws::{

@@ -1,7 +1,7 @@
 //! Laws of the counting machine between two duties: what running threads may do with their open work, and which work
 //! they may begin.
 
-ghost use Rattle.brc_model.specs.CountingLaws.{WorkIsPutAside, WorkIsTakenBack, RetainsBegin, ReleasesBegin, BirthsBegin, KindsAreAsked, LocksBegin, UnlocksBegin, CellLoadsBegin, SettlesBegin, ClaimsBegin, ExitsBegin, ImmortalsAreFree};
+ghost use Rattle.brc_model.specs.CountingLaws.{WorkIsPutAside, WorkIsTakenBack, RetainsBegin, ReleasesBegin, BirthsBegin, KindsAreAsked, LocksBegin, UnlocksBegin, CellLoadsBegin, SettlesBegin, ClaimsBegin, MarkLoadsBegin, ExitsBegin, ImmortalsAreFree};
 
 /// States that the invariant holds after a thread puts its only duty aside, if the duty may wait.
 pub fn work_is_put_aside()
@@ -60,6 +60,12 @@ pub fn settles_begin()
 /// its own block.
 pub fn claims_begin()
     ensures { ClaimsBegin }
+{}
+
+/// States that the invariant holds after a ready thread that has put nothing aside begins to load a mark word of its own
+/// block.
+pub fn mark_loads_begin()
+    ensures { MarkLoadsBegin }
 {}
 
 /// States that the invariant holds after a ready thread that holds nothing, has put nothing aside and has an empty

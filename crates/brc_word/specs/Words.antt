@@ -1,6 +1,7 @@
 -- The words of a header. (PEP 703, Biased Reference Counting: an owning thread, a local count that only the owner
 -- changes, and a shared field of a count and a state in its two lowest bits.)
-use Rattle.std.specs.Prelude.{ℕ, ◌+◌, ◌-◌, ◌*◌, ◌/◌, ◌%◌, ◌^◌, Bool, ◌==◌, if◌then◌else◌, bit_and, bit_or, bit_xor}
+use Rattle.std.specs.Prelude.{ℕ, ◌+◌, ◌-◌, ◌*◌, ◌/◌, ◌%◌, ◌^◌, Bool, ◌==◌, if◌then◌else◌, bit_and, bit_or, bit_xor, min}
+use Rattle.std.specs.Int.{w64, trailing_zeros}
 use Rattle.brc_word.specs.declared.values.TheConstants.{ONE_REFERENCE, QUEUED, MERGED, FREE}
 
 -- the number of values of half a word
@@ -82,6 +83,14 @@ marked_word word bit = bit_or word (mark_mask bit)
 -- the mark is taken: the other ones stay
 abbrev pub unmarked_word : ℕ → ℕ → ℕ
 unmarked_word word bit = bit_xor word (bit_and word (mark_mask bit))
+
+-- the lowest bit whose mark is set
+abbrev pub lowest_mark : ℕ → ℕ
+lowest_mark word = trailing_zeros w64 word
+
+-- the marks of the first n rows of the word
+abbrev pub first_marks : ℕ → ℕ → ℕ
+first_marks word n = word % 2 ^ min n marks_of_word
 
 -- ---- gates, kinds and thread words
 

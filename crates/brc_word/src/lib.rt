@@ -23,6 +23,8 @@ pub use laws::{header_words, local_words_are_headers, pack_and_unpack, shared_wo
 pub use local::{
     is_immortal, local_count, local_with_one_less, local_with_one_more, local_word, read_local,
 };
-pub use mark::{MARKS_OF_WORD, mark_at, mark_mask, other_marks};
+pub use mark::{
+    MARKS_OF_WORD, first_marks, lowest_mark, mark_at, mark_mask, other_marks, without_mark,
+};
 pub use shared::{Phase, Shared, SharedChoice, merge_word, pack, release_choice, unpack};
 pub use shared_word::{is_dead, is_fresh, merged, released, shared_with_one_more};

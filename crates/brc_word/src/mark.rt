@@ -1,7 +1,7 @@
 //! Mark words. Each has the marks of 64 rows of one thread, so that one load looks at all of them.
 
 ghost use Rattle.std.specs.Prelude.{◌≡◌, ◌<◌};
-ghost use Rattle.brc_word.specs.Words.{mark_at, mark_mask, marks_of_word, other_marks};
+ghost use Rattle.brc_word.specs.Words.{first_marks, lowest_mark, mark_at, mark_mask, marks_of_word, other_marks, unmarked_word};
 
 /// The marks of a mark word.
 pub const MARKS_OF_WORD: u32 = 64;
@@ -31,4 +31,35 @@ pub fn other_marks(bit: u32) -> u64
     ensures { result ≡ other_marks bit }
 {
     !(1 << bit)
+}
+
+/// Returns the word once the mark in the bit is taken.
+#[inline(always)]
+pub fn without_mark(word: u64, bit: u32) -> u64
+    requires bit { bit < marks_of_word }
+    ensures { result ≡ unmarked_word word bit }
+{
+    word & !(1 << bit)
+}
+
+/// Returns the lowest bit whose mark is set.
+#[inline(always)]
+pub fn lowest_mark(word: u64) -> u32
+    requires some { 0 < word }
+    ensures lowest { result ≡ lowest_mark word }
+    ensures bit { result < marks_of_word }
+{
+    word.trailing_zeros()
+}
+
+/// Returns the marks of the first `rows` rows of the word.
+#[inline(always)]
+pub fn first_marks(word: u64, rows: u32) -> u64
+    ensures { result ≡ first_marks word rows }
+{
+    if rows < MARKS_OF_WORD {
+        word & ((1 << rows) - 1)
+    } else {
+        word
+    }
 }

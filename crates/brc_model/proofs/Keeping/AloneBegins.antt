@@ -5,7 +5,7 @@ use Rattle.std.specs.Prelude.{◌⊎◌, count_by}
 use Rattle.std.proofs.lemmas.Bool.{false≢true}
 use Rattle.brc_model.specs.declared.duty.Holding.{Holding}
 use Rattle.brc_model.specs.declared.duty.Duty.{Duty}
-use Rattle.brc_model.specs.declared.duty.Duty.TheVariants.{Settle, Leave, ClaimMark, KindLoad}
+use Rattle.brc_model.specs.declared.duty.Duty.TheVariants.{Settle, Leave, ClaimMark, MarksLoad, KindLoad}
 use Rattle.brc_model.specs.declared.actor.Status.TheVariants.{Running}
 use Rattle.brc_model.specs.Layout.{row_count}
 use Rattle.brc_model.specs.declared.actor.Actor.{Actor}
@@ -18,7 +18,7 @@ use Rattle.brc_model.specs.Gates.{LocksFit}
 use Rattle.brc_model.specs.Invariant.{CoreInvariant, Invariant}
 use Rattle.brc_model.specs.Ranges.{IsSmall}
 use Rattle.brc_model.specs.Counting.{Counts, working, IsReady, HasNoneAbout, IsAtHand}
-use Rattle.brc_model.specs.CountingLaws.{SettlesBegin, ClaimsBegin, ExitsBegin, IsFirstOfChain, KindsAreAsked, ChainsAreThere}
+use Rattle.brc_model.specs.CountingLaws.{SettlesBegin, ClaimsBegin, MarkLoadsBegin, ExitsBegin, IsFirstOfChain, KindsAreAsked, ChainsAreThere}
 use Rattle.brc_model.proofs.Basics.Bag.{one_if_low}
 use Rattle.brc_model.proofs.Frame.Leaves.{locked_alive}
 use Rattle.brc_model.proofs.Limits.Ranges.{row_small, head_small}
@@ -152,6 +152,18 @@ claims_begin p n m t a x counts ready none own there =
       fits = refl;
       settled = tt;
       small = row_small (row_count m.layout) x (ClaimMark x) there (λ y. refl) (omega arith);
+    })
+
+-- The invariant and the ranges hold after a ready thread begins to load a mark word of its block.
+pub mark_loads_begin : MarkLoadsBegin
+mark_loads_begin p n m t a w counts ready none there =
+    alone_begins (MarksLoad w) counts ready none (record {
+      begins = record { lacks = λ k object. refl; extra = λ k object. refl; light = refl };
+      exited = λ e. absurd (false≢true e);
+      knows = there;
+      fits = refl;
+      settled = tt;
+      small = record { row = λ y e. absurd (false≢true e); cells = omega arith };
     })
 
 -- The invariant and the ranges hold after a ready thread that holds nothing begins to leave.
