@@ -1,8 +1,8 @@
 -- What a thread's duty knows of memory, of its thread and of its row, until its step.
-use Rattle.std.specs.Prelude.{◌≡◌, ◌≢◌, ◌⊎◌, ℕ, ◌+◌, ◌<◌, ◌≤◌, Bool, true, false, List, [], ◌∷◌, None, Some, count_by}
+use Rattle.std.specs.Prelude.{◌≡◌, ◌≢◌, ◌⊎◌, ℕ, ◌+◌, ◌-◌, ◌*◌, ◌^◌, min, ◌<◌, ◌≤◌, Bool, true, false, List, [], ◌∷◌, None, Some, count_by}
 use Rattle.brc_word.specs.declared.values.TheConstants.{RUNNING, LEAVING, GONE, MERGED, EMPTY}
 use Rattle.brc_model.specs.declared.duty.Holding.{Holding}
-use Rattle.brc_word.specs.Words.{half, immortal_local, most_local, owner_part, local_part, phase_part, free_word, dying_word}
+use Rattle.brc_word.specs.Words.{half, immortal_local, most_local, owner_part, local_part, phase_part, free_word, dying_word, marks_of_word}
 use Rattle.brc_model.specs.Kinds.{kind_of_word, is_counted_kind}
 use Rattle.brc_model.specs.declared.duty.Reason.{Reason}
 use Rattle.brc_model.specs.declared.duty.Reason.TheVariants.{Own, Handed}
@@ -105,6 +105,10 @@ BehindFits m t (SettleEnd x) =
     (IsCounted m.layout x) × (m.life x ≡ Dying t) × IsDyingWord t (m.memory (Gate x)) × IsEmpty m.memory x
     × (resources_of (m.memory (KindOf x)) ≡ 0)
 BehindFits m t d = Unit {0}
+
+-- The marks are those of rows of the word that the thread has used.
+abbrev pub AreUsedMarks : ℕ → ℕ → ℕ → Type 0
+AreUsedMarks used w marks = marks < 2 ^ min (used - marks_of_word * w) marks_of_word
 
 -- What the duty knows when it comes next. `rest` are the duties behind it. A swap of a cell needs to know no more: the
 -- thread's account has the reference that keeps the locked list alive, and no longer the one that goes into the cell.

@@ -1,5 +1,5 @@
 -- A thread's open work: the order of its agenda, the rows that it finalises, and the duties that it has put aside.
-use Rattle.std.specs.Prelude.{◌≡◌, ◌⊎◌, ℕ, ◌+◌, ◌-◌, ◌*◌, ◌/◌, ◌%◌, ◌^◌, min, ◌<◌, ◌≤◌, Bool, true, false, ◌&&◌, ◌||◌, ◌==◌, nat_le, List, [], ◌∷◌, Option, None, Some, count_by, if◌then◌else◌}
+use Rattle.std.specs.Prelude.{◌≡◌, ◌⊎◌, ℕ, ◌+◌, ◌-◌, ◌*◌, ◌/◌, ◌%◌, ◌<◌, ◌≤◌, Bool, true, false, ◌&&◌, ◌||◌, ◌==◌, nat_le, List, [], ◌∷◌, Option, None, Some, count_by, if◌then◌else◌}
 use Rattle.brc_word.specs.declared.values.TheConstants.{SET}
 use Rattle.brc_word.specs.Words.{half, dying_word, marks_of_word, mark_at}
 use Rattle.brc_model.specs.declared.duty.Duty.{Duty}
@@ -12,13 +12,9 @@ use Rattle.brc_model.specs.declared.actor.Actor.{Actor}
 use Rattle.brc_model.specs.Duties.{duty_row}
 use Rattle.brc_model.specs.Machine.{Life, Dying, Machine}
 use Rattle.brc_model.specs.References.{one_if}
-use Rattle.brc_model.specs.Knowledge.{HeadFits}
+use Rattle.brc_model.specs.Knowledge.{AreUsedMarks, HeadFits}
 
 -- ---- what is for later
-
--- The marks are those of rows of the word that the thread has used.
-abbrev pub AreUsedMarks : ℕ → ℕ → ℕ → Type 0
-AreUsedMarks used w marks = marks < 2 ^ min (used - marks_of_word * w) marks_of_word
 
 -- What may be behind an agenda's first duty: the rest of a dying list, settling, and the end of the thread's exit. A
 -- leaving thread still has to scan the marks of its used rows, from the mark word `w` on, and to take those that it has

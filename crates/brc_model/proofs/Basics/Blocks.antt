@@ -14,6 +14,7 @@ use Rattle.brc_model.specs.Machine.{Unborn, Machine, idle_actor}
 use Rattle.brc_model.specs.Accounts.{Accounts}
 use Rattle.brc_model.specs.Knowledge.{IsNext}
 use Rattle.brc_model.specs.Invariant.{CoreInvariant}
+use Rattle.brc_model.proofs.Basics.Lists.{either_true}
 use Rattle.brc_model.specs.Layout.{none_row, root_row, front_rows, worker_rows, row_count, is_worker_row, block_of, block_size, row_at, index_of, first_immortal_list, is_immortal_row, IsCounted}
 
 -- ---- main's rows and the workers'
@@ -206,10 +207,6 @@ mains_low layout x block low =
     ]
 
 -- ---- immortal rows
-
-either_true : (b c : Bool) → (b || c) ≡ true → (b ≡ true) ⊎ (c ≡ true)
-either_true true c e = inl refl
-either_true false c e = inr e
 
 -- Immortal rows are main's.
 pub immortal_block : (layout : Layout) (x : ℕ) → is_immortal_row layout x ≡ true → block_of layout x ≡ 0

@@ -3,15 +3,15 @@
 use Rattle.std.proofs.Common.{◌≡◌, ◌≢◌, ℕ, zero, suc, ◌+◌, ◌-◌, Bool, true, false, cond, List, [], ◌∷◌, ◌++◌, refl, sym, ap, ◌∙◌, arith}
 use Rattle.std.specs.Prelude.{◌==◌, ◌&&◌, nat_lt, if◌then◌else◌}
 use Rattle.std.proofs.lemmas.Bool.{eqb-true}
-use Rattle.brc_word.specs.Words.{most_local, local_part, is_immortal_word, fresh_word, dead_word, released_word, merged_word, mark_at}
+use Rattle.brc_word.specs.Words.{most_local, local_part, is_immortal_word, fresh_word, dead_word, released_word, merged_word, marks_of_word, mark_at, unmarked_word, lowest_mark, first_marks}
 use Rattle.brc_model.specs.declared.duty.Holding.{Holding}
 use Rattle.brc_model.specs.declared.duty.Holding.TheVariants.{InFlight}
 use Rattle.brc_model.specs.declared.duty.Reason.TheVariants.{Own, Handed}
 use Rattle.brc_model.specs.declared.duty.Duty.{Duty}
-use Rattle.brc_model.specs.declared.duty.Duty.TheVariants.{RetainLoad, RetainStore, RetainAdd, ReleaseLoad, ReleaseStore, DecideAtZero, SharedLoad, SharedExchange, SetMark, Look, TakeMark, MergeSwap, MergeLoad, MergeExchange, Die, Settle, SettleKind, SettleCell, TakeSlot, CloseResource, SettleEnd, Leave, Scan, Finish, ClaimMark, BirthKind, BirthSlot, BirthLocal, KindLoad, LockGate, UnlockGate, CellLoad, CellSwap, LendSlot, ReturnSlot}
+use Rattle.brc_model.specs.declared.duty.Duty.TheVariants.{RetainLoad, RetainStore, RetainAdd, ReleaseLoad, ReleaseStore, DecideAtZero, SharedLoad, SharedExchange, SetMark, Look, TakeMark, MergeSwap, MergeLoad, MergeExchange, Die, Settle, SettleKind, SettleCell, TakeSlot, CloseResource, SettleEnd, Leave, Scan, TakeFound, Finish, ClaimMark, BirthKind, BirthSlot, BirthLocal, KindLoad, LockGate, UnlockGate, CellLoad, CellSwap, LendSlot, ReturnSlot}
 use Rattle.brc_model.specs.declared.layout.Layout.{Layout}
-use Rattle.brc_model.specs.Layout.{row_at, mark_bit}
-use Rattle.brc_model.specs.Duties.{continuation, counts_locally, claimed, has_resource, cells_of}
+use Rattle.brc_model.specs.Layout.{mark_bit}
+use Rattle.brc_model.specs.Duties.{found_row, continuation, counts_locally, claimed, has_resource, cells_of}
 use Rattle.brc_model.specs.OpenWork.{is_about, is_piece}
 use Rattle.brc_model.specs.Accounts.{lacks}
 
@@ -24,7 +24,8 @@ leaves_chain (RetainLoad x h) = true
 leaves_chain (RetainStore x h w) = true
 leaves_chain (RetainAdd x h) = true
 leaves_chain (Leave i n) = true
-leaves_chain (Scan i n) = true
+leaves_chain (Scan w n) = true
+leaves_chain (TakeFound w marks) = true
 leaves_chain Finish = true
 leaves_chain (ClaimMark x) = true
 leaves_chain (BirthKind x h w) = true
@@ -52,7 +53,8 @@ may_fill full d = if leaves_chain d then full else fills_chain d
 abbrev pub is_inner : Duty → Bool
 is_inner Settle = false
 is_inner (Leave i n) = false
-is_inner (Scan i n) = false
+is_inner (Scan w n) = false
+is_inner (TakeFound w marks) = false
 is_inner Finish = false
 is_inner (ClaimMark x) = false
 is_inner _ = true
@@ -96,7 +98,8 @@ Origin d found (Die x) = MayDie d x
 Origin d found (SettleCell x i n) = n ≡ cells_by d found
 Origin d found Settle = ⊥
 Origin d found (Leave i n) = ⊥
-Origin d found (Scan i n) = ⊥
+Origin d found (Scan w n) = ⊥
+Origin d found (TakeFound w marks) = ⊥
 Origin d found Finish = ⊥
 Origin d found (ClaimMark x) = ⊥
 Origin d found (BirthKind x h w) = ⊥
@@ -117,7 +120,8 @@ pub record Leads (found : ℕ) (d e : Duty) : Type 0 where
 inner_origin : (d : Duty) (found : ℕ) (e : Duty) → Origin d found e → is_inner e ≡ true
 inner_origin d found Settle origin = absurd origin
 inner_origin d found (Leave i n) origin = absurd origin
-inner_origin d found (Scan i n) origin = absurd origin
+inner_origin d found (Scan w n) origin = absurd origin
+inner_origin d found (TakeFound w marks) origin = absurd origin
 inner_origin d found Finish origin = absurd origin
 inner_origin d found (ClaimMark x) origin = absurd origin
 inner_origin d found _ origin = refl
@@ -153,10 +157,14 @@ pub data Continuation (layout : Layout) (t head found : ℕ) : Duty → List Dut
   ClaimsNone : (x : ℕ) → Continuation layout t head found (ClaimMark x) (Settle ∷ [])
   -- the exit looks through the marks of the thread's rows one by one, and ends
   Exits : (i n : ℕ) → Continuation layout t head found (Leave i n) (Scan i n ∷ Finish ∷ [])
-  Scans : (i n : ℕ) → mark_at found (mark_bit layout (row_at layout t i)) ≡ 1
-      → Continuation layout t head found (Scan i n)
-      (MergeSwap (row_at layout t i) Handed ∷ Settle ∷ Scan (i + 1) (n - 1) ∷ [])
-  ScansNone : (i n : ℕ) → Continuation layout t head found (Scan i n) (Settle ∷ Scan (i + 1) (n - 1) ∷ [])
+  Scans : (w n : ℕ) → Continuation layout t head found (Scan w n)
+      (TakeFound w (first_marks found n) ∷ Scan (w + 1) (n - marks_of_word) ∷ [])
+  Takes : (w marks : ℕ) → mark_at found (mark_bit layout (found_row layout t w marks)) ≡ 1
+      → Continuation layout t head found (TakeFound w marks)
+      (MergeSwap (found_row layout t w marks) Handed ∷ Settle
+      ∷ TakeFound w (unmarked_word marks (lowest_mark marks)) ∷ [])
+  TakesNone : (w marks : ℕ) → Continuation layout t head found (TakeFound w marks)
+      (Settle ∷ TakeFound w (unmarked_word marks (lowest_mark marks)) ∷ [])
 
 -- ---- all duties
 
@@ -239,8 +247,10 @@ continues layout t running head (TakeSlot x) found = goes (CloseResource x) refl
 continues layout t running head (CloseResource x) found = goes (SettleEnd x) refl (λ e. cc) tt
 continues layout t running head Finish found = Finishes
 continues layout t running head (Leave i n) found = Exits i n
-continues layout t running head (Scan i n) found =
-    claims (Scan i n) (row_at layout t i) (mark_at found (mark_bit layout (row_at layout t i))) _ (Scans i n) (ScansNone i n)
+continues layout t running head (Scan w n) found = Scans w n
+continues layout t running head (TakeFound w marks) found =
+    claims (TakeFound w marks) (found_row layout t w marks)
+    (mark_at found (mark_bit layout (found_row layout t w marks))) _ (Takes w marks) (TakesNone w marks)
 continues layout t running head (ClaimMark x) found =
     claims (ClaimMark x) x (mark_at found (mark_bit layout x)) _ (Claims x) (ClaimsNone x)
 continues layout t running head (BirthKind x h w) found =

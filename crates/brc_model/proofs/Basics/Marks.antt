@@ -13,7 +13,7 @@ use Rattle.brc_model.specs.Duties.{mark_place}
 use Rattle.brc_model.specs.Machine.{same_address, written, mark_of}
 use Rattle.brc_model.specs.Layout.{row_count, block_of, block_size, row_at, index_of, mark_words_of, mark_word, mark_bit}
 use Rattle.brc_model.proofs.Basics.Blocks.{row_back, index_within}
-use Rattle.brc_model.proofs.Basics.Written.{written_here, written_apart, same_marks}
+use Rattle.brc_model.proofs.Basics.Written.{written_here, written_apart, written_load, same_marks}
 
 -- ---- one bit of a word
 
@@ -120,6 +120,12 @@ module _ (layout : Layout) where
     other_mark y x left other =
         mark_apart (block_of layout y) (mark_word layout y) (mark_bit layout y) x left
         (λ e. other (sym (marks_row y) ∙ e))
+
+    -- A load of a mark word keeps all marks.
+    pub loaded_marks : (t w x : ℕ)
+        → mark_of layout (written memory (Marks t w) (memory (Marks t w))) x ≡ mark_of layout memory x
+    loaded_marks t w x =
+        ap (λ (v : ℕ). mark_at v (mark_bit layout x)) (written_load memory (Marks t w) (mark_place layout x))
 
     -- Taking a row's mark keeps that of every other row.
     pub taken_elsewhere : (y x : ℕ) → y ≢ x

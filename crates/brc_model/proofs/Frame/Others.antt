@@ -9,7 +9,7 @@ use Rattle.brc_word.specs.declared.values.TheConstants.{RUNNING, MERGED, EMPTY}
 use Rattle.brc_model.specs.declared.duty.Holding.{Holding}
 use Rattle.brc_word.specs.Words.{phase_part}
 use Rattle.brc_model.specs.declared.duty.Duty.{Duty}
-use Rattle.brc_model.specs.declared.duty.Duty.TheVariants.{Die, Settle, SettleKind, SettleCell, TakeSlot, CloseResource, SettleEnd, Leave, Scan, Finish, ClaimMark, BirthKind, BirthSlot, BirthLocal, KindLoad, LockGate, UnlockGate, CellLoad, CellSwap, LendSlot, ReturnSlot}
+use Rattle.brc_model.specs.declared.duty.Duty.TheVariants.{Die, Settle, SettleKind, SettleCell, TakeSlot, CloseResource, SettleEnd, Leave, Scan, MarksLoad, TakeFound, Finish, ClaimMark, BirthKind, BirthSlot, BirthLocal, KindLoad, LockGate, UnlockGate, CellLoad, CellSwap, LendSlot, ReturnSlot}
 use Rattle.brc_model.specs.declared.address.Address.{Address}
 use Rattle.brc_model.specs.declared.address.Address.TheVariants.{Local, Shared, Gate, KindOf, Cell, Slot, ThreadWord}
 use Rattle.brc_model.specs.declared.actor.Actor.{Actor}
@@ -26,7 +26,7 @@ use Rattle.brc_model.specs.Knowledge.{OwnsLocally, IsBacked, IsNext, HasCountedK
 use Rattle.brc_model.proofs.Basics.Lists.{some_is, slice_get-set_same, slice_get-set_other}
 use Rattle.brc_model.proofs.Basics.Bag.{one_if_true}
 use Rattle.brc_model.specs.declared.layout.Layout.{Layout}
-use Rattle.brc_model.specs.Layout.{block_of, block_size, row_at, IsCounted}
+use Rattle.brc_model.specs.Layout.{mark_words_of, block_of, block_size, row_at, IsCounted}
 
 -- What a step of thread `t` leaves unchanged of memory and of lives, for all other threads.
 pub record LeavesMemory (m new : Machine) (t : ℕ) : Type 0 where
@@ -245,7 +245,9 @@ module _ (m new : Machine) (t u : ℕ) (leaves : LeavesMemory m new t) (ne : u �
       λ j. empty_kept x fits.1 j (fits.3 j),
     )
     head_kept (Leave i n) rest many fits = fits
-    head_kept (Scan i n) rest many fits = fits
+    head_kept (Scan w n) rest many fits = fits
+    head_kept (TakeFound w marks) rest many fits = fits
+    head_kept (MarksLoad w) rest many fits = subst (λ (l : Layout). w < mark_words_of l u) (sym leaves.layout) fits
     head_kept Finish rest many fits = fits
     head_kept (ClaimMark x) rest many fits = ap (λ (r : Layout). block_of r x) leaves.layout ∙ fits
     head_kept (BirthKind x h w) rest many fits = (next_kept x fits.0, fits.1, fits.2)

@@ -6,7 +6,7 @@ use Rattle.std.specs.Prelude.{slice_get}
 use Rattle.std.proofs.lemmas.Option.{slice_get_within}
 use Rattle.brc_model.specs.declared.duty.Reason.TheVariants.{Own, Handed}
 use Rattle.brc_model.specs.declared.duty.Duty.{Duty}
-use Rattle.brc_model.specs.declared.duty.Duty.TheVariants.{RetainLoad, RetainStore, RetainAdd, ReleaseLoad, ReleaseStore, DecideAtZero, SharedLoad, SharedExchange, SetMark, Look, TakeMark, MergeSwap, MergeLoad, MergeExchange, Die, Settle, SettleKind, SettleCell, TakeSlot, CloseResource, SettleEnd, Leave, Scan, Finish, ClaimMark, BirthKind, BirthSlot, BirthLocal, CellSwap}
+use Rattle.brc_model.specs.declared.duty.Duty.TheVariants.{RetainLoad, RetainStore, RetainAdd, ReleaseLoad, ReleaseStore, DecideAtZero, SharedLoad, SharedExchange, SetMark, Look, TakeMark, MergeSwap, MergeLoad, MergeExchange, Die, Settle, SettleKind, SettleCell, TakeSlot, CloseResource, SettleEnd, Leave, Scan, TakeFound, Finish, ClaimMark, BirthKind, BirthSlot, BirthLocal, CellSwap}
 use Rattle.brc_model.specs.declared.actor.Status.TheVariants.{Running, Gone}
 use Rattle.brc_model.specs.declared.actor.Actor.{Actor}
 use Rattle.brc_model.specs.Machine.{Machine, actor_by, machine_by_duty, with_actor}
@@ -23,7 +23,7 @@ use Rattle.brc_model.proofs.Stepping.Merges.{thread_after_set_mark, thread_after
 use Rattle.brc_model.proofs.Stepping.Chains.{thread_after_die, thread_after_settle, thread_after_settle_end}
 use Rattle.brc_model.proofs.Stepping.Settling.{thread_after_settle_kind, thread_after_settle_cell, thread_after_take_slot, thread_after_close_resource}
 use Rattle.brc_model.proofs.Stepping.CellSwaps.{thread_after_cell_swap}
-use Rattle.brc_model.proofs.Stepping.Exits.{thread_after_leave, thread_after_scan, thread_after_finish, thread_after_claim_mark}
+use Rattle.brc_model.proofs.Stepping.Exits.{thread_after_leave, thread_after_scan, thread_after_take, thread_after_finish, thread_after_claim_mark}
 use Rattle.brc_model.proofs.Stepping.Settled.{settled_after}
 use Rattle.brc_model.proofs.Work.Watches.{marks_after}
 use Rattle.brc_model.proofs.Keeping.KeepsDuty.{keeps_by}
@@ -73,7 +73,8 @@ module _ {p : Accounts} {n : ℕ} {m : Machine} {t : ℕ} {a : Actor} {rest : Li
   thread_after_duty (CloseResource x) here alive settled = thread_after_close_resource x here alive
   thread_after_duty (SettleEnd x) here alive settled = thread_after_settle_end x here alive
   thread_after_duty (Leave x k) here alive settled = thread_after_leave p n m t a x k rest here alive
-  thread_after_duty (Scan x k) here alive settled = thread_after_scan x k here alive
+  thread_after_duty (Scan w k) here alive settled = thread_after_scan w k here alive
+  thread_after_duty (TakeFound w k) here alive settled = thread_after_take w k here alive
   thread_after_duty Finish here alive settled = thread_after_finish p n m t a rest here alive settled.0
   thread_after_duty (ClaimMark x) here alive settled = thread_after_claim_mark x here alive
   thread_after_duty (BirthKind x h w) here alive settled = thread_after_birth_kind x h w here alive

@@ -6,7 +6,7 @@ use Rattle.std.proofs.lemmas.Bool.{false≢true}
 use Rattle.std.proofs.lemmas.List.Sums.{sum_by-cons, sum_by-append}
 use Rattle.brc_model.specs.declared.duty.Holding.{Holding}
 use Rattle.brc_model.specs.declared.duty.Duty.{Duty}
-use Rattle.brc_model.specs.declared.duty.Duty.TheVariants.{Die, Settle, Leave, Scan, Finish, BirthSlot, BirthLocal}
+use Rattle.brc_model.specs.declared.duty.Duty.TheVariants.{Die, Settle, Leave, Scan, TakeFound, Finish, BirthSlot, BirthLocal}
 use Rattle.brc_model.specs.declared.actor.Status.{Status}
 use Rattle.brc_model.specs.declared.actor.Status.TheVariants.{Running, Leaving, Gone}
 use Rattle.brc_model.specs.declared.actor.Actor.{Actor}
@@ -41,12 +41,14 @@ waiting_hand _ x waits = cc
 
 waiting_scans : (d : Duty) (x : ℕ) → may_wait d ≡ true → scans x (d ∷ []) ≡ false
 waiting_scans (Scan y n) x waits = absurd cc
+waiting_scans (TakeFound w n) x waits = absurd cc
 waiting_scans _ x waits = refl
 
 waiting_settled : (head : ℕ) (d : Duty) → may_wait d ≡ true → IsSettled head (d ∷ [])
 waiting_settled head Settle waits = absurd cc
 waiting_settled head (Leave x n) waits = absurd cc
 waiting_settled head (Scan x n) waits = absurd cc
+waiting_settled head (TakeFound x n) waits = absurd cc
 waiting_settled head Finish waits = absurd cc
 waiting_settled head _ waits = tt
 

@@ -7,7 +7,7 @@ use Rattle.std.proofs.lemmas.List.Sums.{sum_by-cons}
 use Rattle.brc_model.specs.declared.duty.Holding.{Holding}
 use Rattle.brc_model.specs.declared.duty.Holding.TheVariants.{ByVariable, AsCaller, InFlight}
 use Rattle.brc_model.specs.declared.duty.Duty.{Duty}
-use Rattle.brc_model.specs.declared.duty.Duty.TheVariants.{RetainLoad, ReleaseLoad, Settle, Leave, Scan, Finish}
+use Rattle.brc_model.specs.declared.duty.Duty.TheVariants.{RetainLoad, ReleaseLoad, Settle, Leave, Scan, TakeFound, Finish}
 use Rattle.brc_model.specs.declared.actor.Status.TheVariants.{Running}
 use Rattle.brc_model.specs.AbstractState.{same_holding}
 use Rattle.brc_model.specs.Layout.{row_count}
@@ -136,6 +136,7 @@ piece_fits : (d : Duty) → is_piece d ≡ true → PieceFits d
 piece_fits Settle piece = absurd cc
 piece_fits (Leave i n) piece = absurd cc
 piece_fits (Scan i n) piece = absurd cc
+piece_fits (TakeFound w n) piece = absurd cc
 piece_fits Finish piece = absurd cc
 piece_fits _ piece = record { fits = λ used. refl; stays = refl; settled = λ head. tt }
 

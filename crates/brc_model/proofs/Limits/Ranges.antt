@@ -3,14 +3,14 @@ use Rattle.std.proofs.Common.{◌≡◌, ℕ, zero, suc, ◌+◌, ◌<◌, ◌�
 use Rattle.std.specs.Prelude.{◌==◌, slice_get, count_by}
 use Rattle.std.proofs.lemmas.Bool.{eq-eqb, eqb-true}
 use Rattle.std.proofs.lemmas.List.Sums.{sum_by-cons}
-use Rattle.brc_word.specs.Words.{mark_at}
+use Rattle.brc_word.specs.Words.{marks_of_word, mark_at}
 use Rattle.brc_model.specs.AbstractState.{references_to}
 use Rattle.brc_model.specs.declared.duty.Holding.TheVariants.{InFlight}
 use Rattle.brc_model.specs.declared.duty.Reason.TheVariants.{Handed}
 use Rattle.brc_model.specs.declared.duty.Duty.{Duty}
-use Rattle.brc_model.specs.declared.duty.Duty.TheVariants.{ReleaseLoad, MergeSwap, Settle, SettleKind, SettleCell, Leave, Scan, Finish, BirthKind, KindLoad, CellLoad, CellSwap}
+use Rattle.brc_model.specs.declared.duty.Duty.TheVariants.{ReleaseLoad, MergeSwap, Settle, SettleKind, SettleCell, Leave, Scan, TakeFound, Finish, BirthKind, KindLoad, CellLoad, CellSwap}
 use Rattle.brc_model.specs.declared.address.Address.TheVariants.{KindOf, Cell}
-use Rattle.brc_model.specs.Duties.{address_of, new_word, continuation, ready, cells_of}
+use Rattle.brc_model.specs.Duties.{found_row, address_of, new_word, continuation, ready, cells_of}
 use Rattle.brc_model.specs.declared.actor.Actor.{Actor}
 use Rattle.brc_model.specs.Machine.{Life, Unborn, Live, Machine, written, is_running, actor_by, machine_by_duty, mark_of}
 use Rattle.brc_model.specs.References.{one_if, cell_reference}
@@ -19,7 +19,7 @@ use Rattle.brc_model.specs.Accounts.{Accounts}
 use Rattle.brc_model.specs.Invariant.{numbers_of, CoreInvariant}
 use Rattle.brc_model.specs.OpenWork.{Linked, dies_by, is_about}
 use Rattle.brc_model.specs.Ranges.{cells_named, IsSmall, AreSmall, Ranges}
-use Rattle.brc_model.proofs.Basics.Continuation.{Traits, cells_by, Origin, Continuation, Ends, Finishes, GoesOn, Frees, FreesOld, SettlesRow, Claims, ClaimsNone, Exits, Scans, ScansNone, continues}
+use Rattle.brc_model.proofs.Basics.Continuation.{Traits, cells_by, Origin, Continuation, Ends, Finishes, GoesOn, Frees, FreesOld, SettlesRow, Claims, ClaimsNone, Exits, Scans, Takes, TakesNone, continues}
 use Rattle.brc_model.proofs.Basics.Bag.{held-le-references_to}
 use Rattle.brc_model.proofs.Basics.Written.{written_load}
 use Rattle.brc_model.proofs.Frame.CellsHeld.{cell_held}
@@ -47,8 +47,8 @@ FindsSmall k layout t head Settle found = head - 1 < k
 FindsSmall k layout t head (SettleKind x) found = cells_of found ≤ cell_limit
 FindsSmall k layout t head (SettleCell x i n) found = (y : ℕ) → found ≡ suc y → y < k
 FindsSmall k layout t head (CellSwap x i y h) found = (z : ℕ) → found ≡ suc z → z < k
-FindsSmall k layout t head (Scan i n) found =
-    mark_at found (mark_bit layout (row_at layout t i)) ≡ 1 → row_at layout t i < k
+FindsSmall k layout t head (TakeFound w marks) found =
+    mark_at found (mark_bit layout (found_row layout t w marks)) ≡ 1 → found_row layout t w marks < k
 FindsSmall k layout t head _ found = Unit {0}
 
 -- ---- the duties that follow a step
@@ -64,8 +64,11 @@ settle_small k = record { row = λ x e. absurd cc; cells = omega arith }
 pub leave_small : (k i n : ℕ) → IsSmall k (Leave i n)
 leave_small k i n = record { row = λ x e. absurd cc; cells = omega arith }
 
-scan_small : (k i n : ℕ) → IsSmall k (Scan i n)
-scan_small k i n = record { row = λ x e. absurd cc; cells = omega arith }
+scan_small : (k w n : ℕ) → IsSmall k (Scan w n)
+scan_small k w n = record { row = λ x e. absurd cc; cells = omega arith }
+
+take_small : (k w marks : ℕ) → IsSmall k (TakeFound w marks)
+take_small k w marks = record { row = λ x e. absurd cc; cells = omega arith }
 
 finish_small : (k : ℕ) → IsSmall k Finish
 finish_small k = record { row = λ x e. absurd cc; cells = omega arith }
@@ -114,11 +117,13 @@ next_small k d next (Claims x set) small finds =
     (record { row = small.row; cells = omega arith }, (settle_small k, tt))
 next_small k d next (ClaimsNone x) small finds = (settle_small k, tt)
 next_small k d next (Exits i n) small finds = (scan_small k i n, (finish_small k, tt))
-next_small k {layout = layout} {t = t} d next (Scans i n set) small finds = (
-  row_small k (row_at layout t i) (MergeSwap (row_at layout t i) Handed) (finds set) (λ y. refl) (omega arith),
-  (settle_small k, (scan_small k (i + 1) (n - 1), tt)),
+next_small k d next (Scans w n) small finds = (take_small k w _, (scan_small k (w + 1) (n - marks_of_word), tt))
+next_small k {layout = layout} {t = t} d next (Takes w marks set) small finds = (
+  row_small k (found_row layout t w marks) (MergeSwap (found_row layout t w marks) Handed) (finds set) (λ y. refl)
+      (omega arith),
+  (settle_small k, (take_small k w _, tt)),
 )
-next_small k d next (ScansNone i n) small finds = (settle_small k, (scan_small k (i + 1) (n - 1), tt))
+next_small k d next (TakesNone w marks) small finds = (settle_small k, (take_small k w _, tt))
 
 ready_step : (k : ℕ) (head : ℕ) (d : Duty) (rest : List Duty) → AreSmall k (d ∷ rest) → AreSmall k (ready head rest)
     → AreSmall k (ready head (d ∷ rest))
@@ -128,6 +133,10 @@ ready_step k zero (Scan x zero) rest small later = later
 ready_step k zero (Scan x (suc n)) rest small later = small
 ready_step k (suc head) (Scan x zero) rest small later = later
 ready_step k (suc head) (Scan x (suc n)) rest small later = small
+ready_step k zero (TakeFound x zero) rest small later = later
+ready_step k zero (TakeFound x (suc n)) rest small later = small
+ready_step k (suc head) (TakeFound x zero) rest small later = later
+ready_step k (suc head) (TakeFound x (suc n)) rest small later = small
 ready_step k zero _ rest small later = small
 ready_step k (suc head) _ rest small later = small
 
@@ -183,7 +192,7 @@ module _ {p : Accounts} {n : ℕ} {m : Machine} where
   finds_small t a (SettleKind x) core ranges head = ranges.kinds x
   finds_small t a (SettleCell x i k) core ranges head = λ y is. cell_small x i y core is
   finds_small t a (CellSwap x i y h) core ranges head = λ z is. cell_small x i z core is
-  finds_small t a (Scan i k) core ranges head = λ set. marked_small (row_at m.layout t i) core set
+  finds_small t a (TakeFound w marks) core ranges head = λ set. marked_small (found_row m.layout t w marks) core set
   finds_small t a _ core ranges head = tt
 
 -- No step makes a kind word of more than eight cells.

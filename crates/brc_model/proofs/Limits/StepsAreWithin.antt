@@ -1,16 +1,16 @@
 -- Each step of a reachable world names words that exist, and finds words that suit its duty.
-use Rattle.std.proofs.Common.{◌≡◌, ℕ, ◌+◌, ◌<◌, ◌≤◌, ◌⊎◌, inl, inr, List, ◌∷◌, length, Some, refl, sym, ap, ◌∙◌, subst, arith}
+use Rattle.std.proofs.Common.{◌≡◌, ℕ, ◌+◌, ◌*◌, ◌<◌, ◌≤◌, ◌⊎◌, inl, inr, List, ◌∷◌, length, Some, refl, sym, ap, ◌∙◌, subst, arith}
 use Rattle.std.specs.Prelude.{slice_get}
 use Rattle.std.proofs.lemmas.List.{length-map}
 use Rattle.std.proofs.lemmas.Bool.{eq-eqb, cases_Bool}
 use Rattle.std.proofs.lemmas.Option.{slice_get_within}
 use Rattle.brc_lang.specs.declared.module.Module.{Module}
 use Rattle.brc_model.specs.declared.duty.Duty.{Duty}
-use Rattle.brc_model.specs.declared.duty.Duty.TheVariants.{RetainLoad, ReleaseLoad, SetMark, Look, TakeMark, ClaimMark, Settle, SettleCell, Leave, Scan, Finish, CellLoad, CellSwap}
-use Rattle.brc_model.specs.declared.address.Address.TheVariants.{Local, ThreadWord}
-use Rattle.brc_word.specs.Words.{owner_part}
+use Rattle.brc_model.specs.declared.duty.Duty.TheVariants.{RetainLoad, ReleaseLoad, SetMark, Look, TakeMark, ClaimMark, Settle, SettleCell, Leave, Scan, MarksLoad, TakeFound, Finish, CellLoad, CellSwap}
+use Rattle.brc_model.specs.declared.address.Address.TheVariants.{Local, Marks}
+use Rattle.brc_word.specs.Words.{owner_part, marks_of_word, lowest_mark}
 use Rattle.brc_model.specs.declared.actor.Place.{Place}
-use Rattle.brc_model.specs.Duties.{mark_place, address_of}
+use Rattle.brc_model.specs.Duties.{mark_place, found_row, address_of}
 use Rattle.brc_model.specs.declared.actor.Actor.{Actor}
 use Rattle.brc_model.specs.Machine.{Life, Live, Machine, with_actor, used_by}
 use Rattle.brc_model.specs.Tables.{AreTrueWhereReached}
@@ -36,12 +36,13 @@ use Rattle.brc_model.proofs.Limits.Ranges.{head_small}
 use Rattle.brc_model.proofs.Limits.RangesEvents.{Bounded, bounded_after, first_ranges}
 use Rattle.brc_model.proofs.Limits.Bounds.{IsFew, duty_suits}
 use Rattle.brc_model.proofs.Basics.Marks.{word_within}
+use Rattle.brc_model.proofs.Basics.FoundMarks.{lowest_used}
 use Rattle.brc_model.proofs.Basics.Blocks.{used_low, block_within, size_within, thread_there, rows_low, immortal_block}
 use Rattle.brc_model.specs.Accounts.{Accounts}
 use Rattle.brc_model.specs.Invariant.{AtDuty, CoreInvariant, numbers_of}
 use Rattle.brc_model.proofs.Objects.UsesAfter.{own_uses}
 use Rattle.brc_model.specs.Limits.{row_limit, thread_limit, total_limit}
-use Rattle.brc_model.specs.Layout.{row_count, block_of, block_size, row_at, is_immortal_row}
+use Rattle.brc_model.specs.Layout.{row_count, block_of, block_size, is_immortal_row}
 
 -- ---- the word exists
 
@@ -51,9 +52,14 @@ module _ {p : Accounts} {n : ℕ} {m : Machine} {t : ℕ} {a : Actor} {d : Duty}
   mark_there x here low =
       (omega (arith, block_within m.layout x here.core.some_rows), word_within m.layout x here.core.some_rows low)
 
-  thread_word : AtDuty p n m t a d rest → IsThere m.layout (ThreadWord t)
-  thread_word here =
-      omega (arith, slice_get_within m.actors t a here.found, here.core.threads, here.core.workers)
+  own_thread : AtDuty p n m t a d rest → t < 1 + m.layout.workers
+  own_thread here = omega (arith, slice_get_within m.actors t a here.found, here.core.threads, here.core.workers)
+
+  -- A mark word exists if the thread has used a row of it.
+  own_word : (w : ℕ) → AtDuty p n m t a d rest → marks_of_word * w < a.used → IsThere m.layout (Marks t w)
+  own_word w here low =
+      let few = (here.core.uses t a here.found).few in
+      (own_thread here, omega (arith, low, few))
 
 module _ {p : Accounts} {n : ℕ} {m : Machine} {t : ℕ} {a : Actor} {rest : List Duty} where
   duty_there : (d : Duty) → AtDuty p n m t a d rest → NotGone a → IsSmall (row_count m.layout) d
@@ -69,12 +75,16 @@ module _ {p : Accounts} {n : ℕ} {m : Machine} {t : ℕ} {a : Actor} {rest : Li
       (small.row x (eq-eqb x x refl), omega (arith, more, small.cells))
   duty_there (CellLoad x i) here alive small = (small.row x (eq-eqb x x refl), omega (arith, small.cells))
   duty_there (CellSwap x i y h) here alive small = (small.row x (eq-eqb x x refl), omega (arith, small.cells))
-  duty_there (Leave x c) here alive small = thread_word here
-  duty_there (Scan x c) here alive small =
+  duty_there (Leave x c) here alive small = own_thread here
+  duty_there (Scan w k) here alive small =
       let fits = agenda_here here alive in
-      let some = head_of here in
-      mark_there (row_at m.layout t x) here (used_low t a x here.core here.found (omega (arith, fits.1, some)))
-  duty_there Finish here alive small = thread_word here
+      own_word w here (omega (arith, fits.1, head_of here))
+  duty_there (TakeFound w marks) here alive small =
+      let fits = agenda_here here alive in
+      let low = lowest_used marks a.used w (head_of here) fits.1 in
+      mark_there (found_row m.layout t w marks) here (used_low t a (marks_of_word * w + lowest_mark marks) here.core here.found low)
+  duty_there (MarksLoad w) here alive small = (own_thread here, head_of here)
+  duty_there Finish here alive small = own_thread here
   duty_there _ here alive small = small.row _ (eq-eqb _ _ refl)
 
 -- ---- used rows

@@ -11,7 +11,7 @@ use Rattle.brc_model.specs.declared.duty.Duty.{Duty}
 use Rattle.brc_model.specs.Duties.{address_of}
 use Rattle.brc_model.specs.declared.actor.Actor.{Actor}
 use Rattle.brc_model.specs.Machine.{Life, Unborn, Live, Dying, Closed, Machine, machine_by_duty}
-use Rattle.brc_model.proofs.Basics.Lists.{some_is}
+use Rattle.brc_model.proofs.Basics.Lists.{some_is, either_true}
 use Rattle.brc_model.specs.Accounts.{Accounts}
 use Rattle.brc_model.specs.OpenWork.{dies_by}
 use Rattle.brc_model.proofs.Objects.Closing.{GoesOn, BeginsToDie, IsClosed, IsBorn, life_step, SameClosed, OneMore, closed_step}
@@ -28,9 +28,6 @@ live_not_closed e = cc
 pub unborn_not_closed : Unborn ≡ Closed → ⊥
 unborn_not_closed e = cc
 
-pub either_true : (a b : Bool) → (a || b) ≡ true → (a ≡ true) ⊎ (b ≡ true)
-either_true true b e = inl refl
-either_true false b e = inr e
 
 pub one_is : (x y : ℕ) → is_among x (y ∷ []) ≡ true → y ≡ x
 one_is x y e = elim (either_true (y == x) false e) [ inl same ↦ eqb-true y x same | inr wrong ↦ absurd cc ]

@@ -4,7 +4,7 @@ use Rattle.std.specs.Prelude.{slice_get}
 use Rattle.std.proofs.lemmas.Bool.Decides.{eqb_tells}
 use Rattle.brc_model.specs.declared.duty.Reason.TheVariants.{Own, Handed}
 use Rattle.brc_model.specs.declared.duty.Duty.{Duty}
-use Rattle.brc_model.specs.declared.duty.Duty.TheVariants.{RetainLoad, RetainStore, RetainAdd, ReleaseLoad, ReleaseStore, DecideAtZero, SharedLoad, SharedExchange, SetMark, Look, TakeMark, MergeSwap, MergeLoad, MergeExchange, Settle, SettleKind, SettleCell, SettleEnd, Leave, Scan, Finish, ClaimMark, BirthKind, BirthLocal, CellSwap}
+use Rattle.brc_model.specs.declared.duty.Duty.TheVariants.{RetainLoad, RetainStore, RetainAdd, ReleaseLoad, ReleaseStore, DecideAtZero, SharedLoad, SharedExchange, SetMark, Look, TakeMark, MergeSwap, MergeLoad, MergeExchange, Settle, SettleKind, SettleCell, SettleEnd, Leave, Scan, MarksLoad, TakeFound, Finish, ClaimMark, BirthKind, BirthLocal, CellSwap}
 use Rattle.brc_model.specs.declared.actor.Actor.{Actor}
 use Rattle.brc_model.specs.Machine.{Machine, machine_by_duty}
 use Rattle.brc_model.specs.RowInvariant.{RowInvariant}
@@ -14,7 +14,7 @@ use Rattle.brc_model.proofs.Objects.RowsAfterStep.{KeepsRow, following, row_stay
 use Rattle.brc_model.proofs.Objects.RowsAfterElsewhere.{subject, row_elsewhere}
 use Rattle.brc_model.proofs.Objects.RowsAfterLocal.{row_after_retain_load, row_after_retain_store, row_after_retain_add, row_after_release_load, row_after_release_store, row_after_decide_at_zero, row_after_cell_swap}
 use Rattle.brc_model.proofs.Objects.RowsAfterShared.{row_after_shared_load, row_after_own_exchange, row_after_handed_exchange}
-use Rattle.brc_model.proofs.Objects.RowsAfterMarks.{row_after_set_mark, row_after_look, row_after_take_mark, row_after_scan, row_after_claim_mark, row_after_settle_kind, row_after_settle_cell, row_after_settle_end}
+use Rattle.brc_model.proofs.Objects.RowsAfterMarks.{row_after_set_mark, row_after_look, row_after_take_mark, row_after_found, row_after_claim_mark, row_after_settle_kind, row_after_settle_cell, row_after_settle_end}
 use Rattle.brc_model.proofs.Objects.RowsAfterBirths.{row_after_birth_kind, row_after_birth_local}
 use Rattle.brc_model.proofs.Objects.RowsAfterMerge.{row_after_own_swap, row_after_handed_swap, row_after_merge_load, row_after_merge_exchange}
 use Rattle.brc_model.proofs.Basics.Blocks.{immortal_apart}
@@ -50,9 +50,11 @@ module _ {p : Accounts} {n : ℕ} {m : Machine} {t : ℕ} {a : Actor} {rest : Li
   own_row (SettleCell y i cells) s some = row_after_settle_cell some s
   own_row (SettleEnd y) s some = row_after_settle_end s
   own_row (Leave y left) s some = absurd (none_counted m.layout some)
-  own_row (Scan y left) s some = row_after_scan some s
+  own_row (Scan w left) s some = absurd (none_counted m.layout some)
+  own_row (TakeFound w marks) s some = row_after_found some s
   own_row Finish s some = absurd (none_counted m.layout some)
   own_row (ClaimMark y) s some = row_after_claim_mark some s
+  own_row (MarksLoad w) s some = absurd (none_counted m.layout some)
   own_row (BirthKind y h w) s some = row_after_birth_kind some s
   own_row (BirthLocal y h) s some = row_after_birth_local s
   own_row (CellSwap y i z h) s some = row_after_cell_swap some s

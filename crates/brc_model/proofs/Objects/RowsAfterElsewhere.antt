@@ -8,23 +8,23 @@ use Rattle.brc_model.specs.declared.duty.Holding.TheVariants.{InFlight}
 use Rattle.brc_model.specs.AbstractState.{Reference, same, without, references_to, AbstractState, Move, Born, Gain, Lose, PassOn, Finalise, move, moved}
 use Rattle.brc_model.specs.declared.duty.Reason.TheVariants.{Handed}
 use Rattle.brc_model.specs.declared.duty.Duty.{Duty}
-use Rattle.brc_model.specs.declared.duty.Duty.TheVariants.{ReleaseLoad, DecideAtZero, SharedLoad, SharedExchange, SetMark, TakeMark, MergeSwap, MergeLoad, MergeExchange, Die, Settle, SettleCell, SettleEnd, Scan, ClaimMark, BirthLocal, CellSwap}
+use Rattle.brc_model.specs.declared.duty.Duty.TheVariants.{ReleaseLoad, DecideAtZero, SharedLoad, SharedExchange, SetMark, TakeMark, MergeSwap, MergeLoad, MergeExchange, Die, Settle, SettleCell, SettleEnd, Scan, MarksLoad, TakeFound, ClaimMark, BirthLocal, CellSwap}
 use Rattle.brc_model.specs.declared.address.Address.{Address}
 use Rattle.brc_model.specs.declared.address.Address.TheVariants.{Local, Shared, Cell}
-use Rattle.brc_model.specs.Duties.{duty_row, address_of, new_word, cells_from, release_found}
+use Rattle.brc_model.specs.Duties.{duty_row, found_row, address_of, new_word, cells_from, release_found}
 use Rattle.brc_model.specs.declared.actor.Actor.{Actor}
 use Rattle.brc_model.specs.Machine.{Life, Machine, is_running, written, mark_of, dies_next, with_life, ended_row, born_row}
 use Rattle.brc_model.specs.Moves.{reference_effects}
 use Rattle.brc_model.proofs.Basics.Bag.{references_to-cons, same-true}
 use Rattle.brc_model.proofs.Basics.Written.{written_apart, other_local, other_shared}
-use Rattle.brc_model.proofs.Basics.Marks.{set_elsewhere, taken_elsewhere}
+use Rattle.brc_model.proofs.Basics.Marks.{loaded_marks, set_elsewhere, taken_elsewhere}
 use Rattle.brc_model.proofs.Basics.Moves.{object_of, IsOfOther, effects_elsewhere, moved_keeps}
 use Rattle.brc_model.specs.References.{one_if}
 use Rattle.brc_model.specs.RowInvariant.{waits, carries, merges, decides}
 use Rattle.brc_model.specs.Accounts.{Accounts}
 use Rattle.brc_model.specs.OpenWork.{is_about}
 use Rattle.brc_model.proofs.Basics.Lists.{first_false, second_false}
-use Rattle.brc_model.proofs.Basics.Continuation.{Traits, Leads, Continuation, GoesOn, Frees, Claims, Scans, continues}
+use Rattle.brc_model.proofs.Basics.Continuation.{Traits, Leads, Continuation, GoesOn, Frees, Claims, Takes, continues}
 use Rattle.brc_model.proofs.Frame.CellsHeld.{cell_held}
 use Rattle.brc_model.proofs.Frame.Cells.{taken_references, swapped_references, stolen_held}
 use Rattle.brc_model.proofs.Frame.Aside.{waits_of_row, carries_of_row, merges_of_row, decides_of_row}
@@ -33,9 +33,9 @@ use Rattle.brc_model.specs.Invariant.{AtDuty}
 use Rattle.brc_model.specs.declared.layout.Layout.{Layout}
 use Rattle.brc_model.specs.Layout.{row_at, IsCounted}
 
--- The row that a duty is about, or 0 if it is about none. A scan is about the row whose mark it takes.
+-- The row that a duty is about, or 0 if it is about none. Taking a mark that was found is about the mark's row.
 abbrev pub subject : Layout → ℕ → Duty → ℕ
-subject layout t (Scan i n) = row_at layout t i
+subject layout t (TakeFound w marks) = found_row layout t w marks
 subject layout t d = unwrap_or (duty_row d) 0
 
 -- ---- words
@@ -50,7 +50,10 @@ mark_elsewhere layout t head (SetMark y) memory x e =
     set_elsewhere layout memory y x (eqb-false y x e)
 mark_elsewhere layout t head (TakeMark y) memory x e = taken_elsewhere layout memory y x (eqb-false y x e)
 mark_elsewhere layout t head (ClaimMark y) memory x e = taken_elsewhere layout memory y x (eqb-false y x e)
-mark_elsewhere layout t head (Scan i n) memory x e = taken_elsewhere layout memory (row_at layout t i) x (eqb-false _ x e)
+mark_elsewhere layout t head (TakeFound w marks) memory x e =
+    taken_elsewhere layout memory (found_row layout t w marks) x (eqb-false _ x e)
+mark_elsewhere layout t head (Scan w n) memory x e = loaded_marks layout memory t w x
+mark_elsewhere layout t head (MarksLoad w) memory x e = loaded_marks layout memory t w x
 mark_elsewhere layout t head _ memory x e = refl
 
 -- ---- references
@@ -188,9 +191,9 @@ next_apart {layout = layout} {t = t} x d next (Frees z i n y e some leads) other
     (led_apart layout t x d e leads other)
 next_apart x d next (Claims y set) other =
     more_apart x (MergeSwap y Handed) _ (other_apart x (MergeSwap y Handed) other) (all_light x _ refl)
-next_apart {layout = layout} {t = t} x d next (Scans i n set) other =
-    more_apart x (MergeSwap (row_at layout t i) Handed) _ (other_apart x (MergeSwap (row_at layout t i) Handed) other)
-    (all_light x _ refl)
+next_apart {layout = layout} {t = t} x d next (Takes w marks set) other =
+    more_apart x (MergeSwap (found_row layout t w marks) Handed) _
+    (other_apart x (MergeSwap (found_row layout t w marks) Handed) other) (all_light x _ refl)
 next_apart x d next _ other = all_light x next refl
 
 -- ---- what follows the settling of a row weighs nothing at any

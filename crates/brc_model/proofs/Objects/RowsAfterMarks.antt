@@ -3,12 +3,13 @@ use Rattle.std.proofs.Common.{◌≡◌, ℕ, ◌+◌, ◌-◌, ◌≤◌, Bool,
 use Rattle.std.specs.Prelude.{◌==◌}
 use Rattle.std.proofs.lemmas.List.Sums.{sum_by-append}
 use Rattle.brc_word.specs.declared.values.TheConstants.{SET, UNSET}
+use Rattle.brc_word.specs.Words.{unmarked_word, lowest_mark}
 use Rattle.brc_model.specs.AbstractState.{references_to}
 use Rattle.brc_model.specs.declared.duty.Reason.TheVariants.{Handed}
 use Rattle.brc_model.specs.declared.duty.Duty.{Duty}
-use Rattle.brc_model.specs.declared.duty.Duty.TheVariants.{SetMark, Look, TakeMark, MergeSwap, Settle, SettleKind, SettleCell, TakeSlot, SettleEnd, Scan, ClaimMark}
+use Rattle.brc_model.specs.declared.duty.Duty.TheVariants.{SetMark, Look, TakeMark, MergeSwap, Settle, SettleKind, SettleCell, TakeSlot, SettleEnd, TakeFound, ClaimMark}
 use Rattle.brc_model.specs.declared.address.Address.TheVariants.{Local, Shared, Cell, KindOf}
-use Rattle.brc_model.specs.Duties.{claimed, has_resource, cells_of, cells_from}
+use Rattle.brc_model.specs.Duties.{found_row, claimed, has_resource, cells_of, cells_from}
 use Rattle.brc_model.specs.declared.actor.Actor.{Actor}
 use Rattle.brc_model.specs.Machine.{Life, Live, Dying, Closed, Machine, with_life, dies_next, life_by, machine_by_duty, mark_of}
 use Rattle.brc_model.proofs.Frame.CellsHeld.{cell_held}
@@ -21,7 +22,7 @@ use Rattle.brc_model.proofs.Objects.RowMerges.{mark_set, mark_taken}
 use Rattle.brc_model.proofs.Objects.RowsAfterStep.{head_fits_of, following, KeepsRow, weighed, row_becomes, row_stays}
 use Rattle.brc_model.proofs.Objects.RowsAfterElsewhere.{IsApart, AreApart, none_apart, apart_if, light_apart, all_light, cells_apart, released_apart}
 use Rattle.brc_model.proofs.Objects.RowsAfterOwn.{own, one_own, lives_so, row_apart}
-use Rattle.brc_model.specs.Layout.{block_of, row_at, IsCounted}
+use Rattle.brc_model.specs.Layout.{block_of, IsCounted}
 
 -- ---- a mark is set
 
@@ -72,7 +73,7 @@ pub record Takes (m : Machine) (t : ℕ) (a : Actor) (d : Duty) (rest : List Dut
         ≡ references_to y (machine_by_duty m t a d rest).abstract.references
 
 module _ {p : Accounts} {n : ℕ} {m : Machine} {t : ℕ} {a : Actor} {d : Duty} {rest : List Duty} where
-  -- `MarkGone`, `ScanFindsNone` and `NothingToClaim`: if the mark wasn't set, the row is unchanged.
+  -- `MarkGone`, `FoundMarkGone` and `NothingToClaim`: if the mark wasn't set, the row is unchanged.
   takes_none : {tail : List Duty} {y : ℕ} → AtDuty p n m t a d rest → IsCounted m.layout y → Takes m t a d rest y tail
       → mark_of m.layout m.memory y ≡ UNSET → KeepsRow m t a d rest y
   takes_none {tail = tail} {y = y} s some takes unset =
@@ -94,7 +95,7 @@ abbrev hands : ℕ → List Duty
 hands y = MergeSwap y Handed ∷ []
 
 module _ {p : Accounts} {n : ℕ} {m : Machine} {t : ℕ} {a : Actor} {d : Duty} {rest : List Duty} where
-  -- `MarkTakenBack`, `ScanFindsMark` and `MarkClaimed`: if the mark was set, its pending decrement goes over to the
+  -- `MarkTakenBack`, `FoundMarkTaken` and `MarkClaimed`: if the mark was set, its pending decrement goes over to the
   -- duty that merges the object.
   takes_one : {tail : List Duty} {y : ℕ} → AtDuty p n m t a d rest → IsCounted m.layout y → Takes m t a d rest y tail
       → mark_of m.layout m.memory y ≡ SET → KeepsRow m t a d rest y
@@ -172,15 +173,17 @@ module _ {p : Accounts} {n : ℕ} {m : Machine} {t : ℕ} {a : Actor} {rest : Li
       } in
       row_after_taking s (head_fits_of s).0 takes
 
-  -- The row's invariant holds after `ScanFindsMark` and `ScanFindsNone`.
-  pub row_after_scan : {i left : ℕ} → IsCounted m.layout (row_at m.layout t i) → AtDuty p n m t a (Scan i left) rest
-      → KeepsRow m t a (Scan i left) rest (row_at m.layout t i)
-  row_after_scan {i = i} {left = left} some s =
-      let y = row_at m.layout t i in
-      let takes : Takes m t a (Scan i left) rest y (Settle ∷ Scan (i + 1) (left - 1) ∷ []) = record {
+  -- The row's invariant holds after `FoundMarkTaken` and `FoundMarkGone`.
+  pub row_after_found : {w marks : ℕ} → IsCounted m.layout (found_row m.layout t w marks)
+      → AtDuty p n m t a (TakeFound w marks) rest
+      → KeepsRow m t a (TakeFound w marks) rest (found_row m.layout t w marks)
+  row_after_found {w = w} {marks = marks} some s =
+      let y = found_row m.layout t w marks in
+      let tail : List Duty = Settle ∷ TakeFound w (unmarked_word marks (lowest_mark marks)) ∷ [] in
+      let takes : Takes m t a (TakeFound w marks) rest y tail = record {
         follows = refl;
-        this = light_apart y (Scan i left) refl;
-        others = all_light y (Settle ∷ Scan (i + 1) (left - 1) ∷ []) refl;
+        this = light_apart y (TakeFound w marks) refl;
+        others = all_light y tail refl;
         lives = λ next. refl;
         local = refl;
         shared = refl;

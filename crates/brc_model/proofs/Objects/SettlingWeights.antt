@@ -5,11 +5,11 @@ use Rattle.std.proofs.lemmas.List.Sums.{sum_by-cons, sum_by-append}
 use Rattle.brc_model.specs.declared.duty.Holding.TheVariants.{InFlight}
 use Rattle.brc_model.specs.declared.duty.Reason.TheVariants.{Handed}
 use Rattle.brc_model.specs.declared.duty.Duty.{Duty}
-use Rattle.brc_model.specs.declared.duty.Duty.TheVariants.{ReleaseLoad, MergeSwap, Settle, SettleKind, SettleCell, TakeSlot, CloseResource, SettleEnd, Leave, Scan, Finish, ClaimMark, CellSwap}
-use Rattle.brc_word.specs.Words.{mark_at}
+use Rattle.brc_model.specs.declared.duty.Duty.TheVariants.{ReleaseLoad, MergeSwap, Settle, SettleKind, SettleCell, TakeSlot, CloseResource, SettleEnd, Leave, Scan, TakeFound, Finish, ClaimMark, MarksLoad, CellSwap}
+use Rattle.brc_word.specs.Words.{marks_of_word, mark_at, unmarked_word, lowest_mark, first_marks}
 use Rattle.brc_model.specs.declared.layout.Layout.{Layout}
-use Rattle.brc_model.specs.Layout.{row_at, mark_bit}
-use Rattle.brc_model.specs.Duties.{address_of, new_head, continuation, has_resource, cells_of, cells_from, release_found, claimed}
+use Rattle.brc_model.specs.Layout.{mark_bit}
+use Rattle.brc_model.specs.Duties.{found_row, address_of, new_head, continuation, has_resource, cells_of, cells_from, release_found, claimed}
 use Rattle.brc_model.specs.declared.actor.Actor.{Actor}
 use Rattle.brc_model.specs.Machine.{Machine, is_running, actor_by, machine_by_duty}
 use Rattle.brc_model.specs.References.{one_if}
@@ -75,7 +75,7 @@ pub of_closing : (x : ℕ) → IsOfSettling x (closing x)
 of_closing x = record {
   others = closing_none x;
   low = closing_low x;
-  light = record { settle = refl; scan = λ i n. refl };
+  light = record { settle = refl; scan = λ w n. refl; take = λ w n. refl };
 }
 
 ending_none : (x : ℕ) (d : Duty) → settles d x ≡ false → ending x d ≡ 0
@@ -90,7 +90,7 @@ pub of_ending : (x : ℕ) → IsOfSettling x (ending x)
 of_ending x = record {
   others = ending_none x;
   low = ending_low x;
-  light = record { settle = refl; scan = λ i n. refl };
+  light = record { settle = refl; scan = λ w n. refl; take = λ w n. refl };
 }
 
 -- ---- the duties that follow a step
@@ -146,16 +146,25 @@ module _ (x : ℕ) (f : Duty → ℕ) (of : IsOfSettling x f) where
   next_light layout t running head (SettleEnd y) found apart = refl
   next_light layout t running head (Leave i n) found apart =
       omega (arith, sum_by-cons f (Scan i n) (Finish ∷ []), of.others (Scan i n) refl, one_light Finish refl)
-  next_light layout t running head (Scan i n) found apart =
-      let later : List Duty = Scan (i + 1) (n - 1) ∷ [] in
-      let mark = mark_at found (mark_bit layout (row_at layout t i)) in
+  next_light layout t running head (Scan w n) found apart =
+      let later : List Duty = Scan (w + 1) (n - marks_of_word) ∷ [] in
       omega (
         arith,
-        sum_by-append f (claimed (row_at layout t i) mark) (Settle ∷ later),
-        claimed_light (row_at layout t i) mark,
-        sum_by-cons f Settle later,
+        sum_by-cons f (TakeFound w (first_marks found n)) later,
+        of.others (TakeFound w (first_marks found n)) refl,
+        one_light (Scan (w + 1) (n - marks_of_word)) refl,
+      )
+  next_light layout t running head (TakeFound w marks) found apart =
+      let y = found_row layout t w marks in
+      let mark = mark_at found (mark_bit layout y) in
+      let last : Duty = TakeFound w (unmarked_word marks (lowest_mark marks)) in
+      omega (
+        arith,
+        sum_by-append f (claimed y mark) (Settle ∷ last ∷ []),
+        claimed_light y mark,
+        sum_by-cons f Settle (last ∷ []),
         of.others Settle refl,
-        one_light (Scan (i + 1) (n - 1)) refl,
+        one_light last refl,
       )
   next_light layout t running head Finish found apart = refl
   next_light layout t running head (ClaimMark y) found apart =
@@ -166,6 +175,7 @@ module _ (x : ℕ) (f : Duty → ℕ) (of : IsOfSettling x f) where
         claimed_light y mark,
         one_light Settle refl,
       )
+  next_light layout t running head (MarksLoad w) found apart = refl
   next_light layout t running head (CellSwap y i z h) zero apart = refl
   next_light layout t running head (CellSwap y i z h) (suc w) apart = one_light (ReleaseLoad w InFlight) refl
   next_light layout t running head d found apart =

@@ -18,7 +18,7 @@ use Rattle.brc_model.specs.Duties.{address_of}
 use Rattle.brc_model.specs.declared.actor.Actor.{Actor}
 use Rattle.brc_model.specs.Machine.{Unborn, Live, Dying, Machine, used_by, born_row, actor_by, machine_by_duty}
 use Rattle.brc_model.specs.Moves.{reference_effects}
-use Rattle.brc_model.proofs.Basics.Lists.{some_is, slice_get-set_same, slice_get-set_other, none_some}
+use Rattle.brc_model.proofs.Basics.Lists.{some_is, either_true, slice_get-set_same, slice_get-set_other, none_some}
 use Rattle.brc_model.proofs.Basics.Blocks.{row_back, next_index, next_counted, next_block, next_unborn}
 use Rattle.std.specs.List.{AllByRecursion}
 use Rattle.brc_model.proofs.Basics.Moves.{MoveOf, Bears, each_effect, moved_keeps}
@@ -26,7 +26,7 @@ use Rattle.brc_model.proofs.Frame.Leaves.{head_of}
 use Rattle.brc_model.proofs.Frame.Lives.{next_of, born_left}
 use Rattle.brc_model.proofs.Stepping.FitsAfter.{found_by, uses_same}
 use Rattle.brc_model.proofs.Objects.Closing.{GoesOn, BeginsToDie, IsClosed, IsBorn, life_step}
-use Rattle.brc_model.proofs.Objects.ClosedAfter.{among_more, among_last, either_true, one_is}
+use Rattle.brc_model.proofs.Objects.ClosedAfter.{among_more, among_last, one_is}
 use Rattle.brc_model.proofs.Basics.Bag.{one_if_low}
 use Rattle.brc_model.specs.Layout.{row_at, index_of, IsCounted}
 

@@ -4,7 +4,7 @@ use Rattle.std.specs.Prelude.{◌==◌, sum_by, slice_get, slice_set}
 use Rattle.std.proofs.lemmas.Option.{slice_get_within, get_or_from_slice_get}
 use Rattle.std.proofs.lemmas.List.Sums.{sum_by-cons, sum_by-append, sum_by-set, get_or-le-sum_by}
 use Rattle.brc_model.specs.declared.duty.Duty.{Duty}
-use Rattle.brc_model.specs.declared.duty.Duty.TheVariants.{MergeLoad, MergeExchange, Settle, Scan}
+use Rattle.brc_model.specs.declared.duty.Duty.TheVariants.{MergeLoad, MergeExchange, Settle, Scan, TakeFound}
 use Rattle.brc_model.specs.Duties.{address_of, continuation, new_head, ready}
 use Rattle.brc_model.specs.declared.actor.Actor.{Actor}
 use Rattle.brc_model.specs.Machine.{Machine, is_running, machine_by_duty}
@@ -16,7 +16,8 @@ use Rattle.brc_model.specs.RowInvariant.{waits, carries, merges, decides, agenda
 -- The weight is 0 for the duties that `ready` can skip: settling, and looking through marks.
 pub record IsLight (f : Duty → ℕ) : Type 0 where
   pub settle : f Settle ≡ 0
-  pub scan : (x n : ℕ) → f (Scan x n) ≡ 0
+  pub scan : (w n : ℕ) → f (Scan w n) ≡ 0
+  pub take : (w marks : ℕ) → f (TakeFound w marks) ≡ 0
 
 without_weight : (f : Duty → ℕ) (d : Duty) (ds : List Duty) → f d ≡ 0 → sum_by f ds ≡ sum_by f (d ∷ ds)
 without_weight f d ds none = omega (arith, sum_by-cons f d ds, none)
@@ -25,6 +26,8 @@ pub sum_by-ready : (f : Duty → ℕ) → IsLight f → (head : ℕ) (ds : List 
 sum_by-ready f light zero (Settle ∷ rest) = sum_by-ready f light zero rest ∙ without_weight f Settle rest light.settle
 sum_by-ready f light head (Scan x zero ∷ rest) =
     sum_by-ready f light head rest ∙ without_weight f (Scan x zero) rest (light.scan x zero)
+sum_by-ready f light head (TakeFound w zero ∷ rest) =
+    sum_by-ready f light head rest ∙ without_weight f (TakeFound w zero) rest (light.take w zero)
 sum_by-ready f light _ _ = cc
 
 -- ---- one agenda changes
@@ -66,8 +69,9 @@ pub record Weighed (before after : Machine) (x : ℕ) (d : Duty) (next : List Du
   pub deciding : weight (decides x) after.actors + decides x d ≡ weight (decides x) before.actors
       + sum_by (decides x) next
 
-light : (f : Duty → ℕ) → f Settle ≡ 0 → ((x n : ℕ) → f (Scan x n) ≡ 0) → IsLight f
-light f settle scan = record { settle = settle; scan = scan }
+light : (f : Duty → ℕ) → f Settle ≡ 0 → ((w n : ℕ) → f (Scan w n) ≡ 0)
+    → ((w marks : ℕ) → f (TakeFound w marks) ≡ 0) → IsLight f
+light f settle scan take = record { settle = settle; scan = scan; take = take }
 
 pub weighed_after : (m : Machine) (t : ℕ) (a : Actor) (d : Duty) (rest next : List Duty) → slice_get m.actors t ≡ Some a
     → a.agenda ≡ d ∷ rest
@@ -82,16 +86,16 @@ weighed_after m t a d rest next is agenda follows x =
     ap (λ (ds : List Duty). ready head (ds ++ rest)) follows in
     record {
       waiting =
-          weight-stepped (waits x) (light (waits x) refl (λ y n. refl)) m.actors t a _ d next rest head is agenda now
+          weight-stepped (waits x) (light (waits x) refl (λ w n. refl) (λ w n. refl)) m.actors t a _ d next rest head is agenda now
           refl;
       carried =
-          weight-stepped (carries x) (light (carries x) refl (λ y n. refl)) m.actors t a _ d next rest head is agenda
+          weight-stepped (carries x) (light (carries x) refl (λ w n. refl) (λ w n. refl)) m.actors t a _ d next rest head is agenda
           now refl;
       merging =
-          weight-stepped (merges x) (light (merges x) refl (λ y n. refl)) m.actors t a _ d next rest head is agenda
+          weight-stepped (merges x) (light (merges x) refl (λ w n. refl) (λ w n. refl)) m.actors t a _ d next rest head is agenda
           now refl;
       deciding =
-          weight-stepped (decides x) (light (decides x) refl (λ y n. refl)) m.actors t a _ d next rest head is agenda
+          weight-stepped (decides x) (light (decides x) refl (λ w n. refl) (λ w n. refl)) m.actors t a _ d next rest head is agenda
           now refl;
     }
 

@@ -7,7 +7,7 @@ use Rattle.brc_lang.specs.declared.module.Instr.{Instr}
 use Rattle.brc_lang.specs.declared.module.Instr.TheVariants.{Num, List as ListObject, NoneObject, Newref, Move as MoveReference, Drop, Lock, Unlock, Borrow, Fetch, Set, Put, Goto, Again, Ret, Fail, As, Open, Connect, Read, Write}
 use Rattle.brc_model.specs.Threads.{row_of}
 use Rattle.brc_model.specs.declared.duty.Duty.{Duty}
-use Rattle.brc_model.specs.declared.duty.Duty.TheVariants.{Die, Settle, Scan}
+use Rattle.brc_model.specs.declared.duty.Duty.TheVariants.{Die, Settle, Scan, TakeFound}
 use Rattle.brc_model.specs.Duties.{continuation, new_head, ready}
 use Rattle.brc_model.specs.declared.actor.Place.{Place}
 use Rattle.brc_model.specs.declared.actor.Context.{Context}
@@ -19,7 +19,7 @@ use Rattle.brc_model.specs.declared.state.Exit.{Exit}
 use Rattle.brc_model.specs.Actions.{StepActor, Action, Skip, Stuck, Silent, Calls, Does, with_row, dispatch_instruction, dispatch_inside}
 use Rattle.brc_model.specs.StepMachine.{step_actor}
 use Rattle.brc_model.proofs.Basics.Lists.{either}
-use Rattle.brc_model.proofs.Basics.Continuation.{leaves_chain, fills_chain, may_fill, is_inner, Traits, Continuation, Ends, GoesOn, Frees, Claims, ClaimsNone, Scans, ScansNone, continues}
+use Rattle.brc_model.proofs.Basics.Continuation.{leaves_chain, fills_chain, may_fill, is_inner, Traits, Continuation, Ends, GoesOn, Frees, Claims, ClaimsNone, Takes, TakesNone, continues}
 use Rattle.brc_model.specs.declared.layout.Layout.{Layout}
 use Rattle.brc_model.proofs.Promises.Turns.{EachPlace}
 use Rattle.std.proofs.lemmas.List.{append-nil, append_assoc}
@@ -58,6 +58,8 @@ ready_empties : (head : ℕ) (agenda : List Duty) → Empties head agenda → Em
 ready_empties zero (Settle ∷ rest) e = ready_empties zero rest e
 ready_empties zero (Scan x zero ∷ rest) e = ready_empties zero rest e
 ready_empties (suc head) (Scan x zero ∷ rest) e = ready_empties (suc head) rest e
+ready_empties zero (TakeFound w zero ∷ rest) e = ready_empties zero rest e
+ready_empties (suc head) (TakeFound w zero ∷ rest) e = ready_empties (suc head) rest e
 ready_empties _ _ e = cc
 
 -- ---- one duty
@@ -91,8 +93,8 @@ next_empties d next rest (Frees x i n y c some leads) e =
     subst (λ (full : Bool). empties full rest ≡ true) (sym (ap (λ (s : Traits). s.chain true) leads.same)) e
 next_empties {head = head} d next rest (Claims x set) e = asks_least (some_chain head) rest e
 next_empties {head = head} d next rest (ClaimsNone x) e = asks_least (some_chain head) rest e
-next_empties {head = head} d next rest (Scans i n set) e = asks_least (some_chain head) rest e
-next_empties {head = head} d next rest (ScansNone i n) e = asks_least (some_chain head) rest e
+next_empties {head = head} d next rest (Takes w n set) e = asks_least (some_chain head) rest e
+next_empties {head = head} d next rest (TakesNone w n) e = asks_least (some_chain head) rest e
 next_empties d next rest _ e = e
 
 -- ---- all threads

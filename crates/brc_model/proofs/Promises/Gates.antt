@@ -10,7 +10,7 @@ use Rattle.brc_lang.specs.Grammar.{IsModule}
 use Rattle.brc_model.specs.Paths.{IsAcceptable}
 use Rattle.brc_word.specs.Words.{free_word, closed_word}
 use Rattle.brc_model.specs.declared.duty.Duty.{Duty}
-use Rattle.brc_model.specs.declared.duty.Duty.TheVariants.{Die, Settle, SettleKind, SettleCell, TakeSlot, CloseResource, SettleEnd, Leave, Scan, Finish}
+use Rattle.brc_model.specs.declared.duty.Duty.TheVariants.{Die, Settle, SettleKind, SettleCell, TakeSlot, CloseResource, SettleEnd, Leave, Scan, TakeFound, Finish}
 use Rattle.brc_model.specs.declared.address.Address.{Address}
 use Rattle.brc_model.specs.declared.address.Address.TheVariants.{Gate}
 use Rattle.brc_model.specs.declared.actor.Status.{Status}
@@ -79,6 +79,8 @@ later_gate m t used status (SettleEnd y ∷ rest) x later all some =
     ]
 later_gate m t used status (Leave i k ∷ []) x later all some = absurd (omega (arith, some))
 later_gate m t used status (Scan i k ∷ rest) x later all some = later_gate m t used status rest x later.2 all.1 some
+later_gate m t used status (TakeFound w k ∷ rest) x later all some =
+    later_gate m t used status rest x later.2 all.1 some
 later_gate m t used status (Finish ∷ []) x later all some = absurd (omega (arith, some))
 later_gate m t used status _ x later all some = absurd later
 
@@ -88,6 +90,8 @@ behind_gate m t used status Settle rest x fits all some = later_gate m t used st
 behind_gate m t used status (Leave i k) [] x fits all some = absurd (omega (arith, some))
 behind_gate m t used status (Leave i k) (e ∷ rest) x fits all some = absurd fits
 behind_gate m t used status (Scan i k) rest x fits all some = later_gate m t used status rest x fits.2 all some
+behind_gate m t used status (TakeFound w k) rest x fits all some =
+    later_gate m t used status rest x fits.2 all some
 behind_gate m t used status Finish [] x fits all some = absurd (omega (arith, some))
 behind_gate m t used status Finish (e ∷ rest) x fits all some = absurd fits
 behind_gate m t used status _ rest x fits all some = later_gate m t used status rest x fits all some

@@ -1,14 +1,17 @@
 -- In each machine that events lead to, each set mark is watched, as the invariant says.
-use Rattle.std.proofs.Common.{◌≡◌, ◌≢◌, ℕ, ◌+◌, ◌<◌, Bool, true, false, List, [], ◌∷◌, inl, inr, length, Some, refl, sym, ap, ◌∙◌, arith}
+use Rattle.std.proofs.Common.{◌≡◌, ◌≢◌, ℕ, ◌+◌, ◌*◌, ◌/◌, ◌<◌, Bool, true, false, List, [], ◌∷◌, inl, inr, length, Some, refl, sym, ap, ◌∙◌, arith}
 use Rattle.std.specs.Prelude.{◌&&◌, ◌||◌, nat_le, nat_lt, slice_get}
 use Rattle.std.specs.List.{list_any}
 use Rattle.std.proofs.lemmas.Bool.{lt-ltb}
 use Rattle.brc_word.specs.declared.values.TheConstants.{RUNNING, SET, UNSET}
+use Rattle.brc_word.specs.Words.{marks_of_word}
 use Rattle.brc_lang.specs.declared.module.Module.{Module}
 use Rattle.brc_lang.specs.Grammar.{IsModule}
 use Rattle.brc_model.specs.Paths.{IsAcceptable}
+use Rattle.brc_model.specs.OpenWork.{is_found}
+use Rattle.brc_model.proofs.Basics.Lists.{either_true, or_second}
 use Rattle.brc_model.specs.declared.duty.Duty.{Duty}
-use Rattle.brc_model.specs.declared.duty.Duty.TheVariants.{Look, TakeMark, Settle, SettleCell, SettleEnd, Leave, Scan, Finish}
+use Rattle.brc_model.specs.declared.duty.Duty.TheVariants.{Look, TakeMark, Settle, SettleCell, SettleEnd, Leave, Scan, TakeFound, Finish}
 use Rattle.brc_model.specs.declared.address.Address.TheVariants.{ThreadWord}
 use Rattle.brc_model.specs.declared.actor.Status.{Status}
 use Rattle.brc_model.specs.declared.actor.Status.TheVariants.{Running, Leaving, Gone}
@@ -69,8 +72,17 @@ later_scans used status x (SettleEnd y ∷ rest) later low e = later_scans used 
 later_scans used status x (Leave y k ∷ []) later low e = absurd cc
 later_scans used status x (Scan y k ∷ rest) later low e = (
   later.0,
-  both_true (nat_le y x) (nat_lt x (y + k)) (list_any (scans_over x) rest) e
-      (lt-ltb x (y + k) (omega (arith, low, later.1))),
+  both_true (nat_le y (x / marks_of_word)) (nat_lt x (marks_of_word * y + k)) (list_any (scans_over x) rest) e
+      (lt-ltb x (marks_of_word * y + k) (omega (arith, low, later.1))),
+)
+later_scans used status x (TakeFound w marks ∷ rest) later low e = (
+  later.0,
+  elim (either_true (is_found x w marks) (scans x rest) e) [
+    | inl found ↦ ap (λ (b : Bool). b || list_any (scans_over x) rest) found
+    | inr more ↦
+        or_second (is_found x w marks) (list_any (scans_over x) rest)
+        (later_scans used status x rest later.2 low more).1
+  ],
 )
 later_scans used status x (Finish ∷ []) later low e = absurd cc
 later_scans used status x _ later low e = absurd later
@@ -85,6 +97,8 @@ agenda_scans used status x (Leave y k ∷ rest) fits low e =
     later_scans used status x (Leave y k ∷ rest) fits low e
 agenda_scans used status x (Scan y k ∷ rest) fits low e =
     later_scans used status x (Scan y k ∷ rest) fits low e
+agenda_scans used status x (TakeFound w marks ∷ rest) fits low e =
+    later_scans used status x (TakeFound w marks ∷ rest) fits low e
 agenda_scans used status x (Finish ∷ rest) fits low e =
     later_scans used status x (Finish ∷ rest) fits low e
 agenda_scans used status x (_ ∷ rest) fits low e =

@@ -10,15 +10,15 @@ use Rattle.brc_model.specs.declared.duty.Holding.{Holding}
 use Rattle.brc_model.specs.declared.duty.Reason.{Reason}
 use Rattle.brc_model.specs.declared.duty.Reason.TheVariants.{Own, Handed}
 use Rattle.brc_model.specs.declared.duty.Duty.{Duty}
-use Rattle.brc_model.specs.declared.duty.Duty.TheVariants.{RetainLoad, RetainStore, RetainAdd, ReleaseLoad, ReleaseStore, DecideAtZero, SharedLoad, SharedExchange, SetMark, Look, TakeMark, MergeSwap, MergeLoad, MergeExchange, Die, Settle, SettleKind, SettleCell, TakeSlot, CloseResource, SettleEnd, Leave, Scan, Finish, ClaimMark, BirthKind, BirthSlot, BirthLocal, KindLoad, LockGate, UnlockGate, CellLoad, CellSwap, LendSlot, ReturnSlot}
+use Rattle.brc_model.specs.declared.duty.Duty.TheVariants.{RetainLoad, RetainStore, RetainAdd, ReleaseLoad, ReleaseStore, DecideAtZero, SharedLoad, SharedExchange, SetMark, Look, TakeMark, MergeSwap, MergeLoad, MergeExchange, Die, Settle, SettleKind, SettleCell, TakeSlot, CloseResource, SettleEnd, Leave, Scan, MarksLoad, TakeFound, Finish, ClaimMark, BirthKind, BirthSlot, BirthLocal, KindLoad, LockGate, UnlockGate, CellLoad, CellSwap, LendSlot, ReturnSlot}
 use Rattle.brc_model.specs.declared.address.Address.{Address}
 use Rattle.brc_model.specs.Rules.{Goes, IsComputed, given_up}
 use Rattle.brc_model.specs.Rules as rules
-use Rattle.brc_model.specs.Duties.{new_word, continuation, counts_locally, has_resource}
+use Rattle.brc_model.specs.Duties.{found_row, new_word, continuation, counts_locally, has_resource}
 use Rattle.brc_model.specs.Moves.{reference_effects, put_in_flight}
 use Rattle.brc_model.specs.AbstractState.{Move}
 use Rattle.brc_model.specs.declared.layout.Layout.{Layout}
-use Rattle.brc_model.specs.Layout.{row_at, mark_bit}
+use Rattle.brc_model.specs.Layout.{mark_bit}
 
 -- Case analysis on a test of two numbers.
 by_test : (a b : ℕ) (P : Bool → Type 0) → (a ≡ b → P true) → (a ≢ b → P false) → P (a == b)
@@ -154,10 +154,12 @@ module _ (memory : Address → ℕ) (layout : Layout) (t : ℕ) (running : Bool)
       record { left_is = refl; next_is = rw is refl; moves_are = refl }
   computed d found left next moves (rules.DyingCells x f is) =
       record { left_is = refl; next_is = rw is refl; moves_are = refl }
-  computed d found left next moves (rules.ScanFindsMark index rows f set) =
-      record { left_is = refl; next_is = rw (same_test (mark_at f (mark_bit layout (row_at layout t index))) 1 set) refl; moves_are = refl }
-  computed d found left next moves (rules.ScanFindsNone index rows f none) =
-      record { left_is = refl; next_is = rw (other_test (mark_at f (mark_bit layout (row_at layout t index))) 1 none) refl; moves_are = refl }
+  computed d found left next moves (rules.FoundMarkTaken w marks f set) =
+      let mark = mark_at f (mark_bit layout (found_row layout t w marks)) in
+      record { left_is = refl; next_is = rw (same_test mark 1 set) refl; moves_are = refl }
+  computed d found left next moves (rules.FoundMarkGone w marks f none) =
+      let mark = mark_at f (mark_bit layout (found_row layout t w marks)) in
+      record { left_is = refl; next_is = rw (other_test mark 1 none) refl; moves_are = refl }
   -- the other rules have no condition
   computed d found left next moves _ = record { left_is = refl; next_is = refl; moves_are = refl }
 
@@ -279,7 +281,10 @@ module _ (memory : Address → ℕ) (layout : Layout) (t : ℕ) (running : Bool)
   by_rule (CloseResource x) found = rules.ResourceClosed x found
   by_rule (SettleEnd x) found = rules.Closes x found
   by_rule (Leave first rows) found = rules.SaysLeaving first rows found
-  by_rule (Scan index rows) found =
-      by_same (mark_at found (mark_bit layout (row_at layout t index))) 1 (λ set. applies (rules.ScanFindsMark index rows found set))
-      (λ none. applies (rules.ScanFindsNone index rows found none))
+  by_rule (Scan word rows) found = rules.MarksRead word rows found
+  by_rule (TakeFound word marks) found =
+      by_same (mark_at found (mark_bit layout (found_row layout t word marks))) 1
+      (λ set. applies (rules.FoundMarkTaken word marks found set))
+      (λ none. applies (rules.FoundMarkGone word marks found none))
+  by_rule (MarksLoad word) found = rules.MarksLooked word found
   by_rule Finish found = rules.SaysGone found

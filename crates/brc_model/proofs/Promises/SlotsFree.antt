@@ -51,7 +51,7 @@ of_settling : (x : ℕ) → IsOfSettling x (settling x)
 of_settling x = record {
   others = λ d e. ap one_if e;
   low = λ d. one_if_low (settles d x);
-  light = record { settle = refl; scan = λ i n. refl };
+  light = record { settle = refl; scan = λ w n. refl; take = λ w n. refl };
 }
 
 -- A duty that isn't about the row weighs nothing by the second one.

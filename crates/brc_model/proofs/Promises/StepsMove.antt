@@ -13,14 +13,14 @@ use Rattle.brc_word.specs.Words.{free_word, unmarked_word}
 use Rattle.brc_model.specs.Threads.{code_of}
 use Rattle.brc_model.specs.declared.duty.Reason.TheVariants.{Handed}
 use Rattle.brc_model.specs.declared.duty.Duty.{Duty}
-use Rattle.brc_model.specs.declared.duty.Duty.TheVariants.{MergeSwap, Settle, ClaimMark, LockGate}
+use Rattle.brc_model.specs.declared.duty.Duty.TheVariants.{MergeSwap, Settle, TakeFound, ClaimMark, LockGate}
 use Rattle.brc_model.specs.declared.address.Address.{Address}
 use Rattle.brc_model.specs.declared.address.Address.TheVariants.{Gate}
 use Rattle.brc_model.specs.Duties.{mark_place, address_of, new_head, ready}
 use Rattle.brc_model.specs.declared.actor.Status.{Status}
 use Rattle.brc_model.specs.declared.actor.Status.TheVariants.{Running, Leaving, Gone}
 use Rattle.brc_model.specs.declared.actor.Place.{Place}
-use Rattle.brc_model.specs.Machine.{is_running, written, mark_of}
+use Rattle.brc_model.specs.Machine.{Machine, is_running, written, mark_of}
 use Rattle.brc_model.specs.declared.state.Exit.{Exit}
 use Rattle.brc_model.specs.declared.state.Exit.TheVariants.{Success}
 use Rattle.brc_model.specs.Actions.{StepActor, Action, Skip, Stuck, Silent, Calls, Does, always, may_claim, agenda_action, status_action, exit_of, action_of, is_before_instruction, may_stop, stop_action, stop_in_call, row_locked, owned_rows, none_of}
@@ -31,12 +31,18 @@ use Rattle.brc_model.proofs.Basics.Written.{written_load}
 use Rattle.brc_model.proofs.Basics.Marks.{none_taken, taken_mark}
 use Rattle.brc_model.proofs.Dispatch.Claims.{claimer, gone_claims_none, stopper, gone_stops_not}
 use Rattle.brc_model.proofs.Dispatch.Actions.{ActionFits, action_fits}
+use Rattle.brc_model.proofs.Keeping.Kept.{Doing}
+use Rattle.brc_model.proofs.Frame.Leaves.{head_of}
+use Rattle.brc_model.proofs.Stepping.FitsAfter.{agenda_here}
+use Rattle.brc_model.proofs.Basics.FoundMarks.{marks_fit}
+use Rattle.brc_model.specs.declared.actor.Actor.{Actor}
+use Rattle.brc_model.specs.Invariant.{AtDuty}
 use Rattle.brc_model.specs.Accounts.{Accounts}
 use Rattle.brc_model.proofs.Keeping.CodeInvariant.{CodeInvariant}
 use Rattle.brc_model.proofs.Keeping.CodeEvents.{code_invariant_after}
 use Rattle.brc_model.proofs.Promises.Safe.{first_code_invariant}
 use Rattle.brc_model.proofs.Promises.Worlds.{worlds_follow}
-use Rattle.brc_model.proofs.Promises.AgendaMoves.{agenda_moves}
+use Rattle.brc_model.proofs.Promises.AgendaMoves.{FindsMarks, agenda_moves}
 use Rattle.brc_model.proofs.Promises.Turns.{CountsTurns, FitsCode, TurnsHold, code_here, first_turns, turns_after}
 use Rattle.brc_model.proofs.Promises.Elsewhere.{FindsFree, IsElsewhere, leads_free, dispatch_elsewhere}
 use Rattle.brc_model.proofs.Promises.Emptied.{chain_empty}
@@ -99,6 +105,15 @@ finds_free memory layout t head (LockGate x) rest place free =
     eqb-true (memory (Gate x)) free_word (not-false (memory (Gate x) == free_word) free)
 finds_free memory layout t head _ rest place free = tt
 
+-- A thread that takes marks has found some.
+finds_marks : {c : Accounts} {n : ℕ} {m : Machine} {t : ℕ} {a : Actor} (d : Duty) (rest : List Duty)
+    → Doing c n m t a d rest → FindsMarks d
+finds_marks {a = a} (TakeFound w marks) rest doing =
+    let here : AtDuty _ _ _ _ a (TakeFound w marks) rest =
+    record { core = doing.kept.core; found = doing.found; agenda = doing.agenda } in
+    (head_of here, marks_fit marks a.used w (agenda_here here doing.alive).1)
+finds_marks _ rest doing = tt
+
 action_moves : (p : Module) (c : Accounts) (n : ℕ) (m : StepMachine) (t : ℕ) (a : StepActor) (exit : Exit)
     (x : Action)
     → slice_get m.actors t ≡ Some a → finds_locked m.memory x ≡ false → ActionFits p c n m t a x → Moves a x
@@ -122,7 +137,7 @@ action_moves p c n m t a exit (Does d rest place) found free fits moves =
           (ap (λ (c : StepActor). c.place) e)
       | inr is ↦
           agenda_moves m.layout t (is_running a.actor.status) a.actor.head (new_head a.actor.head d word) d rest word
-          (ap (λ (c : StepActor). c.actor.agenda) e ∙ is)
+          (finds_marks d rest fits.doing) (ap (λ (c : StepActor). c.actor.agenda) e ∙ is)
     ])
 
 -- The machine after an event of the thread.

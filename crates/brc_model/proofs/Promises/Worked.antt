@@ -1,6 +1,7 @@
 -- Three schedules of the smallest module, with one worker that makes one call, by computation.
 use Rattle.std.proofs.Common.{◌≡◌, ℕ, List, [], ◌∷◌, ◌++◌, map, Option, None, refl}
 use Rattle.std.specs.Prelude.{replicate}
+use lib.Count.{count_trailing_zeros}
 use Rattle.brc_lang.specs.declared.module.Instr.TheVariants.{Fail}
 use Rattle.brc_lang.specs.declared.module.Module.{Module}
 use Rattle.brc_model.specs.declared.state.State.{State}
@@ -36,15 +37,15 @@ mark_set : List (ℕ × Choice)
 mark_set = steps 5 1 ++ steps 40 0
 
 mark_set-life : (after_events mark_set).life 1 ≡ Closed
-unfolding smallest no_states one_call steps after_events mark_set
+unfolding smallest no_states one_call steps after_events mark_set count_trailing_zeros
 mark_set-life = refl
 
 mark_set-statuses : statuses (after_events mark_set) ≡ Gone ∷ Running ∷ []
-unfolding smallest no_states one_call steps after_events mark_set statuses
+unfolding smallest no_states one_call steps after_events mark_set count_trailing_zeros statuses
 mark_set-statuses = refl
 
 mark_set-done : statuses (after_events (mark_set ++ steps 10 1)) ≡ Gone ∷ Gone ∷ []
-unfolding smallest no_states one_call steps after_events mark_set statuses
+unfolding smallest no_states one_call steps after_events mark_set count_trailing_zeros statuses
 mark_set-done = refl
 
 -- The worker has queued the root and hasn't set its mark yet when main leaves. Main's exit finds no mark, and the

@@ -4,7 +4,7 @@ use Rattle.std.proofs.Common.{◌≡◌, ℕ, zero, suc, ◌+◌, ◌-◌, ◌<�
 use Rattle.std.specs.Prelude.{nat_lt}
 use Rattle.std.proofs.lemmas.Bool.{eq-eqb, eqb-false, ltb-true, ltb-false, false≢true}
 use Rattle.brc_model.specs.declared.duty.Duty.{Duty}
-use Rattle.brc_model.specs.declared.duty.Duty.TheVariants.{Die, Settle, SettleCell, SettleEnd, Scan, LockGate, UnlockGate}
+use Rattle.brc_model.specs.declared.duty.Duty.TheVariants.{Die, Settle, SettleCell, SettleEnd, Scan, TakeFound, LockGate, UnlockGate}
 use Rattle.brc_model.specs.declared.address.Address.TheVariants.{Gate, KindOf, Cell}
 use Rattle.brc_model.specs.declared.layout.Layout.{Layout}
 use Rattle.brc_model.specs.Duties.{address_of, new_word, new_head, ready, resources_of, cells_from, release_found}
@@ -17,7 +17,7 @@ use Rattle.brc_model.specs.Knowledge.{BehindFits, AllBehind, BehindOf, IsDyingWo
 use Rattle.brc_model.specs.OpenWork.{is_finalising, finalised, dies_by, ChainFits}
 use Rattle.brc_model.specs.Invariant.{AtDuty}
 use Rattle.brc_model.proofs.Basics.Bag.{one_if_low}
-use Rattle.brc_model.proofs.Basics.Continuation.{Continuation, Ends, Finishes, GoesOn, Frees, FreesOld, SettlesRow, Claims, ClaimsNone, Exits, Scans, ScansNone, continues}
+use Rattle.brc_model.proofs.Basics.Continuation.{Continuation, Ends, Finishes, GoesOn, Frees, FreesOld, SettlesRow, Claims, ClaimsNone, Exits, Scans, Takes, TakesNone, continues}
 use Rattle.brc_model.proofs.Basics.Lists.{some_is, none_some}
 use Rattle.brc_model.proofs.Basics.Written.{written_apart, written_load, apart_gate}
 use Rattle.brc_model.proofs.Frame.Alive.{alive_backed}
@@ -156,6 +156,11 @@ behind_ready m t (suc head) (Scan i zero ∷ rest) behind =
     behind_ready m t (suc head) rest (behind_tail m t rest behind)
 behind_ready m t zero (Scan i (suc n) ∷ rest) behind = behind
 behind_ready m t (suc head) (Scan i (suc n) ∷ rest) behind = behind
+behind_ready m t zero (TakeFound w zero ∷ rest) behind = behind_ready m t zero rest (behind_tail m t rest behind)
+behind_ready m t (suc head) (TakeFound w zero ∷ rest) behind =
+    behind_ready m t (suc head) rest (behind_tail m t rest behind)
+behind_ready m t zero (TakeFound w (suc k) ∷ rest) behind = behind
+behind_ready m t (suc head) (TakeFound w (suc k) ∷ rest) behind = behind
 behind_ready m t zero (_ ∷ rest) behind = behind
 behind_ready m t (suc head) (_ ∷ rest) behind = behind
 
@@ -175,8 +180,9 @@ behind_next m u d next rest SettlesRow other all = (tt, all)
 behind_next m u d next rest (Claims x set) other all = (tt, all)
 behind_next m u d next rest (ClaimsNone x) other all = all
 behind_next m u d next rest (Exits i k) other all = (tt, all)
-behind_next m u d next rest (Scans i k set) other all = (tt, (tt, all))
-behind_next m u d next rest (ScansNone i k) other all = (tt, all)
+behind_next m u d next rest (Scans w k) other all = (tt, all)
+behind_next m u d next rest (Takes w k set) other all = (tt, (tt, all))
+behind_next m u d next rest (TakesNone w k) other all = (tt, all)
 
 -- ---- the cells of a dying list
 

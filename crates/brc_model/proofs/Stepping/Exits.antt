@@ -1,15 +1,16 @@
 -- A thread fits after its own steps of an exit: it says that it leaves, looks through its rows' marks, and says that it
 -- is gone.
-use Rattle.std.proofs.Common.{◌≡◌, ℕ, ◌+◌, ◌-◌, Bool, true, false, cond, List, [], ◌∷◌, ◌++◌, inl, inr, None, refl, ap, ◌∙◌, subst, arith, ◌≢◌}
+use Rattle.std.proofs.Common.{◌≡◌, ℕ, ◌+◌, ◌-◌, ◌*◌, Bool, true, false, cond, List, [], ◌∷◌, ◌++◌, inl, inr, None, refl, ap, ◌∙◌, subst, arith, ◌≢◌}
 use Rattle.std.specs.Prelude.{◌==◌}
 use Rattle.std.proofs.lemmas.Bool.{eqb-true}
 use Rattle.brc_word.specs.declared.values.TheConstants.{SET}
+use Rattle.brc_word.specs.Words.{marks_of_word, unmarked_word, lowest_mark, first_marks}
 use Rattle.brc_model.specs.declared.duty.Holding.{Holding}
 use Rattle.brc_model.specs.declared.duty.Reason.TheVariants.{Handed}
 use Rattle.brc_model.specs.declared.duty.Duty.{Duty}
-use Rattle.brc_model.specs.declared.duty.Duty.TheVariants.{MergeSwap, Settle, Leave, Scan, Finish, ClaimMark}
+use Rattle.brc_model.specs.declared.duty.Duty.TheVariants.{MergeSwap, Settle, Leave, Scan, TakeFound, Finish, ClaimMark}
 use Rattle.brc_model.specs.declared.address.Address.TheVariants.{Gate, ThreadWord}
-use Rattle.brc_model.specs.Duties.{claimed, ready}
+use Rattle.brc_model.specs.Duties.{found_row, claimed, ready}
 use Rattle.brc_model.specs.declared.actor.Status.TheVariants.{Leaving, Gone}
 use Rattle.brc_model.specs.declared.actor.Actor.{Actor}
 use Rattle.brc_model.specs.Machine.{Life, Machine, dies_next, machine_by_duty, Unborn, mark_of}
@@ -24,13 +25,14 @@ use Rattle.brc_model.proofs.Frame.Leaves.{head_of}
 use Rattle.brc_model.proofs.Frame.Lives.{next_of}
 use Rattle.brc_model.proofs.Stepping.Behind.{still_behind}
 use Rattle.brc_model.proofs.Stepping.Own.{HeldStep, ready_is, chain_same, ready_first}
-use Rattle.brc_model.proofs.Stepping.FitsAfter.{bag_by, memory_by, agenda_here, NotGone, FitsAfter}
+use Rattle.brc_model.proofs.Stepping.FitsAfter.{found_by, bag_by, memory_by, agenda_here, NotGone, FitsAfter}
 use Rattle.brc_model.proofs.Stepping.Counts.{held_same}
 use Rattle.brc_model.proofs.Stepping.Shown.{own_shown, agenda_shown}
 use Rattle.brc_model.proofs.Stepping.Chains.{chain_here}
 use Rattle.brc_model.proofs.Basics.Blocks.{used_block}
+use Rattle.brc_model.proofs.Basics.FoundMarks.{found_used, lowest_used, taken_used}
 use Rattle.brc_model.proofs.Stepping.Settled.{ready_none}
-use Rattle.brc_model.specs.Layout.{block_of, row_at, IsCounted}
+use Rattle.brc_model.specs.Layout.{block_of, IsCounted}
 use Rattle.brc_model.proofs.Stepping.Steps.{own_steady, is_steady}
 
 -- ---- marked rows
@@ -53,7 +55,7 @@ module _ {p : Accounts} {n : ℕ} {m : Machine} where
 
 -- ---- claiming a mark
 
--- What `Scan` and `ClaimMark` have in common. `behind` are the duties that follow whether or not the mark was set.
+-- What `TakeFound` and `ClaimMark` have in common. `behind` are the duties that follow whether or not the mark was set.
 record ClaimStep (m : Machine) (t : ℕ) (a : Actor) (d : Duty) (x : ℕ) (rest behind : List Duty) : Type 0 where
   next_is : next_of m t a d ≡ claimed x (mark_of m.layout m.memory x) ++ behind
   none_dies : dies_next behind ≡ None
@@ -98,19 +100,46 @@ module _ {p : Accounts} {n : ℕ} {m : Machine} {t : ℕ} {a : Actor} {d : Duty}
       ] refl
 
 module _ {p : Accounts} {n : ℕ} {m : Machine} {t : ℕ} {a : Actor} {rest : List Duty} where
-  -- The thread fits after `ScanFindsMark` and `ScanFindsNone`.
-  pub thread_after_scan : (i k : ℕ) → AtDuty p n m t a (Scan i k) rest → NotGone a → FitsAfter p m t a (Scan i k) rest
-  thread_after_scan i k here alive =
+  -- The thread fits after `MarksRead`: the marks that it has found are of rows that it has used.
+  pub thread_after_scan : (w k : ℕ) → AtDuty p n m t a (Scan w k) rest → NotGone a → FitsAfter p m t a (Scan w k) rest
+  thread_after_scan w k here alive =
+      let fits = agenda_here here alive in
+      let marks = first_marks (found_by m t a (Scan w k)) k in
+      let next : List Duty = TakeFound w marks ∷ Scan (w + 1) (k - marks_of_word) ∷ [] in
+      let later : Later a.used a.status (next ++ rest) =
+      (fits.0, found_used (found_by m t a (Scan w k)) a.used w k fits.1,
+      (fits.0, omega (arith, fits.1), fits.2)) in
+      let ready_so = ready_is m.layout t a.used a.status a.head (next ++ rest) later in
+      own_steady next (ready a.head (next ++ rest)) here alive refl (record {
+        next_is = refl;
+        none_dies = refl;
+        agenda_is = refl;
+        hands = λ y. ready_so.hands y;
+        held =
+            held_same m.abstract.references t (Scan w k ∷ rest) (ready a.head (next ++ rest)) ready_so.more
+            ready_so.less;
+        fits = ready_so.fits;
+        knows =
+            λ b status head used locked. ready_so.knows (machine_by_duty m t a (Scan w k) rest) b head
+            (tt, (tt, still_behind here));
+      })
+
+  -- The thread fits after `FoundMarkTaken` and `FoundMarkGone`.
+  pub thread_after_take : (w marks : ℕ) → AtDuty p n m t a (TakeFound w marks) rest → NotGone a
+      → FitsAfter p m t a (TakeFound w marks) rest
+  thread_after_take w marks here alive =
       let some = head_of here in
       let fits = agenda_here here alive in
-      let x = row_at m.layout t i in
-      claim_step x (Settle ∷ Scan (i + 1) (k - 1) ∷ []) here alive refl (record {
+      let x = found_row m.layout t w marks in
+      claim_step x (Settle ∷ TakeFound w (unmarked_word marks (lowest_mark marks)) ∷ []) here alive refl (record {
         next_is = refl;
         none_dies = refl;
         hands = λ y. refl;
-        held = λ agenda more less. held_same m.abstract.references t (Scan i k ∷ rest) agenda more less;
-        block = λ marked. used_block t a i here.core here.found (omega (arith, fits.1, some));
-        later = (fits.0, omega (arith, fits.1, some), fits.2);
+        held = λ agenda more less. held_same m.abstract.references t (TakeFound w marks ∷ rest) agenda more less;
+        block =
+            λ marked. used_block t a (marks_of_word * w + lowest_mark marks) here.core here.found
+            (lowest_used marks a.used w some fits.1);
+        later = (fits.0, taken_used marks a.used w fits.1, fits.2);
         knows = λ new all. (tt, (tt, all));
       })
 

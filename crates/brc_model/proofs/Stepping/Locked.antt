@@ -7,7 +7,7 @@ use Rattle.brc_word.specs.Words.{free_word, locked_word}
 use Rattle.brc_model.specs.declared.duty.Holding.{Holding}
 use Rattle.brc_model.specs.declared.duty.Holding.TheVariants.{InFlight}
 use Rattle.brc_model.specs.declared.duty.Duty.{Duty}
-use Rattle.brc_model.specs.declared.duty.Duty.TheVariants.{ReleaseLoad, Die, Settle, SettleCell, SettleEnd, Leave, Scan, Finish, LockGate, UnlockGate}
+use Rattle.brc_model.specs.declared.duty.Duty.TheVariants.{ReleaseLoad, Die, Settle, SettleCell, SettleEnd, Leave, Scan, TakeFound, Finish, LockGate, UnlockGate}
 use Rattle.brc_model.specs.declared.address.Address.TheVariants.{Gate}
 use Rattle.brc_model.specs.declared.actor.Status.{Status}
 use Rattle.brc_model.specs.declared.actor.Status.TheVariants.{Running, Leaving, Gone}
@@ -36,7 +36,7 @@ abbrev makes : Holding → ℕ → Duty → ℕ
 makes k x d = one_if (lacks d k x)
 
 makes_light : (k : Holding) (x : ℕ) → IsLight (makes k x)
-makes_light k x = record { settle = refl; scan = λ i n. refl }
+makes_light k x = record { settle = refl; scan = λ w n. refl; take = λ w n. refl }
 
 -- The duties that follow a duty make no more references than it does.
 next_makes : {layout : Layout} {t head found : ℕ} (d : Duty) (next : List Duty) (k : Holding) (x : ℕ)
@@ -83,6 +83,8 @@ later_makes used status (SettleEnd y ∷ rest) k x later =
 later_makes used status (Leave i n ∷ []) k x later = omega (arith, sum_by-cons (makes k x) (Leave i n) [])
 later_makes used status (Scan i n ∷ rest) k x later =
     omega (arith, sum_by-cons (makes k x) (Scan i n) rest, later_makes used status rest k x later.2)
+later_makes used status (TakeFound w marks ∷ rest) k x later =
+    omega (arith, sum_by-cons (makes k x) (TakeFound w marks) rest, later_makes used status rest k x later.2)
 later_makes used status (Finish ∷ []) k x later = omega (arith, sum_by-cons (makes k x) Finish [])
 later_makes used status _ k x later = absurd later
 
@@ -92,6 +94,7 @@ agenda_makes used status Settle rest k x fits = later_makes used status rest k x
 agenda_makes used status (Leave i n) [] k x fits = refl
 agenda_makes used status (Leave i n) (e ∷ rest) k x fits = absurd fits
 agenda_makes used status (Scan i n) rest k x fits = later_makes used status rest k x fits.2
+agenda_makes used status (TakeFound w marks) rest k x fits = later_makes used status rest k x fits.2
 agenda_makes used status Finish [] k x fits = refl
 agenda_makes used status Finish (e ∷ rest) k x fits = absurd fits
 agenda_makes used status _ rest k x fits = later_makes used status rest k x fits

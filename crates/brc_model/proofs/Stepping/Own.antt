@@ -3,7 +3,7 @@ use Rattle.std.proofs.Common.{◌≡◌, ℕ, zero, suc, ◌+◌, Bool, false, c
 use Rattle.brc_model.specs.declared.duty.Holding.{Holding}
 use Rattle.brc_model.specs.AbstractState.{Reference}
 use Rattle.brc_model.specs.declared.duty.Duty.{Duty}
-use Rattle.brc_model.specs.declared.duty.Duty.TheVariants.{Settle, SettleCell, SettleEnd, Leave, Scan, Finish}
+use Rattle.brc_model.specs.declared.duty.Duty.TheVariants.{Settle, SettleCell, SettleEnd, Leave, Scan, TakeFound, Finish}
 use Rattle.brc_model.specs.declared.address.Address.TheVariants.{Gate}
 use Rattle.brc_model.specs.Duties.{ready}
 use Rattle.brc_model.specs.declared.actor.Status.{Status}
@@ -91,6 +91,16 @@ ready_is layout t used status zero (Scan x (suc k) ∷ rest) later =
     ready_as (Scan x (suc k) ∷ rest) later (λ k o. refl) (λ k o. refl) (λ m a h b. omega arith)
 ready_is layout t used status (suc head) (Scan x (suc k) ∷ rest) later =
     ready_as (Scan x (suc k) ∷ rest) later (λ k o. refl) (λ k o. refl) (λ m a h b. omega arith)
+ready_is layout t used status zero (TakeFound w zero ∷ rest) later =
+    ready_past (TakeFound w zero) rest (ready zero rest) (λ y. refl)
+    (ready_is layout t used status zero rest later.2)
+ready_is layout t used status (suc head) (TakeFound w zero ∷ rest) later =
+    ready_past (TakeFound w zero) rest (ready (suc head) rest) (λ y. refl)
+    (ready_is layout t used status (suc head) rest later.2)
+ready_is layout t used status zero (TakeFound w (suc k) ∷ rest) later =
+    ready_as (TakeFound w (suc k) ∷ rest) later (λ k o. refl) (λ k o. refl) (λ m a h b. omega arith)
+ready_is layout t used status (suc head) (TakeFound w (suc k) ∷ rest) later =
+    ready_as (TakeFound w (suc k) ∷ rest) later (λ k o. refl) (λ k o. refl) (λ m a h b. omega arith)
 ready_is layout t used status zero (Leave x k ∷ []) later =
     ready_as (Leave x k ∷ []) later (λ k o. refl) (λ k o. refl) (λ m a h b. tt)
 ready_is layout t used status (suc head) (Leave x k ∷ []) later =
@@ -124,7 +134,9 @@ chain_same m new t head agenda later same fits = record {
 pub ready_first : (head : ℕ) (d : Duty) (rest : List Duty) → is_inner d ≡ true → ready head (d ∷ rest) ≡ d ∷ rest
 ready_first zero Settle rest e = absurd cc
 ready_first zero (Scan x k) rest e = absurd cc
+ready_first zero (TakeFound w k) rest e = absurd cc
 ready_first zero _ rest e = refl
 ready_first (suc head) Settle rest e = absurd cc
 ready_first (suc head) (Scan x k) rest e = absurd cc
+ready_first (suc head) (TakeFound w k) rest e = absurd cc
 ready_first (suc head) _ rest e = refl

@@ -2,14 +2,14 @@
 -- steps.
 use Rattle.std.proofs.Common.{◌≡◌, ◌∙◌, ℕ, zero, suc, true, List, [], ◌∷◌, ◌++◌, refl, sym, subst, arith}
 use Rattle.brc_model.specs.declared.duty.Duty.{Duty}
-use Rattle.brc_model.specs.declared.duty.Duty.TheVariants.{Settle, Leave, Scan, Finish}
+use Rattle.brc_model.specs.declared.duty.Duty.TheVariants.{Settle, Leave, Scan, TakeFound, Finish}
 use Rattle.brc_model.specs.Duties.{new_head, ready}
 use Rattle.brc_model.specs.declared.actor.Actor.{Actor}
 use Rattle.brc_model.specs.Machine.{Machine, is_running, actor_by}
 use Rattle.brc_model.specs.OpenWork.{IsSettled}
 use Rattle.brc_model.proofs.Frame.Lives.{next_of}
 use Rattle.brc_model.proofs.Stepping.FitsAfter.{found_by}
-use Rattle.brc_model.proofs.Basics.Continuation.{is_inner, next_inner, first_inner, Continuation, Ends, Finishes, GoesOn, Frees, FreesOld, SettlesRow, Claims, ClaimsNone, Exits, Scans, ScansNone, continues}
+use Rattle.brc_model.proofs.Basics.Continuation.{is_inner, next_inner, first_inner, Continuation, Ends, Finishes, GoesOn, Frees, FreesOld, SettlesRow, Claims, ClaimsNone, Exits, Scans, Takes, TakesNone, continues}
 use Rattle.brc_model.specs.declared.layout.Layout.{Layout}
 
 -- ---- agendas
@@ -25,6 +25,7 @@ settled_any head [] settled = tt
 settled_any head (Settle ∷ rest) settled = settled
 settled_any head (Leave x k ∷ rest) settled = absurd (omega (arith, settled.0))
 settled_any head (Scan x k ∷ rest) settled = absurd (omega (arith, settled.0))
+settled_any head (TakeFound x k ∷ rest) settled = absurd (omega (arith, settled.0))
 settled_any head (Finish ∷ rest) settled = absurd (omega (arith, settled.0))
 settled_any head (_ ∷ rest) settled = settled
 
@@ -34,6 +35,7 @@ settled_inner : (head : ℕ) (d : Duty) (rest : List Duty) → is_inner d ≡ tr
 settled_inner head Settle rest inner settled = absurd cc
 settled_inner head (Leave x k) rest inner settled = absurd cc
 settled_inner head (Scan x k) rest inner settled = absurd cc
+settled_inner head (TakeFound x k) rest inner settled = absurd cc
 settled_inner head Finish rest inner settled = absurd cc
 settled_inner head _ rest inner settled = settled
 
@@ -42,6 +44,7 @@ inner_settled : (head : ℕ) (d : Duty) (rest : List Duty) → is_inner d ≡ tr
 inner_settled head Settle rest inner settled = absurd cc
 inner_settled head (Leave x k) rest inner settled = absurd cc
 inner_settled head (Scan x k) rest inner settled = absurd cc
+inner_settled head (TakeFound x k) rest inner settled = absurd cc
 inner_settled head Finish rest inner settled = absurd cc
 inner_settled head _ rest inner settled = settled
 
@@ -55,6 +58,10 @@ settled_ready zero (Scan x zero ∷ rest) settled = settled_ready zero rest sett
 settled_ready (suc head) (Scan x zero ∷ rest) settled = absurd (omega (arith, settled.0))
 settled_ready zero (Scan x (suc k) ∷ rest) settled = settled
 settled_ready (suc head) (Scan x (suc k) ∷ rest) settled = settled
+settled_ready zero (TakeFound x zero ∷ rest) settled = settled_ready zero rest settled.1
+settled_ready (suc head) (TakeFound x zero ∷ rest) settled = absurd (omega (arith, settled.0))
+settled_ready zero (TakeFound x (suc k) ∷ rest) settled = settled
+settled_ready (suc head) (TakeFound x (suc k) ∷ rest) settled = settled
 settled_ready zero (_ ∷ rest) settled = settled
 settled_ready (suc head) (_ ∷ rest) settled = settled
 
@@ -76,8 +83,9 @@ settled_next new d next rest SettlesRow is settled = settled
 settled_next new d next rest (Claims x set) is settled = settled_any 0 rest settled
 settled_next new d next rest (ClaimsNone x) is settled = settled_any 0 rest settled
 settled_next new d next rest (Exits i n) is settled = (sym is ∙ settled.0, (refl, settled.1))
-settled_next new d next rest (Scans i n set) is settled = (refl, settled.1)
-settled_next new d next rest (ScansNone i n) is settled = (refl, settled.1)
+settled_next new d next rest (Scans w n) is settled = (sym is ∙ settled.0, (refl, settled.1))
+settled_next new d next rest (Takes w n set) is settled = (refl, settled.1)
+settled_next new d next rest (TakesNone w n) is settled = (refl, settled.1)
 
 -- A thread's step keeps `IsSettled`.
 pub settled_after : (m : Machine) (t : ℕ) (a : Actor) (d : Duty) (rest : List Duty) → IsSettled a.head (d ∷ rest)

@@ -6,7 +6,7 @@ use Rattle.std.proofs.lemmas.Bool.{ltb-true, ltb-false, ne_eqb, false≢true, eq
 use Rattle.brc_model.specs.declared.duty.Holding.{Holding}
 use Rattle.brc_model.specs.declared.duty.Holding.TheVariants.{InFlight}
 use Rattle.brc_model.specs.declared.duty.Duty.{Duty}
-use Rattle.brc_model.specs.declared.duty.Duty.TheVariants.{ReleaseLoad, SettleKind, SettleCell, SettleEnd, TakeSlot, CloseResource, Leave, Scan, Finish, Settle}
+use Rattle.brc_model.specs.declared.duty.Duty.TheVariants.{ReleaseLoad, SettleKind, SettleCell, SettleEnd, TakeSlot, CloseResource, Leave, Scan, TakeFound, Finish, Settle}
 use Rattle.brc_model.specs.declared.address.Address.TheVariants.{Gate, KindOf, Cell}
 use Rattle.brc_model.specs.Duties.{cells_of, cells_from, release_found, has_resource, resources_of}
 use Rattle.brc_model.specs.declared.actor.Status.{Status}
@@ -82,6 +82,7 @@ agenda_from : (e : Duty) (used : ℕ) (status : Status) (rest : List Duty) → i
 agenda_from Settle used status rest inner later = absurd cc
 agenda_from (Leave i k) used status rest inner later = absurd cc
 agenda_from (Scan i k) used status rest inner later = absurd cc
+agenda_from (TakeFound w k) used status rest inner later = absurd cc
 agenda_from Finish used status rest inner later = absurd cc
 agenda_from _ used status rest inner later = later
 

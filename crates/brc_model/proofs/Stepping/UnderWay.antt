@@ -2,7 +2,7 @@
 use Rattle.std.proofs.Common.{◌≡◌, ℕ, zero, suc, Bool, true, false, List, [], ◌∷◌, ◌++◌, refl, sym, ap, ◌∙◌, subst}
 use Rattle.brc_model.specs.declared.duty.Duty.{Duty}
 use Rattle.brc_model.specs.declared.layout.Layout.{Layout}
-use Rattle.brc_model.specs.declared.duty.Duty.TheVariants.{Settle, Leave, Scan, Finish}
+use Rattle.brc_model.specs.declared.duty.Duty.TheVariants.{Settle, Leave, Scan, TakeFound, Finish}
 use Rattle.brc_model.specs.Duties.{continuation, ready, new_head}
 use Rattle.brc_model.specs.declared.actor.Status.{Status}
 use Rattle.brc_model.specs.declared.actor.Status.TheVariants.{Running, Leaving, Gone}
@@ -28,6 +28,8 @@ leave_ready : (head : ℕ) (l : List Duty) → has_leave (ready head l) ≡ has_
 leave_ready zero (Settle ∷ rest) = leave_ready zero rest
 leave_ready zero (Scan x zero ∷ rest) = leave_ready zero rest
 leave_ready (suc head) (Scan x zero ∷ rest) = leave_ready (suc head) rest
+leave_ready zero (TakeFound w zero ∷ rest) = leave_ready zero rest
+leave_ready (suc head) (TakeFound w zero ∷ rest) = leave_ready (suc head) rest
 leave_ready _ _ = cc
 
 -- No step is followed by the duty to leave.

@@ -1,30 +1,31 @@
 -- A mark that is set stays watched: by the block's running thread, by its exit, or by the thread that set the mark.
-use Rattle.std.proofs.Common.{◌≡◌, ◌≢◌, ℕ, zero, suc, ◌+◌, ◌<◌, ◌≤◌, Bool, true, false, cond, List, [], ◌∷◌, ◌++◌, ◌⊎◌, inl, inr, Some, set, refl, sym, ap, ◌∙◌, arith, subst}
-use Rattle.std.specs.Prelude.{◌==◌, slice_get, sum_by}
+use Rattle.std.proofs.Common.{◌≡◌, ◌≢◌, ℕ, zero, suc, ◌+◌, ◌*◌, ◌/◌, ◌%◌, ◌<◌, ◌≤◌, Bool, true, false, cond, List, [], ◌∷◌, ◌++◌, ◌⊎◌, inl, inr, Some, set, refl, sym, ap, ◌∙◌, arith, subst}
+use Rattle.std.specs.Prelude.{◌==◌, ◌||◌, slice_get, sum_by}
 use Rattle.std.proofs.lemmas.Bool.{eqb-true, ne_eqb, leb-true, le-leb}
 use Rattle.std.proofs.lemmas.Bool.Decides.{eqb_tells}
 use Rattle.std.proofs.lemmas.List.Sums.{sum_by-cons}
 use Rattle.brc_word.specs.declared.values.TheConstants.{RUNNING, LEAVING, SET, UNSET}
-use Rattle.brc_word.specs.Words.{marked_word, unmarked_word}
+use Rattle.brc_word.specs.Words.{marks_of_word, mark_at, marked_word, unmarked_word, lowest_mark, first_marks}
 use Rattle.brc_model.specs.declared.duty.Duty.{Duty}
-use Rattle.brc_model.specs.declared.duty.Duty.TheVariants.{SetMark, Look, TakeMark, Settle, SettleCell, SettleEnd, Leave, Scan, Finish, ClaimMark}
+use Rattle.brc_model.specs.declared.duty.Duty.TheVariants.{SetMark, Look, TakeMark, Settle, SettleCell, SettleEnd, Leave, Scan, MarksLoad, TakeFound, Finish, ClaimMark}
 use Rattle.brc_model.specs.declared.address.Address.{Address}
-use Rattle.brc_model.specs.declared.address.Address.TheVariants.{ThreadWord}
-use Rattle.brc_model.specs.Duties.{mark_place, new_head, ready}
+use Rattle.brc_model.specs.declared.address.Address.TheVariants.{Marks, ThreadWord}
+use Rattle.brc_model.specs.Duties.{mark_place, found_row, new_head, ready}
 use Rattle.brc_model.specs.declared.actor.Status.{Status}
 use Rattle.brc_model.specs.declared.actor.Status.TheVariants.{Gone}
 use Rattle.brc_model.specs.declared.actor.Actor.{Actor}
 use Rattle.brc_model.specs.Machine.{Machine, is_running, actor_by, machine_by_duty, written, mark_of}
-use Rattle.brc_model.proofs.Basics.Lists.{some_is, slice_get-set_other}
+use Rattle.brc_model.proofs.Basics.Lists.{some_is, either_true, or_second, slice_get-set_other}
 use Rattle.brc_model.specs.References.{one_if}
 use Rattle.brc_model.specs.RowInvariant.{weight}
 use Rattle.brc_model.specs.Accounts.{Accounts}
-use Rattle.brc_model.specs.OpenWork.{Later, Agenda, scans}
+use Rattle.brc_model.specs.OpenWork.{Later, Agenda, is_found, scans}
 use Rattle.brc_model.specs.Invariant.{AtDuty, looks, IsWatched, ByRunning, ByExit, ByLook, CoreInvariant}
 use Rattle.brc_model.specs.Knowledge.{status_word}
 use Rattle.brc_model.proofs.Basics.Written.{written_apart, written_load}
-use Rattle.brc_model.proofs.Basics.Marks.{set_mark, set_elsewhere, taken_mark, taken_elsewhere}
-use Rattle.brc_model.proofs.Basics.Continuation.{is_inner, next_inner, first_inner, Continuation, Ends, GoesOn, Frees, Exits, Scans, ScansNone, continues}
+use Rattle.brc_model.proofs.Basics.Marks.{loaded_marks, set_mark, set_elsewhere, taken_mark, taken_elsewhere}
+use Rattle.brc_model.proofs.Basics.FoundMarks.{first_bit, is_found_here, none_found, others_found}
+use Rattle.brc_model.proofs.Basics.Continuation.{is_inner, next_inner, first_inner, Continuation, Ends, GoesOn, Frees, Exits, Scans, Takes, TakesNone, continues}
 use Rattle.brc_model.proofs.Frame.Leaves.{head_of, words_left}
 use Rattle.brc_model.proofs.Frame.Lives.{next_of}
 use Rattle.brc_model.proofs.Stepping.FitsAfter.{found_by, memory_by, agenda_here, NotGone}
@@ -43,17 +44,20 @@ set_found (z ∷ zs) (suc i) x y found = set_found zs i x y found
 
 -- ---- a row that is still to be scanned stays so
 
--- the next scan of the agenda goes over the row with the index
+-- the agenda's scan goes over the row with the index, or the row's mark is among those that the scan has found
 abbrev ScansRow : ℕ → List Duty → Type 0
 ScansRow x [] = ⊥
 ScansRow x (Leave j k ∷ rest) = ⊥
-ScansRow x (Scan j k ∷ rest) = (j ≤ x) × (x < j + k)
+ScansRow x (Scan w k ∷ rest) = (w ≤ x / marks_of_word) × (x < marks_of_word * w + k)
+ScansRow x (TakeFound w marks ∷ rest) = (is_found x w marks ≡ true) ⊎ ScansRow x rest
 ScansRow x (d ∷ rest) = ScansRow x rest
 
 scans_told : (x : ℕ) (l : List Duty) → ScansRow x l → scans x l ≡ true
 scans_told x [] row = absurd row
 scans_told x (Leave j k ∷ rest) row = absurd row
-scans_told x (Scan j k ∷ rest) row = le-leb j x row.0
+scans_told x (Scan w k ∷ rest) row = le-leb w (x / marks_of_word) row.0
+scans_told x (TakeFound w marks ∷ rest) (inl found) = ap (λ (b : Bool). b || scans x rest) found
+scans_told x (TakeFound w marks ∷ rest) (inr row) = or_second (is_found x w marks) (scans x rest) (scans_told x rest row)
 scans_told x (_ ∷ rest) row = scans_told x rest row
 
 later_scans : (used : ℕ) (status : Status) (x : ℕ) (rest : List Duty)
@@ -63,7 +67,13 @@ later_scans used status x (Settle ∷ rest) later low e = later_scans used statu
 later_scans used status x (SettleCell y i n ∷ rest) later low e = later_scans used status x rest later low e
 later_scans used status x (SettleEnd y ∷ rest) later low e = later_scans used status x rest later low e
 later_scans used status x (Leave j k ∷ []) later low e = absurd cc
-later_scans used status x (Scan j k ∷ rest) later low e = (leb-true j x e, omega (arith, later.1, low))
+later_scans used status x (Scan w k ∷ rest) later low e =
+    (leb-true w (x / marks_of_word) e, omega (arith, later.1, low))
+later_scans used status x (TakeFound w marks ∷ rest) later low e =
+    elim (either_true (is_found x w marks) (scans x rest) e) [
+      | inl found ↦ inl found
+      | inr more ↦ inr (later_scans used status x rest later.2 low more)
+    ]
 later_scans used status x (Finish ∷ []) later low e = absurd cc
 later_scans used status x _ later low e = absurd later
 
@@ -74,6 +84,8 @@ here_scans used status x (Leave j k) rest fits low e =
     later_scans used status x (Leave j k ∷ rest) fits low e
 here_scans used status x (Scan j k) rest fits low e =
     later_scans used status x (Scan j k ∷ rest) fits low e
+here_scans used status x (TakeFound w marks) rest fits low e =
+    later_scans used status x (TakeFound w marks ∷ rest) fits low e
 here_scans used status x Finish rest fits low e =
     later_scans used status x (Finish ∷ rest) fits low e
 here_scans used status x _ rest fits low e = later_scans used status x rest fits low e
@@ -83,54 +95,78 @@ ready_scans x zero [] row = absurd row
 ready_scans x (suc head) [] row = absurd row
 ready_scans x zero (Settle ∷ rest) row = ready_scans x zero rest row
 ready_scans x (suc head) (Settle ∷ rest) row = scans_told x rest row
-ready_scans x zero (Scan j zero ∷ rest) row = absurd (omega (arith, row.0, row.1))
-ready_scans x (suc head) (Scan j zero ∷ rest) row = absurd (omega (arith, row.0, row.1))
-ready_scans x zero (Scan j (suc k) ∷ rest) row = le-leb j x row.0
-ready_scans x (suc head) (Scan j (suc k) ∷ rest) row = le-leb j x row.0
+ready_scans x zero (Scan w zero ∷ rest) row = absurd (omega (arith, row.0, row.1))
+ready_scans x (suc head) (Scan w zero ∷ rest) row = absurd (omega (arith, row.0, row.1))
+ready_scans x zero (Scan w (suc k) ∷ rest) row = le-leb w (x / marks_of_word) row.0
+ready_scans x (suc head) (Scan w (suc k) ∷ rest) row = le-leb w (x / marks_of_word) row.0
+ready_scans x zero (TakeFound w zero ∷ rest) (inl found) = absurd (none_found x w found)
+ready_scans x zero (TakeFound w zero ∷ rest) (inr row) = ready_scans x zero rest row
+ready_scans x (suc head) (TakeFound w zero ∷ rest) (inl found) = absurd (none_found x w found)
+ready_scans x (suc head) (TakeFound w zero ∷ rest) (inr row) = ready_scans x (suc head) rest row
+ready_scans x zero (TakeFound w (suc k) ∷ rest) row = scans_told x (TakeFound w (suc k) ∷ rest) row
+ready_scans x (suc head) (TakeFound w (suc k) ∷ rest) row = scans_told x (TakeFound w (suc k) ∷ rest) row
 ready_scans x zero (d ∷ rest) row = scans_told x (d ∷ rest) row
 ready_scans x (suc head) (d ∷ rest) row = scans_told x (d ∷ rest) row
 
 plain_first : (x : ℕ) (d : Duty) (rest : List Duty) → is_inner d ≡ true → ScansRow x (d ∷ rest) → ScansRow x rest
 plain_first x (Leave j k) rest inner row = absurd row
-plain_first x (Scan j k) rest inner row = absurd cc
+plain_first x (Scan w k) rest inner row = absurd cc
+plain_first x (TakeFound w k) rest inner row = absurd cc
 plain_first x _ rest inner row = row
 
 plain_before : (x : ℕ) (d : Duty) (rest : List Duty) → is_inner d ≡ true → ScansRow x rest → ScansRow x (d ∷ rest)
 plain_before x (Leave j k) rest inner row = absurd cc
-plain_before x (Scan j k) rest inner row = absurd cc
+plain_before x (Scan w k) rest inner row = absurd cc
+plain_before x (TakeFound w k) rest inner row = absurd cc
 plain_before x _ rest inner row = row
 
 -- The duty doesn't take the row's mark away.
 abbrev Spares : Layout → ℕ → Duty → ℕ → Type 0
 Spares layout t (TakeMark y) x = y ≢ x
-Spares layout t (Scan j k) x = row_at layout t j ≢ x
+Spares layout t (TakeFound w marks) x = found_row layout t w marks ≢ x
 Spares layout t _ x = Unit {0}
 
--- The same for the thread's own rows, by their indices.
-abbrev SparesIndex : Duty → ℕ → Type 0
-SparesIndex (Scan j k) i = j ≢ i
-SparesIndex _ i = Unit {0}
+-- The same for the thread's own rows, by their indices. A load of the mark's word finds the mark.
+abbrev SparesIndex : Duty → ℕ → ℕ → Type 0
+SparesIndex (Scan w k) found i = i / marks_of_word ≡ w → mark_at found (i % marks_of_word) ≡ 1
+SparesIndex (TakeFound w marks) found i = marks_of_word * w + lowest_mark marks ≢ i
+SparesIndex _ found i = Unit {0}
 
-spares_index : (layout : Layout) (t : ℕ) (d : Duty) (x : ℕ) → block_of layout x ≡ t → Spares layout t d x
-    → SparesIndex d (index_of layout t x)
-spares_index layout t (Scan j k) x block spares = λ e. spares (ap (row_at layout t) e ∙ row_back layout t x block)
-spares_index layout t _ x block spares = tt
+spares_index : (m : Machine) (t : ℕ) (a : Actor) (d : Duty) (x : ℕ) → block_of m.layout x ≡ t
+    → mark_of m.layout m.memory x ≡ SET → Spares m.layout t d x
+    → SparesIndex d (found_by m t a d) (index_of m.layout t x)
+spares_index m t a (Scan w k) x block marked spares = λ here.
+    ap (λ (v : ℕ). mark_at (m.memory (Marks t v)) (index_of m.layout t x % marks_of_word)) (sym here)
+    ∙ ap (λ (u : ℕ). mark_at (m.memory (Marks u (index_of m.layout u x / marks_of_word)))
+    (index_of m.layout u x % marks_of_word)) (sym block)
+    ∙ marked
+spares_index m t a (TakeFound w marks) x block marked spares = λ e.
+    spares (ap (row_at m.layout t) e ∙ row_back m.layout t x block)
+spares_index m t a _ x block marked spares = tt
 
 next_scans : {layout : Layout} {t head found : ℕ} (x : ℕ) (d : Duty) (next rest : List Duty)
-    → Continuation layout t head found d next → SparesIndex d x → ScansRow x (d ∷ rest) → ScansRow x (next ++ rest)
+    → Continuation layout t head found d next → SparesIndex d found x → ScansRow x (d ∷ rest)
+    → ScansRow x (next ++ rest)
 next_scans x d next rest (Ends inner) spares row = plain_first x d rest inner row
 next_scans x d next rest (GoesOn e leads) spares row =
     plain_before x e rest (next_inner e leads) (plain_first x d rest (first_inner d e leads) row)
 next_scans x d next rest (Frees y i n z e some leads) spares row = plain_before x e rest (next_inner e leads) row
 next_scans x d next rest (Exits i n) spares row = absurd row
-next_scans x d next rest (Scans i n set) spares row =
-    (omega (arith, row.0, spares), omega (arith, row.0, row.1, spares))
-next_scans x d next rest (ScansNone i n) spares row =
-    (omega (arith, row.0, spares), omega (arith, row.0, row.1, spares))
+next_scans {found = found} x d next rest (Scans w n) spares row =
+    elim (eqb_tells (x / marks_of_word) w) [
+      | inl here ↦
+          inl (is_found_here x w (first_marks found n) here.1
+          (first_bit found n (x % marks_of_word) (omega (arith, here.1, row.1)) ∙ spares here.1))
+      | inr past ↦ inr (omega (arith, past.1, row.0), omega (arith, past.1, row.0, row.1))
+    ]
+next_scans x d next rest (Takes w marks set) spares (inl found) = inl (others_found x w marks spares found)
+next_scans x d next rest (Takes w marks set) spares (inr row) = inr row
+next_scans x d next rest (TakesNone w marks) spares (inl found) = inl (others_found x w marks spares found)
+next_scans x d next rest (TakesNone w marks) spares (inr row) = inr row
 next_scans x d next rest _ spares row = row
 
 module _ {p : Accounts} {n : ℕ} {m : Machine} {t : ℕ} {a : Actor} {d : Duty} {rest : List Duty} where
-  agenda_scans : (x : ℕ) → AtDuty p n m t a d rest → NotGone a → x < a.used → SparesIndex d x
+  agenda_scans : (x : ℕ) → AtDuty p n m t a d rest → NotGone a → x < a.used → SparesIndex d (found_by m t a d) x
       → scans x (d ∷ rest) ≡ true → scans x (actor_by m.layout t a d rest (found_by m t a d)).agenda ≡ true
   agenda_scans x here alive low spares e =
       let word = found_by m t a d in
@@ -145,7 +181,7 @@ looks_step : (m : Machine) (t : ℕ) (a : Actor) (d : Duty) (rest : List Duty) (
     → weight (looks x) (machine_by_duty m t a d rest).actors + looks x d ≡ weight (looks x) m.actors
     + sum_by (looks x) (next_of m t a d)
 looks_step m t a d rest x found is =
-    weight-stepped (looks x) (record { settle = refl; scan = λ i k. refl }) m.actors t a
+    weight-stepped (looks x) (record { settle = refl; scan = λ w k. refl; take = λ w k. refl }) m.actors t a
     (actor_by m.layout t a d rest (found_by m t a d)) d (next_of m t a d) rest (new_head a.head d (found_by m t a d))
     found is refl refl
 
@@ -241,7 +277,7 @@ module _ {p : Accounts} {n : ℕ} {m : Machine} {t : ℕ} {a : Actor} {d : Duty}
             ap (scans i) (sym here.agenda) ∙ ap (λ (c : Actor). scans i c.agenda) (sym it) ∙ mine in
             mine_after m t a d rest x here.found same.1
             (agenda_scans i here alive (marked_within t a x here.core here.found marked same.1)
-            (spares_index m.layout t d x same.1 spares) still)
+            (spares_index m t a d x same.1 marked spares) still)
         | inr other ↦
             ByExit b (slice_get-set_other m.actors t (block_of m.layout x)
             (actor_by m.layout t a d rest (found_by m t a d)) other.1 ∙ found) e
@@ -309,6 +345,9 @@ module _ {p : Accounts} {n : ℕ} {m : Machine} {t : ℕ} {a : Actor} {rest : Li
         | inr other ↦ mark_kept x here alive tt (set_elsewhere m.layout m.memory y x other.1)
       ]
   marks_after (TakeMark y) here alive x = mark_taken y x here alive (λ ne. ne) refl
-  marks_after (Scan y k) here alive x = mark_taken (row_at m.layout t y) x here alive (λ ne. ne) refl
+  marks_after (TakeFound w marks) here alive x =
+      mark_taken (found_row m.layout t w marks) x here alive (λ ne. ne) refl
+  marks_after (Scan w k) here alive x = mark_kept x here alive tt (loaded_marks m.layout m.memory t w x)
+  marks_after (MarksLoad w) here alive x = mark_kept x here alive tt (loaded_marks m.layout m.memory t w x)
   marks_after (ClaimMark y) here alive x = mark_taken y x here alive (λ ne. tt) refl
   marks_after d here alive x = mark_kept x here alive tt refl

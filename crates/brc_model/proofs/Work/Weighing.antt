@@ -5,7 +5,7 @@ use Rattle.std.specs.Prelude.{slice_get, sum_by}
 use Rattle.std.proofs.lemmas.Bool.Decides.{eqb_tells}
 use Rattle.std.proofs.lemmas.List.Sums.{sum_by-cons}
 use Rattle.brc_model.specs.declared.duty.Duty.{Duty}
-use Rattle.brc_model.specs.declared.duty.Duty.TheVariants.{Settle, SettleCell, SettleEnd, Leave, Scan, Finish}
+use Rattle.brc_model.specs.declared.duty.Duty.TheVariants.{Settle, SettleCell, SettleEnd, Leave, Scan, TakeFound, Finish}
 use Rattle.brc_model.specs.declared.actor.Status.{Status}
 use Rattle.brc_model.specs.declared.actor.Status.TheVariants.{Running, Leaving, Gone}
 use Rattle.brc_model.specs.declared.actor.Actor.{Actor}
@@ -54,6 +54,13 @@ later_weighs x f of_row used status (Scan y k ∷ rest) later =
       of_row.about (Scan y k) refl,
       later_weighs x f of_row used status rest later.2,
     )
+later_weighs x f of_row used status (TakeFound w marks ∷ rest) later =
+    omega (
+      arith,
+      sum_by-cons f (TakeFound w marks) rest,
+      of_row.about (TakeFound w marks) refl,
+      later_weighs x f of_row used status rest later.2,
+    )
 later_weighs x f of_row used status (Finish ∷ []) later =
     omega (arith, sum_by-cons f Finish [], of_row.about Finish refl)
 later_weighs x f of_row used status _ later = absurd later
@@ -64,6 +71,8 @@ rest_weighs x f of_row used status Settle rest fits = later_weighs x f of_row us
 rest_weighs x f of_row used status (Leave y k) [] fits = refl
 rest_weighs x f of_row used status (Leave y k) (e ∷ rest) fits = absurd fits
 rest_weighs x f of_row used status (Scan y k) rest fits =
+    later_weighs x f of_row used status rest fits.2
+rest_weighs x f of_row used status (TakeFound w marks) rest fits =
     later_weighs x f of_row used status rest fits.2
 rest_weighs x f of_row used status Finish [] fits = refl
 rest_weighs x f of_row used status Finish (e ∷ rest) fits = absurd fits
