@@ -1,16 +1,16 @@
 -- Rows by their indices, and how large they are.
-use Rattle.std.proofs.Common.{◌≡◌, ℕ, zero, suc, ◌+◌, ◌-◌, ◌*◌, ◌/◌, ◌<◌, ◌≤◌, Bool, true, false, cond, inl, inr, refl, ap, arith}
+use Rattle.std.proofs.Common.{◌≡◌, ℕ, zero, suc, ◌+◌, ◌-◌, ◌*◌, ◌/◌, ◌^◌, ◌<◌, ◌≤◌, Bool, true, false, cond, inl, inr, refl, ap, arith}
 use Rattle.std.specs.Prelude.{nat_le, nat_lt}
 use Rattle.std.proofs.lemmas.Bool.{cases_lt, and_parts, leb-true, ltb-true, lt-ltb, le-ltb}
-use Rattle.std.proofs.lemmas.Nat.{div_below}
+use Rattle.std.proofs.lemmas.Nat.{div_below, mul-le}
 use Rattle.brc_model.specs.declared.layout.Layout.{Layout}
 use Rattle.brc_model.specs.declared.duty.Duty.{Duty}
-use Rattle.brc_model.specs.declared.duty.Duty.TheVariants.{Scan}
+use Rattle.brc_model.specs.declared.duty.Duty.TheVariants.{Scan, TakeFound}
 use Rattle.brc_model.specs.Limits.{total_limit}
 use Rattle.brc_model.specs.Duties.{address_of}
-use Rattle.brc_model.specs.Within.{IsThere}
+use Rattle.brc_model.specs.Within.{IsThere, Suits}
 use Rattle.brc_effect.specs.Effects.{IsIndexed}
-use Rattle.brc_model.specs.Layout.{front_rows, worker_rows, is_worker_row, block_of, row_at, IsCounted}
+use Rattle.brc_model.specs.Layout.{front_rows, worker_rows, is_worker_row, block_of, row_count, mark_words_of, IsCounted}
 
 -- Each row is in main's block or in a worker's.
 pub block_there : (layout : Layout) (row : ℕ) → 0 < layout.rows → block_of layout row ≤ layout.workers
@@ -29,26 +29,21 @@ block_there layout row some =
       | false ↦ λ e. omega arith
     ] refl
 
--- A row's index is at most the row.
-pub index_low : (layout : Layout) (t i : ℕ) → i ≤ row_at layout t i
-index_low layout zero i =
-    elim (cases_lt i front_rows) [
-      | inl front ↦
-          let same : row_at layout 0 i ≡ i =
-          ap (λ (b : Bool). cond b i (worker_rows layout + i)) (lt-ltb i front_rows front) in
-          omega (arith, same)
-      | inr rear ↦
-          let same : row_at layout 0 i ≡ worker_rows layout + i =
-          ap (λ (b : Bool). cond b i (worker_rows layout + i)) (le-ltb i front_rows rear) in
-          omega (arith, same)
-    ]
-index_low layout (suc t) i = omega arith
+-- A mark word that exists has no large number.
+word_low : (layout : Layout) (t w : ℕ) → row_count layout ≤ total_limit → t ≤ layout.workers
+    → w < mark_words_of layout t → w < 2 ^ 31
+word_low layout zero w few there low = omega (arith, few, low)
+word_low layout (suc t) w few there low =
+    let rows : suc t * layout.rows ≤ layout.workers * layout.rows = mul-le (suc t) layout.rows layout.workers layout.rows there (omega arith) in
+    omega (arith, few, low, rows)
 
--- The index that a duty names is small, if its word exists.
-pub indexed : (layout : Layout) (t head n threads : ℕ) (d : Duty) → n ≤ total_limit
-    → IsThere n threads (address_of layout t head d) → IsIndexed d
-indexed layout t head n threads (Scan i k) few there = omega (arith, index_low layout t i, few, there)
-indexed layout t head n threads _ few there = tt
+-- The index that a duty names is small, if its word exists and suits the duty.
+pub indexed : (layout : Layout) (t head found : ℕ) (running : Bool) (d : Duty) → row_count layout ≤ total_limit
+    → IsThere layout (address_of layout t head d) → Suits t running (row_count layout) d found → IsIndexed d
+indexed layout t head found running (Scan w n) few there suits =
+    word_low layout t w few (omega (arith, there.0)) there.1
+indexed layout t head found running (TakeFound w marks) few there suits = (suits.0, omega (arith, suits.1, few))
+indexed layout t head found running _ few there suits = tt
 
 -- A counted row isn't none's.
 pub counted_above : (layout : Layout) (x : ℕ) → IsCounted layout x → 0 < x

@@ -1,8 +1,9 @@
 -- The effects of steps: field by field the model's.
-use Rattle.std.specs.Prelude.{◌≡◌, ℕ, ◌<◌, ◌^◌, List, [], ◌∷◌, Option}
+use Rattle.std.specs.Prelude.{◌≡◌, ℕ, ◌+◌, ◌*◌, ◌<◌, ◌^◌, List, [], ◌∷◌, Option}
+use Rattle.brc_word.specs.Words.{marks_of_word, lowest_mark}
 use Rattle.brc_model.specs.declared.actor.Status.{Status}
 use Rattle.brc_model.specs.declared.duty.Duty.{Duty}
-use Rattle.brc_model.specs.declared.duty.Duty.TheVariants.{ReleaseLoad, Die, Scan, SettleCell}
+use Rattle.brc_model.specs.declared.duty.Duty.TheVariants.{ReleaseLoad, Die, Scan, TakeFound, SettleCell}
 use Rattle.brc_model.specs.declared.duty.Holding.TheVariants.{InFlight}
 use Rattle.brc_model.specs.Limits.{cell_limit}
 use Rattle.brc_model.specs.Duties.{continuation, new_head}
@@ -48,15 +49,16 @@ IsNumbered n (Die x) = x < n
 IsNumbered n (SettleCell x i k) = i < cell_limit
 IsNumbered n _ = Unit {0}
 
--- the index that a duty names is no large number
+-- The mark word that a duty names has no large number, and a duty that takes marks has some.
 abbrev pub IsIndexed : Duty → Type 0
-IsIndexed (Scan i k) = i < 2 ^ 31
+IsIndexed (Scan w n) = w < 2 ^ 31
+IsIndexed (TakeFound w marks) = (0 < marks) × (marks_of_word * w + lowest_mark marks < 2 ^ 31)
 IsIndexed _ = Unit {0}
 
 -- the effect is the model's, for a duty whose step finds `found` in its word
 pub record IsEffect (by : Doer) (d : Duty) (found : ℕ) (e : Effect) : Type 0 where
   -- the duties that follow
-  pub next : duties_of e.next ≡ continuation by.layout by.number (is_running by.status) by.head d found
+  pub next : duties_of e.next ≡ continuation by.blocks by.number (is_running by.status) by.head d found
   -- the thread afterwards
   pub head : e.head ≡ new_head by.head d found
   pub status : status_after by.status e.change ≡ status_by by.status d

@@ -41,4 +41,4 @@ merge_answer carried word found =
 
 -- a mark that was taken
 abbrev pub taken_answer : ℕ → Looked
-taken_answer found = if found == SET then looks.Claimed else looks.Left
+taken_answer mark = if mark == SET then looks.Claimed else looks.Left

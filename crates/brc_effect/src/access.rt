@@ -1,7 +1,7 @@
 //! The atomic operation by which a thread does a duty: what the step leaves in the duty's word. The step world and real
 //! threads make the same one.
 
-ghost use Rattle.std.specs.Prelude.{◌≡◌, ◌≤◌, ◌<◌, ℕ, Bool};
+ghost use Rattle.std.specs.Prelude.{◌≡◌, ◌≤◌, ◌<◌, ◌^◌, ℕ, Bool};
 ghost use Rattle.brc_model.specs.declared.address.Address.TheVariants.{ThreadWord};
 ghost use Rattle.brc_model.specs.declared.layout.Layout.{Layout};
 ghost use Rattle.brc_model.specs.Limits.{worker_limit};
@@ -9,12 +9,14 @@ ghost use Rattle.brc_model.specs.Duties.{address_of, new_word};
 ghost use Rattle.brc_model.specs.Stores.{Overwrites};
 ghost use Rattle.brc_model.specs.Within.{Suits};
 ghost use Rattle.brc_effect.specs.Accesses.{IfStored, known_before, left_by};
+ghost use Rattle.brc_effect.specs.Effects.{IsIndexed};
 
+use crate::blocks::Blocks;
 use brc_model::Duty;
-use brc_word::values::{
-    EMPTY, FREE, FULL, GONE, LEAVING, NOBODY, ONE_REFERENCE, RUNNING, SET, UNSET,
+use brc_word::values::{EMPTY, FREE, FULL, GONE, LEAVING, NOBODY, ONE_REFERENCE, RUNNING};
+use brc_word::{
+    closed, dying, local_word, locked, mark_mask, merged, other_marks, released,
 };
-use brc_word::{closed, dying, local_word, locked, merged, released};
 
 /// One atomic operation on one word.
 #[derive(Clone, Copy, Debug)]
@@ -29,6 +31,10 @@ pub enum Access {
     Swap { word: u64 },
     /// Exchanges the word for `new` if it is still `old`.
     Exchange { old: u64, new: u64 },
+    /// Sets these bits of the word.
+    Or { bits: u64 },
+    /// Keeps these bits of the word, and clears all others.
+    And { bits: u64 },
 }
 
 impl Access {
@@ -42,6 +48,8 @@ impl Access {
             Access::Store { word, .. } | Access::Swap { word } => word,
             Access::Add { more } => found.wrapping_add(more),
             Access::Exchange { old, new } => { if found == old { new } else { found } }
+            Access::Or { bits } => found | bits,
+            Access::And { bits } => found & bits,
         }
     }
 }
@@ -52,10 +60,11 @@ impl Access {
 /// It is known before the word is found. What an earlier step found is in the duty, and here nothing is known of it: so
 /// the sums wrap. The words suit the duty where the step is made.
 #[inline(always)]
-pub fn access_of(duty: Duty, thread: u8, head: u32) -> Access
+pub fn access_of(blocks: Blocks, duty: Duty, thread: u8, head: u32) -> Access
     requires thread { thread ≤ worker_limit }
-    ensures word { (running : Bool) (rows found : ℕ) → Suits thread running rows duty found
-        → left_by result found ≡ new_word thread head duty found }
+    requires indexed { IsIndexed duty }
+    ensures word { (running : Bool) (rows found : ℕ) → found < 2 ^ 64 → Suits thread running rows duty found
+        → left_by result found ≡ new_word blocks thread head duty found }
     ensures before { IfStored result (λ before. before ≡ known_before thread duty) }
     ensures knows { IfStored result (λ before. (found : ℕ) → Overwrites thread duty found → found ≡ before) }
     ensures started { (layout : Layout) (t : ℕ)
@@ -96,21 +105,26 @@ pub fn access_of(duty: Duty, thread: u8, head: u32) -> Access
             old: word,
             new: released(word),
         },
-        // The mark puts the object into its owner's queue. Only one thread queues the object, so the mark is clear.
-        // Rule `Marked`.
-        Duty::SetMark { .. } => Access::Store {
-            word: SET,
-            before: UNSET,
+        // The mark puts the object into its owner's queue. An or, because other threads set and take marks of the same
+        // word at the same time (`mark_overwrites_the_word`). Rule `Marked`.
+        Duty::SetMark { row } => Access::Or {
+            bits: mark_mask(blocks.mark_bit(row)),
         },
         // Rules `OwnerRuns` and `OwnerExits`.
         Duty::Look { .. } => Access::Load,
-        // A swap, because the owner's exit and the thread that set the mark may both take it, and only the one that
-        // finds it set may merge the object. The mark is clear afterwards (`mark_left_set`, `claimed_mark_left_set`).
-        // Rules `MarkTakenBack` and `MarkGone`; `MarkClaimed` and `NothingToClaim`; `ScanFindsMark` and
-        // `ScanFindsNone`.
-        Duty::TakeMark { .. } | Duty::ClaimMark { .. } | Duty::Scan { .. } => Access::Swap {
-            word: UNSET,
+        // An and, because the owner's exit and the thread that set the mark may both take it, and only the one that
+        // finds it set may merge the object. The mark is clear afterwards (`mark_left_set`, `claimed_mark_left_set`),
+        // and the marks of all other rows stay (`post_clears_the_word`). Rules `MarkTakenBack` and `MarkGone`;
+        // `MarkClaimed` and `NothingToClaim`; `FoundMarkTaken` and `FoundMarkGone`.
+        Duty::TakeMark { row } | Duty::ClaimMark { row } => Access::And {
+            bits: other_marks(blocks.mark_bit(row)),
         },
+        Duty::TakeFound { word, marks } => Access::And {
+            bits: other_marks(blocks.mark_bit(blocks.found_row(thread, word, marks))),
+        },
+        // One load looks at the marks of 64 rows. It takes none: whoever set a mark may take it back until the mark is
+        // taken. Rules `MarksRead` and `MarksLooked`.
+        Duty::Scan { .. } | Duty::MarksLoad { .. } => Access::Load,
         // (PEP 703, Biased Reference Counting: `_Py_ExplicitMergeRefcount`.) Owner and count leave the word in one
         // step, so that no reference is in both words, and none is counted locally after the merge
         // (`merge_swap_keeps_local`). Rules `NobodysCount` and `LocalTakenOut`.

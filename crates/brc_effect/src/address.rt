@@ -4,16 +4,15 @@ ghost use Rattle.std.specs.Prelude.{◌≡◌, ◌<◌};
 ghost use Rattle.brc_model.specs.Duties.{address_of};
 ghost use Rattle.brc_effect.specs.Effects.{IsIndexed};
 
-use crate::rows::{block_of, row_at};
-use brc_model::{Address, Duty, Layout};
+use crate::blocks::Blocks;
+use brc_model::{Address, Duty};
 
 /// Returns the address of the word that the thread's duty accesses. `head` is the head of the thread's dying chain: 0
 /// if it is empty, else a row plus 1.
 #[inline(always)]
-pub fn address_of(layout: Layout, thread: u8, head: u32, duty: Duty) -> Address
-    requires some_rows { 0 < layout.rows }
+pub fn address_of(blocks: Blocks, thread: u8, head: u32, duty: Duty) -> Address
     requires indexed { IsIndexed duty }
-    ensures { result ≡ address_of layout thread head duty }
+    ensures { result ≡ address_of blocks thread head duty }
 {
     match duty {
         Duty::RetainLoad { row, .. }
@@ -46,14 +45,16 @@ pub fn address_of(layout: Layout, thread: u8, head: u32, duty: Duty) -> Address
         | Duty::LendSlot { row }
         | Duty::ReturnSlot { row } => Address::Slot { row },
         Duty::CloseResource { row } => Address::Resource { row },
-        Duty::SetMark { row } | Duty::TakeMark { row } | Duty::ClaimMark { row } => Address::Mark {
-            row,
-        },
-        Duty::Scan { index, .. } => Address::Mark {
-            row: row_at(layout, thread, index),
+        Duty::SetMark { row } | Duty::TakeMark { row } | Duty::ClaimMark { row } => {
+            blocks.mark_place(row)
+        }
+        Duty::TakeFound { word, marks } => blocks.mark_place(blocks.found_row(thread, word, marks)),
+        Duty::Scan { word, .. } | Duty::MarksLoad { word } => Address::Marks {
+            thread: u32::from(thread),
+            word,
         },
         Duty::Look { row } => Address::ThreadWord {
-            thread: block_of(layout, row),
+            thread: blocks.block_of(row),
         },
         Duty::Leave { .. } | Duty::Finish => Address::ThreadWord {
             thread: u32::from(thread),

@@ -7,7 +7,8 @@ ghost use Rattle.brc_model.specs.Limits.{worker_limit};
 ghost use Rattle.brc_model.specs.Within.{Suits};
 ghost use Rattle.brc_effect.specs.Effects.{IsIndexed, IsNumbered, IsEffect};
 
-use brc_model::{Duty, Layout, Status};
+use crate::blocks::Blocks;
+use brc_model::{Duty, Status};
 
 mod birth;
 mod dying;
@@ -56,7 +57,7 @@ pub enum Change {
 /// The thread that does a duty: the parts of it that the duty's effect depends on.
 #[derive(Clone, Copy, Debug)]
 pub struct Doer {
-    pub layout: Layout,
+    pub blocks: Blocks,
     pub number: u8,
     pub status: Status,
     /// The head of its dying chain: 0 if it is empty, else a row plus 1.
@@ -80,11 +81,12 @@ impl Doer {
     {
         match duty {
             Duty::RetainLoad { row, holding } => self.retain_load(row, holding, found),
-            // The step ends its piece of work. Rules `LocalRaised` and `SharedRaised`; `Closes`; `KindRead`;
-            // `CellRead`.
+            // The step ends its piece of work. Rules `LocalRaised` and `SharedRaised`; `Closes`; `MarksLooked`;
+            // `KindRead`; `CellRead`.
             Duty::RetainStore { .. }
             | Duty::RetainAdd { .. }
             | Duty::SettleEnd { .. }
+            | Duty::MarksLoad { .. }
             | Duty::KindLoad { .. }
             | Duty::CellLoad { .. } => self.then(Next::Nothing),
             Duty::ReleaseLoad { row, .. } => self.release_load(row, found),
@@ -115,8 +117,9 @@ impl Doer {
             Duty::SettleCell { row, cell, cells } => self.settle_cell(row, cell, cells, found),
             Duty::TakeSlot { row } => self.take_slot(row),
             Duty::CloseResource { row } => self.close_resource(row),
-            Duty::Leave { index, rows } => self.leave(index, rows),
-            Duty::Scan { index, rows } => self.scan(index, rows, found),
+            Duty::Leave { word, rows } => self.leave(word, rows),
+            Duty::Scan { word, rows } => self.scan(word, rows, found),
+            Duty::TakeFound { word, marks } => self.take_found(word, marks, found),
             Duty::Finish => self.finish(),
             Duty::ClaimMark { row } => self.claim_mark(row, found),
             Duty::BirthKind { row, holding, word } => self.birth_kind(row, holding, word),
@@ -142,10 +145,11 @@ impl Doer {
         }
     }
 
-    #[inline(always)]
-    fn is_running(self) -> bool
-        ensures { result ≡ is_running self.status }
-    {
-        matches!(self.status, Status::Running)
-    }
+}
+
+#[inline(always)]
+fn is_running(status: Status) -> bool
+    ensures { result ≡ is_running status }
+{
+    matches!(status, Status::Running)
 }

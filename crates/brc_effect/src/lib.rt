@@ -9,6 +9,7 @@
 
 mod access;
 mod address;
+mod blocks;
 mod effect;
 pub mod kinds;
 pub mod outcomes;
@@ -16,4 +17,5 @@ pub mod rows;
 
 pub use access::{Access, access_of};
 pub use address::address_of;
+pub use blocks::Blocks;
 pub use effect::{Change, Doer, Effect, Next};

@@ -157,10 +157,10 @@ pub fn runs(said: u64) -> bool
 /// Returns what a thread that takes a mark has found there: only one that finds it set may merge the object. Rules
 /// `MarkTakenBack` and `MarkGone`.
 #[inline(always)]
-pub fn taken(found: u64) -> Looked
-    ensures { result ≡ taken_answer found }
+pub fn taken(mark: u64) -> Looked
+    ensures { result ≡ taken_answer mark }
 {
-    if found == SET {
+    if mark == SET {
         Looked::Claimed
     } else {
         Looked::Left

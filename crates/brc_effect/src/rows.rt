@@ -15,7 +15,8 @@ pub const ROOT: u32 = 1;
 pub const FRONT_ROWS: u32 = 2;
 
 /// Returns the number of rows of all workers.
-fn worker_rows(layout: Layout) -> u32
+#[inline(always)]
+pub(crate) fn worker_rows(layout: Layout) -> u32
     ensures { result ≡ worker_rows layout }
 {
     u32::from(layout.workers) * u32::from(layout.rows)

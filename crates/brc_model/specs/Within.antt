@@ -1,13 +1,13 @@
 -- What a step can rely on: its word is there, and the values that it finds and leaves are a header's, below all bounds.
 use Rattle.std.specs.Prelude.{◌≡◌, ◌≢◌, ◌⊎◌, ℕ, ◌+◌, ◌*◌, ◌<◌, ◌≤◌, Bool, true, List, length}
 use Rattle.brc_word.specs.declared.values.TheConstants.{EMPTY, FULL}
-use Rattle.brc_word.specs.Words.{half, most_local, owner_part, local_part, biased_part, phase_part, bias}
+use Rattle.brc_word.specs.Words.{half, most_local, owner_part, local_part, biased_part, phase_part, bias, marks_of_word, lowest_mark}
 use Rattle.brc_model.specs.declared.thread.Choice.{Choice}
 use Rattle.brc_model.specs.declared.actor.Place.{Place}
 use Rattle.brc_model.specs.declared.address.Address.{Address}
 use Rattle.brc_model.specs.declared.address.Address.TheVariants.{Local, Shared, Gate, KindOf, Marks, Cell, Slot, Resource, ThreadWord}
 use Rattle.brc_model.specs.declared.duty.Duty.{Duty}
-use Rattle.brc_model.specs.declared.duty.Duty.TheVariants.{RetainLoad, RetainStore, RetainAdd, ReleaseLoad, ReleaseStore, SharedLoad, SharedExchange, MergeLoad, MergeExchange, SettleCell, TakeSlot, CloseResource, CellLoad, CellSwap, LendSlot, ReturnSlot}
+use Rattle.brc_model.specs.declared.duty.Duty.TheVariants.{RetainLoad, RetainStore, RetainAdd, ReleaseLoad, ReleaseStore, SharedLoad, SharedExchange, MergeLoad, MergeExchange, TakeFound, SettleCell, TakeSlot, CloseResource, CellLoad, CellSwap, LendSlot, ReturnSlot}
 use Rattle.brc_model.specs.Duties.{address_of}
 use Rattle.brc_model.specs.declared.actor.Actor.{Actor}
 use Rattle.brc_model.specs.Machine.{used_by, is_running}
@@ -45,6 +45,7 @@ Suits t running n (SharedExchange x r w) found = found ≡ w → IsShared w × (
 Suits t running n (MergeLoad x c r) found = (c < half) × IsShared found × (biased_part found + c < 2 * bias)
 Suits t running n (MergeExchange x c w r) found =
     (c < half) × (found ≡ w → IsShared w × (biased_part w + c < 2 * bias))
+Suits t running n (TakeFound w marks) found = (0 < marks) × (marks_of_word * w + lowest_mark marks < n)
 Suits t running n (SettleCell x i k) found = found ≤ n
 Suits t running n (CellLoad x i) found = found ≤ n
 Suits t running n (CellSwap x i y h) found = (y < n) × (found ≤ n)

@@ -1,6 +1,6 @@
 //! Mark words. Each has the marks of 64 rows of one thread, so that one load looks at all of them.
 
-ghost use Rattle.std.specs.Prelude.{◌≡◌, ◌<◌};
+ghost use Rattle.std.specs.Prelude.{◌≡◌, ◌<◌, ◌^◌, ℕ, bit_and};
 ghost use Rattle.brc_word.specs.Words.{first_marks, lowest_mark, mark_at, mark_mask, marks_of_word, other_marks, unmarked_word};
 
 /// The marks of a mark word.
@@ -28,7 +28,8 @@ pub fn mark_mask(bit: u32) -> u64
 #[inline(always)]
 pub fn other_marks(bit: u32) -> u64
     requires bit { bit < marks_of_word }
-    ensures { result ≡ other_marks bit }
+    ensures mask { result ≡ other_marks bit }
+    ensures takes { (word : ℕ) → word < 2 ^ 64 → bit_and word result ≡ unmarked_word word bit }
 {
     !(1 << bit)
 }

@@ -9,13 +9,13 @@ ghost use Rattle.brc_model.specs.Machine.{is_running};
 ghost use Rattle.brc_model.specs.Within.{IsShared};
 ghost use Rattle.brc_effect.specs.Effects.{IsEffect};
 
-use super::{Doer, Effect, Next};
+use super::{Doer, Effect, Next, is_running};
 use crate::outcomes::{
     LocalRelease, Looked, SharedRelease, ZeroStep, local_release, runs, shared_release, taken,
     zero_step,
 };
 use brc_model::{Duty, Reason};
-use brc_word::local_count;
+use brc_word::{local_count, mark_at};
 
 impl Doer {
     /// The local word decides how the reference is given up: rules `ReleasesImmortal`, `OwnerReleases` and
@@ -25,7 +25,7 @@ impl Doer {
         requires { is_running self.status ≡ true → owner_part found ≡ self.number + 1 → 1 ≤ local_part found }
         ensures { (holding : Holding) → IsEffect self (duties.ReleaseLoad row holding) found result }
     {
-        match local_release(found, self.number, self.is_running()) {
+        match local_release(found, self.number, is_running(self.status)) {
             LocalRelease::Skip => self.then(Next::Nothing),
             LocalRelease::Kept | LocalRelease::Zero => {
                 self.then(Next::One(Duty::ReleaseStore { row, word: found }))
@@ -117,7 +117,7 @@ impl Doer {
     pub(super) fn take_mark(self, row: u32, found: u64) -> Effect
         ensures { IsEffect self (duties.TakeMark row) found result }
     {
-        match taken(found) {
+        match taken(mark_at(found, self.blocks.mark_bit(row))) {
             Looked::Claimed => self.then(Next::One(handed_merge(row))),
             Looked::Left => self.then(Next::Nothing),
         }

@@ -7,7 +7,7 @@ ghost use Rattle.brc_model.specs.declared.duty.Holding.{Holding};
 ghost use Rattle.brc_model.specs.Within.{IsShared};
 ghost use Rattle.brc_effect.specs.Effects.{IsEffect};
 
-use super::{Doer, Effect, Next};
+use super::{is_running, Doer, Effect, Next};
 use brc_model::{Duty, Holding};
 use brc_word::{LocalChoice, retain_choice};
 
@@ -20,7 +20,7 @@ impl Doer {
     pub(super) fn retain_load(self, row: u32, holding: Holding, found: u64) -> Effect
         ensures { IsEffect self (duties.RetainLoad row holding) found result }
     {
-        match retain_choice(found, self.number, self.is_running()) {
+        match retain_choice(found, self.number, is_running(self.status)) {
             LocalChoice::Skip => self.then(Next::Nothing),
             LocalChoice::Store(_) => self.then(Next::One(Duty::RetainStore {
                 row,

@@ -6,7 +6,7 @@ use Rattle.std.proofs.lemmas.Bool.{eq-eqb}
 use Rattle.brc_word.specs.Words.{owner_part, local_part, biased_part, phase_part, bias}
 use Rattle.brc_model.specs.declared.duty.Holding.{Holding}
 use Rattle.brc_model.specs.declared.duty.Duty.{Duty}
-use Rattle.brc_model.specs.declared.duty.Duty.TheVariants.{RetainStore, RetainAdd, ReleaseLoad, ReleaseStore, SharedLoad, SharedExchange, MergeLoad, MergeExchange, SettleCell, CellLoad, CellSwap, TakeSlot, CloseResource, LendSlot, ReturnSlot}
+use Rattle.brc_model.specs.declared.duty.Duty.TheVariants.{RetainStore, RetainAdd, ReleaseLoad, ReleaseStore, SharedLoad, SharedExchange, MergeLoad, MergeExchange, TakeFound, SettleCell, CellLoad, CellSwap, TakeSlot, CloseResource, LendSlot, ReturnSlot}
 use Rattle.brc_model.specs.declared.address.Address.TheVariants.{Local, Shared, Cell}
 use Rattle.brc_model.specs.Duties.{address_of, counts_locally}
 use Rattle.brc_model.specs.declared.actor.Actor.{Actor}
@@ -33,7 +33,9 @@ use Rattle.brc_model.specs.Ranges.{HasFewCells}
 use Rattle.brc_model.specs.Limits.{thread_limit, cell_limit, total_limit}
 use Rattle.std.proofs.lemmas.Bool.{cases_Bool}
 use Rattle.brc_model.specs.Layout.{row_count, block_of, is_immortal_row, IsCounted}
-use Rattle.brc_model.proofs.Stepping.FitsAfter.{NotGone}
+use Rattle.brc_model.proofs.Stepping.FitsAfter.{agenda_here, NotGone}
+use Rattle.brc_model.proofs.Basics.Blocks.{size_within, thread_there}
+use Rattle.brc_model.proofs.Basics.FoundMarks.{lowest_used}
 
 -- ---- the shared word of a live row
 
@@ -147,6 +149,10 @@ module _ {p : Accounts} {n : ℕ} {m : Machine} {t : ℕ} {a : Actor} {rest : Li
           omega (arith, near.high, word, carried_is x c w r here),
         ),
   )
+  duty_suits (TakeFound w marks) here alive few =
+      let used = lowest_used marks a.used w (head_of here) (agenda_here here alive).1 in
+      let block = (here.core.uses t a here.found).few in
+      (head_of here, omega (arith, used, block, size_within m.layout t (thread_there t a here.core here.found)))
   duty_suits (SettleCell x i k) here alive few =
       cell_low (m.memory (Cell x i)) (row_count m.layout) (λ y is. cell_small x i y here.core is)
   duty_suits (CellLoad x i) here alive few =
