@@ -1,7 +1,7 @@
 //! One step of one thread: it changes a word, the thread, or both.
 
 ghost use Rattle.std.specs.Prelude.{◌≡◌, ◌≢◌, ◌+◌, ◌<◌, ◌≤◌, ◌==◌, true, false, if◌then◌else◌, length, OnOk, OnErr, IfOk, IfErr};
-ghost use Rattle.std.specs.Prelude.{reverse, vec_len, vec_capacity};
+ghost use Rattle.std.specs.Prelude.{[], reverse, vec_len, vec_capacity};
 ghost use Rattle.brc_word.specs.Words.{free_word};
 ghost use Rattle.brc_model.specs.declared.actor.Status.TheVariants.{Gone};
 ghost use Rattle.brc_model.specs.Duties.{address_of, new_word};
@@ -13,11 +13,11 @@ ghost use Rattle.brc_model.specs.Within.{IsThere, Suits};
 ghost use Rattle.brc_world.specs.Storage.{word_in, IsStored};
 ghost use Rattle.brc_world.specs.Actors.{actor_of, context_in, found_by, actor_after, memory_by, actor_by, faults_by, waits, answer_by, CanAct, finds_mark, memory_claimed, actor_claimed, did_claim, CanClaim, action_stopped, is_silent, silently, did_stop};
 ghost use Rattle.brc_check.specs.Tables.{states_of};
-ghost use Rattle.brc_world.specs.Starts.{let_in, answered, answer_of, CanAnswer};
+ghost use Rattle.brc_world.specs.Starts.{let_in};
 
 use crate::agenda::{pass_over, push};
 use crate::did::Did;
-use crate::dispatch::{Start, first_duty};
+use crate::dispatch::{Start, dispatch};
 use crate::faults::Faults;
 use crate::host_call::end_call;
 use crate::memory::Memory;
@@ -74,29 +74,6 @@ pub fn do_duty(
     thread.head = effect.head;
     pass_over(&mut thread.agenda, effect.head);
     found
-}
-
-/// Takes the thread to the place where it goes on after the step with this start, which ended by the exit. `found` is
-/// the word that the step's duty found, or 0 if it did no duty. Returns what the step did.
-#[inline(always)]
-fn finish(thread: &mut Thread, start: &Start, exit: Exit, found: u64) -> Did
-    requires { CanAnswer start.now found }
-    ensures did { result ≡ answer_of start.now found }
-    ensures actor { actor_of thread.new ≡ answered start.now exit found thread.old }
-{
-    match *start {
-        Start::Stuck => Did::Same,
-        Start::Moved | Start::Doing(_) => Did::Moved,
-        Start::Calling(call) => {
-            end_call(thread, call, exit);
-            Did::Moved
-        }
-        Start::Asking { question, .. } => {
-            answer(thread, &question, found);
-            Did::Moved
-        }
-        Start::Locking { left, next, .. } => enter(thread, left, next, found),
-    }
 }
 
 /// Sends a thread on to the instruction `next` of its call if the gate that it found was free: it has the lock.
@@ -179,16 +156,78 @@ pub fn act(
         return Ok(Did::Gone);
     }
     thread.agenda.reserve(ROOM)?;
-    let start = first_duty(functions, layout, number, thread);
-    match start.duty() {
+    // Most steps do a duty of the agenda. They make no `Start`, which would cost them a copy.
+    match thread.agenda.pop() {
         Some(duty) => {
-            let found = do_duty(memory, layout, number, thread, &duty);
+            do_duty(memory, layout, number, thread, &duty);
             faults.count_duty(&duty, exit);
-            Ok(finish(thread, &start, exit, found))
+            Ok(Did::Moved)
         }
-        None => {
-            faults.count_call(&start, exit);
-            Ok(finish(thread, &start, exit, 0))
+        None => Ok(act_by_dispatch(functions, memory, layout, number, thread, faults, exit)),
+    }
+}
+
+/// Takes the next step of a thread that has no duty left: it dispatches its next instruction or its exit, and does the
+/// duty with which that begins. Returns what the step did.
+#[inline(always)]
+fn act_by_dispatch(
+    functions: &[Function],
+    memory: &mut Memory,
+    layout: Layout,
+    number: u8,
+    thread: &mut Thread,
+    faults: &mut Faults,
+    exit: Exit,
+) -> Did
+    requires some_rows { 0 < layout.rows }
+    requires small { length memory.old.local ≤ total_limit }
+    requires known { number ≤ worker_limit }
+    requires alive { thread.old.status ≢ Gone }
+    requires empty { thread.old.agenda.items ≡ [] }
+    requires room { 8 ≤ vec_capacity thread.old.agenda }
+    requires can { CanAct layout number (length memory.old.local) (length memory.old.thread) (word_in memory.old)
+        (actor_of thread.old) (status_action functions.now layout number (actor_of thread.old) thread.old.status) }
+    ensures did { result ≡ answer_by (word_in memory.old) (reverse thread.old.agenda.items)
+        (status_action functions.now layout number (actor_of thread.old) thread.old.status) }
+    ensures words { word_in memory.new ≡ memory_by layout number (word_in memory.old) (actor_of thread.old)
+        (status_action functions.now layout number (actor_of thread.old) thread.old.status) }
+    ensures actor { actor_of thread.new ≡ actor_by layout number (word_in memory.old) (actor_of thread.old) exit
+        (status_action functions.now layout number (actor_of thread.old) thread.old.status) }
+    ensures faults { faults.new ≡ faults_by exit
+        (status_action functions.now layout number (actor_of thread.old) thread.old.status) faults.old }
+    ensures as_many_rows { length memory.new.local ≡ length memory.old.local }
+    ensures as_many_threads { length memory.new.thread ≡ length memory.old.thread }
+{
+    let start = dispatch(functions, layout, number, thread);
+    // By reference: in a copy, loads would wait for stores of another width (docs/lists/PERFORMANCE.md).
+    match &start {
+        Start::Stuck => Did::Same,
+        Start::Moved => Did::Moved,
+        Start::Calling(call) => {
+            faults.count_call(exit);
+            end_call(thread, *call, exit);
+            Did::Moved
+        }
+        Start::Doing(duty) => {
+            do_duty(memory, layout, number, thread, duty);
+            faults.count_duty(duty, exit);
+            Did::Moved
+        }
+        Start::Asking { duty, question } => {
+            let found = do_duty(memory, layout, number, thread, duty);
+            faults.count_duty(duty, exit);
+            answer(thread, question, found);
+            Did::Moved
+        }
+        Start::Locking { row, left, next } => {
+            let found = do_duty(
+                memory,
+                layout,
+                number,
+                thread,
+                &Duty::LockGate { row: *row },
+            );
+            enter(thread, *left, *next, found)
         }
     }
 }
