@@ -75,7 +75,8 @@ pub fn first_duty(functions: &[Function], layout: Layout, number: u8, thread: &m
 /// Dispatches the next instruction or the exit, once the agenda is empty. The dispatch of a call's first instruction
 /// also begins the call. That is no step of its own, because an idle thread's variables and counts are no part of the
 /// world.
-#[inline(always)]
+// Inside the step its start would be put together once for each function on the way (docs/lists/PERFORMANCE.md).
+#[inline(never)]
 pub fn dispatch(functions: &[Function], layout: Layout, number: u8, thread: &mut Thread) -> Start
     requires empty { thread.old.agenda.items ≡ [] }
     requires room { 8 ≤ vec_capacity thread.old.agenda }

@@ -32,7 +32,9 @@ use brc_model::{Address, Duty, Exit, Layout, Status};
 use brc_word::values::FREE;
 
 /// Does the thread's duty, which is no longer in its agenda, on the duty's word. Returns the value that it found there.
-// Inside the step its values would have no registers, and the step would take longer (docs/lists/PERFORMANCE.md).
+// Inside the step its values would have no registers, and the step would take longer. Each arm makes the same call,
+// which is inlined, so that the compiler makes one path for each duty, and tests the duty once
+// (docs/lists/PERFORMANCE.md).
 #[inline(never)]
 pub fn do_duty(
     memory: &mut Memory,
@@ -62,6 +64,78 @@ pub fn do_duty(
     ensures turns { thread.new.turns ≡ thread.old.turns }
     ensures mode { thread.new.mode ≡ thread.old.mode }
 {
+    match duty {
+        Duty::RetainLoad { .. } => do_known_duty(memory, layout, number, thread, duty),
+        Duty::RetainStore { .. } => do_known_duty(memory, layout, number, thread, duty),
+        Duty::RetainAdd { .. } => do_known_duty(memory, layout, number, thread, duty),
+        Duty::ReleaseLoad { .. } => do_known_duty(memory, layout, number, thread, duty),
+        Duty::ReleaseStore { .. } => do_known_duty(memory, layout, number, thread, duty),
+        Duty::DecideAtZero { .. } => do_known_duty(memory, layout, number, thread, duty),
+        Duty::SharedLoad { .. } => do_known_duty(memory, layout, number, thread, duty),
+        Duty::SharedExchange { .. } => do_known_duty(memory, layout, number, thread, duty),
+        Duty::SetMark { .. } => do_known_duty(memory, layout, number, thread, duty),
+        Duty::Look { .. } => do_known_duty(memory, layout, number, thread, duty),
+        Duty::TakeMark { .. } => do_known_duty(memory, layout, number, thread, duty),
+        Duty::MergeSwap { .. } => do_known_duty(memory, layout, number, thread, duty),
+        Duty::MergeLoad { .. } => do_known_duty(memory, layout, number, thread, duty),
+        Duty::MergeExchange { .. } => do_known_duty(memory, layout, number, thread, duty),
+        Duty::Die { .. } => do_known_duty(memory, layout, number, thread, duty),
+        Duty::Settle => do_known_duty(memory, layout, number, thread, duty),
+        Duty::SettleKind { .. } => do_known_duty(memory, layout, number, thread, duty),
+        Duty::SettleCell { .. } => do_known_duty(memory, layout, number, thread, duty),
+        Duty::TakeSlot { .. } => do_known_duty(memory, layout, number, thread, duty),
+        Duty::CloseResource { .. } => do_known_duty(memory, layout, number, thread, duty),
+        Duty::SettleEnd { .. } => do_known_duty(memory, layout, number, thread, duty),
+        Duty::Leave { .. } => do_known_duty(memory, layout, number, thread, duty),
+        Duty::Scan { .. } => do_known_duty(memory, layout, number, thread, duty),
+        Duty::Finish => do_known_duty(memory, layout, number, thread, duty),
+        Duty::ClaimMark { .. } => do_known_duty(memory, layout, number, thread, duty),
+        Duty::BirthKind { .. } => do_known_duty(memory, layout, number, thread, duty),
+        Duty::BirthSlot { .. } => do_known_duty(memory, layout, number, thread, duty),
+        Duty::BirthLocal { .. } => do_known_duty(memory, layout, number, thread, duty),
+        Duty::KindLoad { .. } => do_known_duty(memory, layout, number, thread, duty),
+        Duty::LockGate { .. } => do_known_duty(memory, layout, number, thread, duty),
+        Duty::UnlockGate { .. } => do_known_duty(memory, layout, number, thread, duty),
+        Duty::CellLoad { .. } => do_known_duty(memory, layout, number, thread, duty),
+        Duty::CellSwap { .. } => do_known_duty(memory, layout, number, thread, duty),
+        Duty::LendSlot { .. } => do_known_duty(memory, layout, number, thread, duty),
+        Duty::ReturnSlot { .. } => do_known_duty(memory, layout, number, thread, duty),
+    }
+}
+
+/// Does the duty, as `do_duty` says, in an arm that knows which duty it is.
+#[inline(always)]
+fn do_known_duty(
+    memory: &mut Memory,
+    layout: Layout,
+    number: u8,
+    thread: &mut Thread,
+    duty: &Duty,
+) -> u64
+    requires some_rows { 0 < layout.rows }
+    requires small { length memory.old.local ≤ total_limit }
+    requires known { number ≤ worker_limit }
+    requires there { IsThere (length memory.old.local) (length memory.old.thread)
+        (address_of layout number thread.old.head duty.now) }
+    requires suits { Suits number (is_running thread.old.status) (length memory.old.local) duty.now
+        (found_by layout number (word_in memory.old) (actor_of thread.old) duty.now) }
+    requires uses { used_by thread.old.used duty.now ≤ length memory.old.local }
+    requires room { vec_len thread.old.agenda + 4 ≤ vec_capacity thread.old.agenda }
+    ensures word { IsStored memory.old (address_of layout number thread.old.head duty.now)
+        (new_word number thread.old.head duty.now
+        (found_by layout number (word_in memory.old) (actor_of thread.old) duty.now)) memory.new }
+    ensures actor { actor_of thread.new ≡ actor_after layout number (word_in memory.old) (actor_of thread.old)
+        duty.now }
+    ensures found { result ≡ found_by layout number (word_in memory.old) (actor_of thread.old) duty.now }
+    ensures calls { thread.new.left ≡ thread.old.left }
+    ensures point { thread.new.at ≡ thread.old.at }
+    ensures variables { thread.new.variables ≡ thread.old.variables }
+    ensures turns { thread.new.turns ≡ thread.old.turns }
+    ensures mode { thread.new.mode ≡ thread.old.mode }
+{
+    // A copy: behind a reference the compiler would read and test the duty again after each store.
+    let own = *duty;
+    let duty = &own;
     let all = memory.rows() as u32;
     let address = address_of(layout, number, thread.head, *duty);
     let found = memory.load(address);
