@@ -1,6 +1,6 @@
 -- A step of the code does the thread's action, if the thread isn't gone.
-use Rattle.std.proofs.Common.{◌≡◌, ◌≢◌, ℕ, ◌≤◌, arith, Bool, true, false, cond, List, [], ◌∷◌, None, Some, refl, sym, ap, ◌∙◌, subst}
-use Rattle.std.specs.Prelude.{◌==◌, not, if◌then◌else◌}
+use Rattle.std.proofs.Common.{◌≡◌, ◌≢◌, ℕ, ◌≤◌, arith, Bool, true, false, cond, List, [], ◌∷◌, Option, None, Some, refl, sym, ap, ◌∙◌, subst}
+use Rattle.std.specs.Prelude.{◌==◌, not, if◌then◌else◌, slice_get}
 use Rattle.brc_lang.specs.declared.module.Function.{Function}
 use Rattle.brc_word.specs.Words.{free_word}
 use Rattle.brc_model.specs.declared.actor.Place.{Place}
@@ -11,9 +11,10 @@ use Rattle.brc_model.specs.declared.address.Address.TheVariants.{Gate}
 use Rattle.brc_model.specs.declared.duty.Duty.{Duty}
 use Rattle.brc_model.specs.declared.duty.Duty.TheVariants.{ClaimMark, LockGate, CellLoad}
 use Rattle.brc_model.specs.Duties.{address_of}
-use Rattle.brc_model.specs.Actions.{StepActor, Action, Skip, Stuck, Silent, Calls, Does, always, agenda_action, status_action}
+use Rattle.brc_model.specs.Actions.{StepActor, Action, Skip, Stuck, Silent, Calls, Does, always, agenda_action, status_action, dispatch}
 use Rattle.brc_model.specs.Limits.{total_limit}
 use Rattle.brc_model.specs.StepMachine.{at_place}
+use Rattle.brc_model.specs.Threads.{code_of}
 use Rattle.brc_model.specs.Within.{Suits}
 use Rattle.brc_world.proofs.Dispatching.{TakesStep, agenda_steps}
 use Rattle.brc_world.specs.declared.did.Did.{Did}
@@ -27,7 +28,7 @@ use Rattle.brc_world.specs.declared.host_call.HostCall.TheVariants as calls
 use Rattle.brc_world.specs.declared.question.Question.{Question}
 use Rattle.brc_world.specs.declared.question.Question.TheVariants as questions
 use Rattle.brc_world.specs.Questions.{FindsItem, IsAbout, IsAnswerable, place_called}
-use Rattle.brc_world.specs.Starts.{start_by, first_start, unasking, duty_of, AsksWell, CanAnswer, entering, answer_of, calls_counted, place_after, answered, started}
+use Rattle.brc_world.specs.Starts.{start_by, first_start, unasking, place_after, answered, started, HasDispatched}
 use Rattle.brc_model.specs.declared.layout.Layout.{Layout}
 use Rattle.brc_model.specs.declared.state.Exit.{Exit}
 use Rattle.brc_model.specs.StepMachine.{counted, closes}
@@ -44,6 +45,25 @@ call_counted exit f = record { calls = counted exit f.calls; closes = f.closes }
 -- the counts of faults after any other step
 abbrev pub uncounted : Faults → Faults
 uncounted f = f
+
+-- the duty that the start does, if it accesses a word
+abbrev pub duty_of : Start → Option Duty
+duty_of starts.Stuck = None
+duty_of starts.Moved = None
+duty_of (starts.Calling call) = None
+duty_of (starts.Doing d) = Some d
+duty_of (starts.Asking d question) = Some d
+duty_of (starts.Locking row left next) = Some (LockGate row)
+
+-- the answer of a lock that finds this gate
+abbrev pub entering : ℕ → Did
+entering found = if found == free_word then answers.Moved else answers.Same
+
+-- the answer of a step with the start, whose duty finds this word if it has one
+abbrev pub answer_of : Start → ℕ → Did
+answer_of starts.Stuck found = answers.Same
+answer_of (starts.Locking row left next) found = entering found
+answer_of _ found = answers.Moved
 
 -- what there is after the action of thread a, which has this agenda, if the action ends by the exit: the answer, the
 -- words, the thread, and how the counts of faults change
@@ -205,6 +225,13 @@ alive_action functions layout t a Running alive = refl
 alive_action functions layout t a Leaving alive = refl
 alive_action functions layout t a Gone alive = absurd (alive refl)
 
+-- The action of a thread that has a duty left is its first duty.
+pub first_action : (functions : List Function) (layout : Layout) (t : ℕ) (a : StepActor) (d : Duty) (rest : List Duty)
+    → a.actor.status ≢ Gone → a.actor.agenda ≡ d ∷ rest
+    → status_action functions layout t a a.actor.status ≡ Does d rest (always a.place)
+first_action functions layout t a d rest alive first =
+    sym (alive_action functions layout t a a.actor.status alive) ∙ ap (agenda_action functions layout t a) first
+
 -- thread a's step has started with its action, and the thread is now b
 pub record HasStarted (functions : List Function) (layout : Layout) (t : ℕ) (a : StepActor) (b : Thread)
     (start : Start) : Type 0 where
@@ -212,6 +239,17 @@ pub record HasStarted (functions : List Function) (layout : Layout) (t : ℕ) (a
   pub starts : unasking start ≡ first_start functions layout t a a.actor.agenda
   pub actor : (exit : Exit) (found : ℕ)
       → answered start exit found b ≡ started a (agenda_action functions layout t a a.actor.agenda) exit found
+
+-- A thread that has no duty left starts its step with what it dispatches.
+pub dispatched : (functions : List Function) (layout : Layout) (t : ℕ) (a b : Thread) (start : Start)
+    → a.status ≢ Gone → a.agenda.items ≡ []
+    → HasDispatched a (dispatch layout t a.used (code_of (slice_get functions a.function)) (actor_of a).place) start b
+    → HasStarted functions layout t (actor_of a) b start
+dispatched functions layout t a b start alive empty has = record {
+  alive = alive;
+  starts = rw empty has.starts;
+  actor = λ exit found. rw empty (rw empty at (has.actor exit found));
+}
 
 started_head : (a : StepActor) (x : Action) (exit : Exit) (found : ℕ)
     → (started a x exit found).actor.head ≡ a.actor.head
@@ -269,16 +307,6 @@ module _ (functions : List Function) (layout : Layout) (t : ℕ) (memory : Addre
       (subst (λ (c : StepActor). IsStep layout t memory a a.actor.agenda exit x answers.Moved memory c
       (call_counted exit)) (sym (begun.actor exit 0))
       (agenda_called functions layout t memory a exit a.actor.agenda begun.starts 0))
-
-  -- A step that does no duty is the model's, which accesses no word.
-  pub silent_step : (start : Start) → HasStarted functions layout t a b start → duty_of start ≡ None
-      → StepsTo (answer_of start 0) memory (answered start exit 0 b) (calls_counted start exit)
-  silent_step starts.Stuck begun none = stuck_step begun
-  silent_step starts.Moved begun none = moved_step begun
-  silent_step (starts.Calling call) begun none = called_step call begun
-  silent_step (starts.Doing d) begun none = absurd cc
-  silent_step (starts.Asking d question) begun none = absurd cc
-  silent_step (starts.Locking row left next) begun none = absurd cc
 
   -- The thread that has started its step finds the same value in the duty's word as before.
   finds_same : (start : Start) (d : Duty) → HasStarted functions layout t a b start
@@ -356,7 +384,7 @@ item_found (CellLoad row cell) t n found running small finds suits = omega (arit
 item_found _ t n found running small finds suits = absurd finds
 
 -- The word that a question is about has an answer.
-answerable : (question : Question) (d : Duty) (t n found : ℕ) (running : Bool) → n ≤ total_limit
+pub answerable : (question : Question) (d : Duty) (t n found : ℕ) (running : Bool) → n ≤ total_limit
     → IsAbout question d → Suits t running n d found → IsAnswerable question found
 answerable (questions.Kind kind otherwise) d t n found running small about suits = tt
 answerable (questions.Range index outside) d t n found running small about suits = tt
@@ -364,15 +392,6 @@ answerable (questions.Borrow to otherwise) d t n found running small about suits
     item_found d t n found running small about suits
 answerable (questions.Fetch to otherwise) d t n found running small about suits =
     item_found d t n found running small about suits
-
--- The word that the start's duty finds answers its question.
-pub can_answer : (start : Start) (d : Duty) (t n found : ℕ) (running : Bool) → n ≤ total_limit → duty_of start ≡ Some d
-    → AsksWell start → Suits t running n d found → CanAnswer start found
-can_answer (starts.Asking c question) d t n found running small does asks suits =
-    let same : d ≡ c = cc in
-    answerable question c t n found running small asks
-    (subst (λ (e : Duty). Suits t running n e found) same suits)
-can_answer _ d t n found running small does asks suits = tt
 
 -- ---- a claim that finds a mark
 

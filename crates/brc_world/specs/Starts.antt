@@ -15,17 +15,14 @@ use Rattle.brc_model.specs.declared.layout.Layout.{Layout}
 use Rattle.brc_model.specs.declared.state.Exit.{Exit}
 use Rattle.brc_model.specs.Actions.{StepActor, Action, Skip, Stuck, Silent, Calls, Does, always, stopping, give_up, dispatch_instruction, dispatch_inside, dispatch}
 use Rattle.brc_model.specs.Layout.{root_row}
-use Rattle.brc_model.specs.StepMachine.{at_place, counted}
+use Rattle.brc_model.specs.StepMachine.{at_place}
 use Rattle.brc_model.specs.Threads.{code_of}
-use Rattle.brc_world.specs.declared.did.Did.{Did}
-use Rattle.brc_world.specs.declared.did.Did.TheVariants as answers
 use Rattle.brc_world.specs.declared.dispatch.Start.{Start}
 use Rattle.brc_world.specs.declared.dispatch.Start.TheVariants as starts
-use Rattle.brc_world.specs.declared.faults.Faults.{Faults}
 use Rattle.brc_world.specs.declared.thread.Thread.{Thread}
 use Rattle.brc_world.specs.Actors.{context_in, place_of, actor_of, with_agenda}
 use Rattle.brc_world.specs.declared.host_call.HostCall.TheVariants as calls
-use Rattle.brc_world.specs.Questions.{IsAbout, IsAnswerable, place_answered, place_called}
+use Rattle.brc_world.specs.Questions.{IsAbout, place_answered, place_called}
 
 -- ---- the actions of a thread
 
@@ -101,36 +98,6 @@ unasking start = start
 abbrev pub AsksWell : Start → Type 0
 AsksWell (starts.Asking d question) = IsAbout question d
 AsksWell start = Unit {0}
-
--- the duty that the start does, if it accesses a word
-abbrev pub duty_of : Start → Option Duty
-duty_of starts.Stuck = None
-duty_of starts.Moved = None
-duty_of (starts.Calling call) = None
-duty_of (starts.Doing d) = Some d
-duty_of (starts.Asking d question) = Some d
-duty_of (starts.Locking row left next) = Some (LockGate row)
-
--- the word found answers the question of the start, if it has one
-abbrev pub CanAnswer : Start → ℕ → Type 0
-CanAnswer (starts.Asking d question) found = IsAnswerable question found
-CanAnswer _ found = Unit {0}
-
--- the answer of a lock that finds this gate
-abbrev pub entering : ℕ → Did
-entering found = if found == free_word then answers.Moved else answers.Same
-
--- the answer of a step with the start, whose duty finds this word if it has one
-abbrev pub answer_of : Start → ℕ → Did
-answer_of starts.Stuck found = answers.Same
-answer_of (starts.Locking row left next) found = entering found
-answer_of _ found = answers.Moved
-
--- the counts of faults after a step with the start that ends by the exit, but for those of closes
-abbrev pub calls_counted : Start → Exit → Faults → Faults
-calls_counted (starts.Calling call) exit faults =
-    record { calls = counted exit faults.calls; closes = faults.closes }
-calls_counted _ exit faults = faults
 
 -- ---- the thread afterwards
 

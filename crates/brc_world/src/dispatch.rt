@@ -6,7 +6,7 @@ ghost use Rattle.brc_model.specs.declared.state.Exit.{Exit};
 ghost use Rattle.brc_model.specs.Threads.{code_of, entry_variables};
 ghost use Rattle.brc_model.specs.Actions.{agenda_action, dispatch};
 ghost use Rattle.brc_world.specs.Actors.{actor_of};
-ghost use Rattle.brc_world.specs.Starts.{duty_of, first_start, exit_action, action_at, action_inside, unasking, answered, started, AsksWell, CanDispatch, HasDispatched};
+ghost use Rattle.brc_world.specs.Starts.{first_start, exit_action, action_at, action_inside, unasking, answered, started, AsksWell, CanDispatch, HasDispatched};
 
 use crate::dispatch::birth::birth;
 use crate::dispatch::files::{ask_host, read, write};
@@ -55,20 +55,6 @@ pub enum Start {
     Locking { row: u32, left: u32, next: usize },
 }
 
-impl Start {
-    /// Returns the duty that the step does, or `None` if it accesses no word.
-    #[inline(always)]
-    pub fn duty(&self) -> Option<Duty>
-        ensures { result ≡ duty_of self.now }
-    {
-        match *self {
-            Start::Stuck | Start::Moved | Start::Calling(_) => None,
-            Start::Doing(duty) | Start::Asking { duty, .. } => Some(duty),
-            Start::Locking { row, .. } => Some(Duty::LockGate { row }),
-        }
-    }
-}
-
 /// Takes the first duty off the agenda or, if the agenda is empty, dispatches the next instruction or the exit.
 #[inline(always)]
 pub fn first_duty(functions: &[Function], layout: Layout, number: u8, thread: &mut Thread) -> Start
@@ -89,8 +75,9 @@ pub fn first_duty(functions: &[Function], layout: Layout, number: u8, thread: &m
 /// Dispatches the next instruction or the exit, once the agenda is empty. The dispatch of a call's first instruction
 /// also begins the call. That is no step of its own, because an idle thread's variables and counts are no part of the
 /// world.
-#[inline(always)]
-fn dispatch(functions: &[Function], layout: Layout, number: u8, thread: &mut Thread) -> Start
+// Inside the step its start would be put together once for each function on the way (docs/lists/PERFORMANCE.md).
+#[inline(never)]
+pub fn dispatch(functions: &[Function], layout: Layout, number: u8, thread: &mut Thread) -> Start
     requires empty { thread.old.agenda.items ≡ [] }
     requires room { 8 ≤ vec_capacity thread.old.agenda }
     ensures { HasDispatched thread.old (dispatch layout number thread.old.used (code_of (slice_get functions.now

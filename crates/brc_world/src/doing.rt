@@ -1,7 +1,7 @@
 //! One step of one thread: it changes a word, the thread, or both.
 
 ghost use Rattle.std.specs.Prelude.{◌≡◌, ◌≢◌, ◌+◌, ◌<◌, ◌≤◌, ◌==◌, true, false, if◌then◌else◌, length, OnOk, OnErr, IfOk, IfErr};
-ghost use Rattle.std.specs.Prelude.{reverse, vec_len, vec_capacity};
+ghost use Rattle.std.specs.Prelude.{[], reverse, vec_len, vec_capacity};
 ghost use Rattle.brc_word.specs.Words.{free_word};
 ghost use Rattle.brc_model.specs.declared.actor.Status.TheVariants.{Gone};
 ghost use Rattle.brc_model.specs.Duties.{address_of, new_word};
@@ -13,11 +13,11 @@ ghost use Rattle.brc_model.specs.Within.{IsThere, Suits};
 ghost use Rattle.brc_world.specs.Storage.{word_in, IsStored};
 ghost use Rattle.brc_world.specs.Actors.{actor_of, context_in, found_by, actor_after, memory_by, actor_by, faults_by, waits, answer_by, CanAct, finds_mark, memory_claimed, actor_claimed, did_claim, CanClaim, action_stopped, is_silent, silently, did_stop};
 ghost use Rattle.brc_check.specs.Tables.{states_of};
-ghost use Rattle.brc_world.specs.Starts.{let_in, answered, answer_of, CanAnswer};
+ghost use Rattle.brc_world.specs.Starts.{let_in};
 
 use crate::agenda::{pass_over, push};
 use crate::did::Did;
-use crate::dispatch::{Start, first_duty};
+use crate::dispatch::{Start, dispatch};
 use crate::faults::Faults;
 use crate::host_call::end_call;
 use crate::memory::Memory;
@@ -32,7 +32,9 @@ use brc_model::{Address, Duty, Exit, Layout, Status};
 use brc_word::values::FREE;
 
 /// Does the thread's duty, which is no longer in its agenda, on the duty's word. Returns the value that it found there.
-// Inside the step its values would have no registers, and the step would take longer (docs/lists/PERFORMANCE.md).
+// Inside the step its values would have no registers, and the step would take longer. Each arm makes the same call,
+// which is inlined, so that the compiler makes one path for each duty, and tests the duty once
+// (docs/lists/PERFORMANCE.md).
 #[inline(never)]
 pub fn do_duty(
     memory: &mut Memory,
@@ -62,6 +64,78 @@ pub fn do_duty(
     ensures turns { thread.new.turns ≡ thread.old.turns }
     ensures mode { thread.new.mode ≡ thread.old.mode }
 {
+    match duty {
+        Duty::RetainLoad { .. } => do_known_duty(memory, layout, number, thread, duty),
+        Duty::RetainStore { .. } => do_known_duty(memory, layout, number, thread, duty),
+        Duty::RetainAdd { .. } => do_known_duty(memory, layout, number, thread, duty),
+        Duty::ReleaseLoad { .. } => do_known_duty(memory, layout, number, thread, duty),
+        Duty::ReleaseStore { .. } => do_known_duty(memory, layout, number, thread, duty),
+        Duty::DecideAtZero { .. } => do_known_duty(memory, layout, number, thread, duty),
+        Duty::SharedLoad { .. } => do_known_duty(memory, layout, number, thread, duty),
+        Duty::SharedExchange { .. } => do_known_duty(memory, layout, number, thread, duty),
+        Duty::SetMark { .. } => do_known_duty(memory, layout, number, thread, duty),
+        Duty::Look { .. } => do_known_duty(memory, layout, number, thread, duty),
+        Duty::TakeMark { .. } => do_known_duty(memory, layout, number, thread, duty),
+        Duty::MergeSwap { .. } => do_known_duty(memory, layout, number, thread, duty),
+        Duty::MergeLoad { .. } => do_known_duty(memory, layout, number, thread, duty),
+        Duty::MergeExchange { .. } => do_known_duty(memory, layout, number, thread, duty),
+        Duty::Die { .. } => do_known_duty(memory, layout, number, thread, duty),
+        Duty::Settle => do_known_duty(memory, layout, number, thread, duty),
+        Duty::SettleKind { .. } => do_known_duty(memory, layout, number, thread, duty),
+        Duty::SettleCell { .. } => do_known_duty(memory, layout, number, thread, duty),
+        Duty::TakeSlot { .. } => do_known_duty(memory, layout, number, thread, duty),
+        Duty::CloseResource { .. } => do_known_duty(memory, layout, number, thread, duty),
+        Duty::SettleEnd { .. } => do_known_duty(memory, layout, number, thread, duty),
+        Duty::Leave { .. } => do_known_duty(memory, layout, number, thread, duty),
+        Duty::Scan { .. } => do_known_duty(memory, layout, number, thread, duty),
+        Duty::Finish => do_known_duty(memory, layout, number, thread, duty),
+        Duty::ClaimMark { .. } => do_known_duty(memory, layout, number, thread, duty),
+        Duty::BirthKind { .. } => do_known_duty(memory, layout, number, thread, duty),
+        Duty::BirthSlot { .. } => do_known_duty(memory, layout, number, thread, duty),
+        Duty::BirthLocal { .. } => do_known_duty(memory, layout, number, thread, duty),
+        Duty::KindLoad { .. } => do_known_duty(memory, layout, number, thread, duty),
+        Duty::LockGate { .. } => do_known_duty(memory, layout, number, thread, duty),
+        Duty::UnlockGate { .. } => do_known_duty(memory, layout, number, thread, duty),
+        Duty::CellLoad { .. } => do_known_duty(memory, layout, number, thread, duty),
+        Duty::CellSwap { .. } => do_known_duty(memory, layout, number, thread, duty),
+        Duty::LendSlot { .. } => do_known_duty(memory, layout, number, thread, duty),
+        Duty::ReturnSlot { .. } => do_known_duty(memory, layout, number, thread, duty),
+    }
+}
+
+/// Does the duty, as `do_duty` says, in an arm that knows which duty it is.
+#[inline(always)]
+fn do_known_duty(
+    memory: &mut Memory,
+    layout: Layout,
+    number: u8,
+    thread: &mut Thread,
+    duty: &Duty,
+) -> u64
+    requires some_rows { 0 < layout.rows }
+    requires small { length memory.old.local ≤ total_limit }
+    requires known { number ≤ worker_limit }
+    requires there { IsThere (length memory.old.local) (length memory.old.thread)
+        (address_of layout number thread.old.head duty.now) }
+    requires suits { Suits number (is_running thread.old.status) (length memory.old.local) duty.now
+        (found_by layout number (word_in memory.old) (actor_of thread.old) duty.now) }
+    requires uses { used_by thread.old.used duty.now ≤ length memory.old.local }
+    requires room { vec_len thread.old.agenda + 4 ≤ vec_capacity thread.old.agenda }
+    ensures word { IsStored memory.old (address_of layout number thread.old.head duty.now)
+        (new_word number thread.old.head duty.now
+        (found_by layout number (word_in memory.old) (actor_of thread.old) duty.now)) memory.new }
+    ensures actor { actor_of thread.new ≡ actor_after layout number (word_in memory.old) (actor_of thread.old)
+        duty.now }
+    ensures found { result ≡ found_by layout number (word_in memory.old) (actor_of thread.old) duty.now }
+    ensures calls { thread.new.left ≡ thread.old.left }
+    ensures point { thread.new.at ≡ thread.old.at }
+    ensures variables { thread.new.variables ≡ thread.old.variables }
+    ensures turns { thread.new.turns ≡ thread.old.turns }
+    ensures mode { thread.new.mode ≡ thread.old.mode }
+{
+    // A copy: behind a reference the compiler would read and test the duty again after each store.
+    let own = *duty;
+    let duty = &own;
     let all = memory.rows() as u32;
     let address = address_of(layout, number, thread.head, *duty);
     let found = memory.load(address);
@@ -74,29 +148,6 @@ pub fn do_duty(
     thread.head = effect.head;
     pass_over(&mut thread.agenda, effect.head);
     found
-}
-
-/// Takes the thread to the place where it goes on after the step with this start, which ended by the exit. `found` is
-/// the word that the step's duty found, or 0 if it did no duty. Returns what the step did.
-#[inline(always)]
-fn finish(thread: &mut Thread, start: &Start, exit: Exit, found: u64) -> Did
-    requires { CanAnswer start.now found }
-    ensures did { result ≡ answer_of start.now found }
-    ensures actor { actor_of thread.new ≡ answered start.now exit found thread.old }
-{
-    match *start {
-        Start::Stuck => Did::Same,
-        Start::Moved | Start::Doing(_) => Did::Moved,
-        Start::Calling(call) => {
-            end_call(thread, call, exit);
-            Did::Moved
-        }
-        Start::Asking { question, .. } => {
-            answer(thread, &question, found);
-            Did::Moved
-        }
-        Start::Locking { left, next, .. } => enter(thread, left, next, found),
-    }
 }
 
 /// Sends a thread on to the instruction `next` of its call if the gate that it found was free: it has the lock.
@@ -179,16 +230,78 @@ pub fn act(
         return Ok(Did::Gone);
     }
     thread.agenda.reserve(ROOM)?;
-    let start = first_duty(functions, layout, number, thread);
-    match start.duty() {
+    // Most steps do a duty of the agenda. They make no `Start`, which would cost them a copy.
+    match thread.agenda.pop() {
         Some(duty) => {
-            let found = do_duty(memory, layout, number, thread, &duty);
+            do_duty(memory, layout, number, thread, &duty);
             faults.count_duty(&duty, exit);
-            Ok(finish(thread, &start, exit, found))
+            Ok(Did::Moved)
         }
-        None => {
-            faults.count_call(&start, exit);
-            Ok(finish(thread, &start, exit, 0))
+        None => Ok(act_by_dispatch(functions, memory, layout, number, thread, faults, exit)),
+    }
+}
+
+/// Takes the next step of a thread that has no duty left: it dispatches its next instruction or its exit, and does the
+/// duty with which that begins. Returns what the step did.
+#[inline(always)]
+fn act_by_dispatch(
+    functions: &[Function],
+    memory: &mut Memory,
+    layout: Layout,
+    number: u8,
+    thread: &mut Thread,
+    faults: &mut Faults,
+    exit: Exit,
+) -> Did
+    requires some_rows { 0 < layout.rows }
+    requires small { length memory.old.local ≤ total_limit }
+    requires known { number ≤ worker_limit }
+    requires alive { thread.old.status ≢ Gone }
+    requires empty { thread.old.agenda.items ≡ [] }
+    requires room { 8 ≤ vec_capacity thread.old.agenda }
+    requires can { CanAct layout number (length memory.old.local) (length memory.old.thread) (word_in memory.old)
+        (actor_of thread.old) (status_action functions.now layout number (actor_of thread.old) thread.old.status) }
+    ensures did { result ≡ answer_by (word_in memory.old) (reverse thread.old.agenda.items)
+        (status_action functions.now layout number (actor_of thread.old) thread.old.status) }
+    ensures words { word_in memory.new ≡ memory_by layout number (word_in memory.old) (actor_of thread.old)
+        (status_action functions.now layout number (actor_of thread.old) thread.old.status) }
+    ensures actor { actor_of thread.new ≡ actor_by layout number (word_in memory.old) (actor_of thread.old) exit
+        (status_action functions.now layout number (actor_of thread.old) thread.old.status) }
+    ensures faults { faults.new ≡ faults_by exit
+        (status_action functions.now layout number (actor_of thread.old) thread.old.status) faults.old }
+    ensures as_many_rows { length memory.new.local ≡ length memory.old.local }
+    ensures as_many_threads { length memory.new.thread ≡ length memory.old.thread }
+{
+    let start = dispatch(functions, layout, number, thread);
+    // By reference: in a copy, loads would wait for stores of another width (docs/lists/PERFORMANCE.md).
+    match &start {
+        Start::Stuck => Did::Same,
+        Start::Moved => Did::Moved,
+        Start::Calling(call) => {
+            faults.count_call(exit);
+            end_call(thread, *call, exit);
+            Did::Moved
+        }
+        Start::Doing(duty) => {
+            do_duty(memory, layout, number, thread, duty);
+            faults.count_duty(duty, exit);
+            Did::Moved
+        }
+        Start::Asking { duty, question } => {
+            let found = do_duty(memory, layout, number, thread, duty);
+            faults.count_duty(duty, exit);
+            answer(thread, question, found);
+            Did::Moved
+        }
+        Start::Locking { row, left, next } => {
+            let found = do_duty(
+                memory,
+                layout,
+                number,
+                thread,
+                &Duty::LockGate { row: *row },
+            );
+            enter(thread, *left, *next, found)
         }
     }
 }

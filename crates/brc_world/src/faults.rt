@@ -2,9 +2,7 @@
 
 ghost use Rattle.std.specs.Prelude.{◌≡◌, if◌then◌else◌};
 ghost use Rattle.brc_model.specs.StepMachine.{counted, closes};
-ghost use Rattle.brc_world.specs.Starts.{calls_counted};
 
-use crate::dispatch::Start;
 use brc_model::{Duty, Exit};
 
 /// How often the host has faulted. A count stops at the greatest number.
@@ -17,14 +15,12 @@ pub struct Faults {
 }
 
 impl Faults {
-    /// Counts how the step with this start ended, if it is a host call.
+    /// Counts how a host call ended.
     #[inline(always)]
-    pub fn count_call(&mut self, start: &Start, exit: Exit)
-        ensures { self.new ≡ calls_counted start.now exit self.old }
+    pub fn count_call(&mut self, exit: Exit)
+        ensures { self.new ≡ record self.old { calls = counted exit self.old.calls } }
     {
-        if let Start::Calling(_) = start {
-            self.calls = counted(exit, self.calls);
-        }
+        self.calls = counted(exit, self.calls);
     }
 
     /// Counts how the step that did the duty ended: only a close may fault. The resource is closed all the same, and

@@ -72,6 +72,7 @@ impl Memory {
     }
 
     /// Returns the word at the address.
+    #[inline(always)]
     pub fn load(&self, address: Address) -> u64
         requires { IsThere (length self.now.local) (length self.now.thread) address }
         ensures { result ≡ word_in self.now address }
@@ -90,6 +91,7 @@ impl Memory {
     }
 
     /// Stores the word at the address.
+    #[inline(always)]
     pub fn store(&mut self, address: Address, word: u64)
         requires { IsThere (length self.old.local) (length self.old.thread) address }
         ensures { IsStored self.old address word self.new }

@@ -1,92 +1,62 @@
--- The step starts with the thread's action, which the thread can do.
-use Rattle.std.proofs.Common.{ℕ, refl, sym, ap, ◌∙◌}
-use Rattle.brc_world.proofs.Acting.{HasStarted, silent_step, duty_step, goes_on, can_do, can_answer}
-use Rattle.brc_model.specs.StepMachine.{at_place}
-use Rattle.brc_world.specs.Storage.{word_in}
-use Rattle.brc_world.specs.Actors.{actor_of, actor_after}
-use Rattle.brc_world.specs.Starts.{answer_of, place_after}
-use Rattle.brc_world.proofs.doing.act.Goals.{After-first_duty-start}
+-- The step does the first duty of the agenda or, if there is none, what the thread dispatches.
+use Rattle.std.proofs.Common.{◌≡◌, [], ◌∷◌, refl, sym, ap, ◌∙◌, arith, rules, append-nil}
+use Rattle.std.specs.Prelude.{reverse}
+use Rattle.std.proofs.lemmas.List.{reverse-append}
+use Rattle.brc_world.proofs.Acting.{first_action}
+use Rattle.brc_world.specs.Actors.{actor_of}
 use Rattle.brc_world.proofs.doing.act.Goals as goal
 
--- The thread, which isn't gone, has started its step as the model does.
-begun : (c : After-first_duty-start)
-    → HasStarted c.args.functions.now c.args.layout c.args.number (actor_of c.args.thread.now)
-    c.first_duty-start.new.thread c.first_duty-start.result
-begun c = record {
-  alive = c.in_default.not-Gone;
-  starts = rw c.in_ok-reserve.ensures.items at c.first_duty-start.ensures.starts;
-  actor = λ exit found. rw c.in_ok-reserve.ensures.items at (c.first_duty-start.ensures.actor exit found);
-}
+-- ---- a duty left
 
--- ---- a duty
+pub returns-in-Some : goal.returns-in-Some
+returns-in-Some c =
+    let first : reverse c.args.thread.now.agenda.items ≡ c.in-Some.duty ∷ reverse c.pop.new.self.items =
+    ap reverse (sym c.in_ok-reserve.ensures.items ∙ c.in-Some.ensures.items)
+    ∙ reverse-append c.pop.new.self.items (c.in-Some.duty ∷ []) in
+    let does =
+    first_action c.args.functions.now c.args.layout c.args.number (actor_of c.args.thread.now) c.in-Some.duty
+    (reverse c.pop.new.self.items) c.in_default.not-Gone first in
+    rw (does, first) (record {
+      did = refl;
+      words = c.do_duty.ensures.word.words;
+      actor = c.do_duty.ensures.actor;
+      faults = c.count_duty.ensures;
+      same_words = tt;
+      same_actor = tt;
+      same_faults = tt;
+      refused = tt;
+      as_many_rows = c.do_duty.ensures.word.rows;
+      as_many_threads = c.do_duty.ensures.word.threads;
+    })
 
-pub do_duty-found-requires : goal.do_duty-found-requires
-do_duty-found-requires c =
-    let can = can_do c.args.functions.now c.args.layout c.args.number (word_in c.args.memory.now) _ c.args.exit _ _ _ _
-    _ (begun (goal.at.do_duty-found-requires c).After-first_duty-start) (sym c.in-Some.ensures) c.requires.can in
+-- ---- no duty left
+
+pub act_by_dispatch-requires : goal.act_by_dispatch-requires
+act_by_dispatch-requires c =
+    let same = sym (append-nil c.pop.new.self.items) ∙ sym c.in-None.ensures.items ∙ c.in_ok-reserve.ensures.items in
     record {
       some_rows = c.requires.some_rows;
       small = c.requires.small;
       known = c.requires.known;
-      there = can.there;
-      suits = can.suits;
-      uses = can.uses;
-      room = c.first_duty-start.ensures.room;
+      alive = c.in_default.not-Gone;
+      empty = search rules;
+      room = omega (arith, c.in_ok-reserve.ensures.ok, c.in-None.ensures.capacity);
+      can = rw same c.requires.can;
     }
-
-pub finish-requires : goal.finish-requires
-finish-requires c =
-    let can = can_do c.args.functions.now c.args.layout c.args.number (word_in c.args.memory.now) _ c.args.exit _ _ _ _
-    _ (begun (goal.at.finish-requires c).After-first_duty-start) (sym c.in-Some.ensures) c.requires.can in
-    rw c.do_duty-found.ensures.found
-    (can_answer c.first_duty-start.result c.in-Some.duty _ _ _ _ c.requires.small (sym c.in-Some.ensures)
-    c.first_duty-start.ensures.question can.suits)
-
-pub returns-in-Some : goal.returns-in-Some
-returns-in-Some c =
-    let has = begun (goal.at.returns-in-Some c).After-first_duty-start in
-    let start = c.first_duty-start.result in
-    let before = c.first_duty-start.new.thread in
-    let duty = c.do_duty-found.ensures in
-    let done =
-    actor_after c.args.layout c.args.number (word_in c.args.memory.now) (actor_of before) c.in-Some.duty in
-    let step =
-    duty_step c.args.functions.now c.args.layout c.args.number (word_in c.args.memory.now) _ c.args.exit _ _ _ has
-    (sym c.in-Some.ensures) in
-    record {
-      did = c.finish.ensures.did ∙ ap (answer_of start) duty.found ∙ step.answer;
-      words = duty.word.words ∙ step.memory_is;
-      actor = c.finish.ensures.actor
-          ∙ goes_on start c.args.exit c.do_duty-found.result before c.do_duty-found.new.thread done duty.actor duty.mode
-          duty.calls duty.turns duty.point duty.variables
-          ∙ ap (λ (found : ℕ). at_place done (place_after start c.args.exit found before)) duty.found
-          ∙ step.actor;
-      faults = c.count_duty.ensures ∙ step.faults c.args.faults.now;
-      same_words = tt;
-      same_actor = tt;
-      same_faults = tt;
-      refused = tt;
-      as_many_rows = duty.word.rows;
-      as_many_threads = duty.word.threads;
-    }
-
--- ---- no duty
 
 pub returns-in-None : goal.returns-in-None
 returns-in-None c =
-    let step =
-    silent_step c.args.functions.now c.args.layout c.args.number (word_in c.args.memory.now)
-    (actor_of c.args.thread.now) c.args.exit c.first_duty-start.new.thread c.first_duty-start.result
-    (begun (goal.at.returns-in-None c).After-first_duty-start) (sym c.in-None.ensures) in
+    let same = sym (append-nil c.pop.new.self.items) ∙ sym c.in-None.ensures.items ∙ c.in_ok-reserve.ensures.items in
+    let acts = c.act_by_dispatch.ensures in
     record {
-      did = c.finish-in-None.ensures.did ∙ step.answer;
-      words = step.memory_is;
-      actor = c.finish-in-None.ensures.actor ∙ step.actor;
-      faults = c.count_call.ensures ∙ step.faults c.args.faults.now;
+      did = rw same at acts.did;
+      words = rw same at acts.words;
+      actor = rw same at acts.actor;
+      faults = rw same at acts.faults;
       same_words = tt;
       same_actor = tt;
       same_faults = tt;
       refused = tt;
-      as_many_rows = refl;
-      as_many_threads = refl;
+      as_many_rows = acts.as_many_rows;
+      as_many_threads = acts.as_many_threads;
     }

@@ -5,7 +5,7 @@ use Rattle.brc_model.specs.Machine.{is_running}
 use Rattle.brc_model.specs.Within.{Suits}
 use Rattle.brc_world.specs.Storage.{word_in}
 use Rattle.brc_effect.proofs.Indices.{indexed}
-use Rattle.brc_world.proofs.doing.do_duty.Goals as goal
+use Rattle.brc_world.proofs.doing.do_known_duty.Goals as goal
 
 pub address_of-address-requires-clause-indexed : goal.address_of-address-requires-clause-indexed
 address_of-address-requires-clause-indexed c =
