@@ -167,7 +167,7 @@ impl<'h, T: Drop, Q: Marker<T>> Finaliser<'h, T, Q> {
         // `DyingResource`, `DyingCells`: the kind says what the object gives back.
         let kind = words.step(hand, Duty::SettleKind { row });
         if has_resource(kind) {
-            return self.close_resource(hand, host, row);
+            return Self::close_resource(self.heap, hand, host, row);
         }
         self.empty(rt, hand, row, cells_of(kind));
         words.gate_close(hand, row);
@@ -177,8 +177,13 @@ impl<'h, T: Drop, Q: Marker<T>> Finaliser<'h, T, Q> {
     /// Does the next duties, behind which others may come: closes the resource of a dying file or socket, and then the
     /// object. Returns how many closes have failed.
     #[inline(never)]
-    fn close_resource<H: Host<Res = T>>(&self, hand: &mut Hand<T>, host: &mut H, row: u32) -> u64
-        requires table { IsOf self.now hand.old }
+    fn close_resource<H: Host<Res = T>>(
+        heap: &'h Heap<T>,
+        hand: &mut Hand<T>,
+        host: &mut H,
+        row: u32,
+    ) -> u64
+        requires table { IsOf heap.now hand.old }
         requires alive { hand.old.view.actor.status ≢ Gone }
         requires duty { TakesNext row hand.old.view.actor.agenda }
         requires slot { FirstSlot hand.old.slots row 1 }
@@ -190,8 +195,8 @@ impl<'h, T: Drop, Q: Marker<T>> Finaliser<'h, T, Q> {
             × (result ≡ close_faults closes) × HasAnswered H.answers H.counts host.old closes host.new }
     {
         hand.rows_are_there();
-        let words = self.heap.words();
-        let resource = Lists::new(self.heap).lend(hand, row);
+        let words = heap.words();
+        let resource = Lists::new(heap).lend(hand, row);
         let closed = host.close(resource);
         words.gate_close(hand, row);
         faults_of(&closed)

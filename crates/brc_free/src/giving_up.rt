@@ -4,14 +4,26 @@ ghost use Rattle.std.specs.Prelude.{◌≡◌, ◌≢◌, List, []};
 ghost use Rattle.brc_model.specs.declared.duty.Duty.{Duty};
 ghost use Rattle.brc_model.specs.declared.actor.Status.TheVariants.{Gone};
 ghost use Rattle.brc_table.specs.Hands.{IsOf, KeepsButView};
-ghost use Rattle.brc_heap.specs.Tries.{DecidesNext, GivesUpNext, MarksNext};
-ghost use Rattle.brc_free.specs.Works.{HasWorked, ReleasesNext, EndsRelease, behind};
+ghost use Rattle.brc_heap.specs.Tries.{DecidesNext, GivesUpNext, MarksNext, MergesNext};
+ghost use Rattle.brc_free.specs.Works.{HasWorked, ReleasesNext, EndsRelease, behind, merge_left};
 
 use crate::finaliser::Finaliser;
 use crate::merging::merge;
 use brc_heap::{Hand, Heap, LocalRelease, Looked, Marker, SharedRelease, Work, ZeroStep};
 use brc_model::{Duty, Holding};
 use std::sync::Wait;
+
+/// Does what `merge` does, as a call: an owner's last local reference is mostly the last of all.
+#[inline(never)]
+fn merge_at_zero<T: Drop, R: Wait>(rt: &R, heap: &Heap<T>, hand: &mut Hand<T>, row: u32)
+    requires table { IsOf heap.now hand.old }
+    requires alive { hand.old.view.actor.status ≢ Gone }
+    requires duty { MergesNext row hand.old.view.actor.agenda }
+    ensures kept { KeepsButView hand.old hand.new }
+    ensures work { HasWorked hand.old.view [] (merge_left hand.old.view.actor.agenda) hand.new.view }
+{
+    merge(rt, heap, hand, row);
+}
 
 impl<'h, T: Drop, Q: Marker<T>> Finaliser<'h, T, Q> {
     /// Does the next duties, behind which others may come: gives up a reference that came out of a cell.
@@ -34,6 +46,7 @@ impl<'h, T: Drop, Q: Marker<T>> Finaliser<'h, T, Q> {
     }
 
     /// Does the next duties, behind which others may come: what is left of a release after its step on the local word.
+    #[inline(always)]
     pub(crate) fn end_release<R: Wait>(
         &self,
         rt: &R,
@@ -51,12 +64,13 @@ impl<'h, T: Drop, Q: Marker<T>> Finaliser<'h, T, Q> {
         match release {
             LocalRelease::Skip | LocalRelease::Kept => {}
             LocalRelease::Zero => self.decide_at_zero(rt, hand, row),
-            LocalRelease::Share => self.give_up(rt, hand, row),
+            LocalRelease::Share => Self::give_up_as_other(self.heap, self.queue, rt, hand, row),
         }
     }
 
     /// Does the next duties, behind which others may come: decides what becomes of an object whose last local reference
     /// is gone.
+    #[inline(always)]
     fn decide_at_zero<R: Wait>(&self, rt: &R, hand: &mut Hand<T>, row: u32)
         requires table { IsOf self.now hand.old }
         requires alive { hand.old.view.actor.status ≢ Gone }
@@ -66,7 +80,7 @@ impl<'h, T: Drop, Q: Marker<T>> Finaliser<'h, T, Q> {
     {
         match self.heap.decide(hand, row, Work::Next) {
             ZeroStep::Dying => {}
-            ZeroStep::Merge => merge(rt, self.heap, hand, row),
+            ZeroStep::Merge => merge_at_zero(rt, self.heap, hand, row),
         }
     }
 
@@ -86,6 +100,25 @@ impl<'h, T: Drop, Q: Marker<T>> Finaliser<'h, T, Q> {
             SharedRelease::Queued => Self::hand_over(self.heap, self.queue, rt, hand, row),
             SharedRelease::Again => Self::give_up_again(self.heap, self.queue, rt, hand, row),
         }
+    }
+
+    /// Does what `give_up` does, as a call, for a hand that doesn't count the object locally.
+    #[inline(never)]
+    fn give_up_as_other<R: Wait>(
+        heap: &'h Heap<T>,
+        queue: &'h Q,
+        rt: &R,
+        hand: &mut Hand<T>,
+        row: u32,
+    )
+        requires same { Q.heap queue.now ≡ heap.now }
+        requires table { IsOf heap.now hand.old }
+        requires alive { hand.old.view.actor.status ≢ Gone }
+        requires duty { GivesUpNext row hand.old.view.actor.agenda }
+        ensures kept { KeepsButView hand.old hand.new }
+        ensures work { HasWorked hand.old.view [] (behind hand.old.view.actor.agenda) hand.new.view }
+    {
+        Finaliser::new(heap, queue).give_up(rt, hand, row);
     }
 
     /// Does the next duties, behind which others may come: puts the object into its owner's queue. If the owner no

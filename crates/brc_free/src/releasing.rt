@@ -14,6 +14,7 @@ impl<'h, T: Drop, Q: Marker<T>> Finaliser<'h, T, Q> {
     /// dying chain: `settle` finalises it.
     ///
     /// The hand keeps a reference to the object that it has locked.
+    #[inline(always)]
     pub fn release<R: Wait>(&self, rt: &R, hand: &mut Hand<T>, row: u32)
         requires table { IsOf self.now hand.old }
         requires running { IsRunning hand.old.view }

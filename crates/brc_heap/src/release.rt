@@ -32,6 +32,7 @@ impl<T: Drop> Heap<T> {
     ///
     /// The hand keeps a reference to the object that it has locked. `Zero` and `Share` leave a duty with the hand: to
     /// decide by `zero_step`, or to go on by `try_release_shared`.
+    #[inline(always)]
     pub fn release_local(&self, hand: &mut Hand<T>, row: u32) -> LocalRelease
         requires table { IsOf self.now hand.old }
         requires running { IsRunning hand.old.view }

@@ -26,9 +26,9 @@ returns-in-Dying-clause-work g c =
 
 pub returns-in-Merge-clause-work : goal.returns-in-Merge-clause-work
 returns-in-Merge-clause-work g c =
-    subst (λ (ds : List Duty). HasWorked c.args.hand.now.view [] ds c.merge.new.hand.view)
+    subst (λ (ds : List Duty). HasWorked c.args.hand.now.view [] ds c.merge_at_zero.new.hand.view)
     (sym (ap behind c.requires.duty.next))
     (worked_call _ _ _ [] (MergeSwap c.args.row Own ∷ c.requires.duty.rest) merge_left
     (subst (λ (z : ZeroStep). HasWorked c.args.hand.now.view [] (zero_left c.args.row z ++ c.requires.duty.rest)
     c.decide.new.hand.view) c.in-Merge.is (decided g (goal.at.returns-in-Merge-clause-work g c).After-decide))
-    (plain_first _ (MergeSwap c.args.row Own) _ refl) c.merge.ensures.work)
+    (plain_first _ (MergeSwap c.args.row Own) _ refl) c.merge_at_zero.ensures.work)

@@ -43,8 +43,8 @@ returns-in-Zero-clause-work g c = λ rest next.
     (ap behind (zero_next c.args.hand.now.view c.args.row c.args.release rest c.in-Zero.is next))
     c.decide_at_zero.ensures.work
 
-pub give_up-requires-clause-duty : goal.give_up-requires-clause-duty
-give_up-requires-clause-duty g c =
+pub give_up_as_other-requires-clause-duty : goal.give_up_as_other-requires-clause-duty
+give_up_as_other-requires-clause-duty g c =
     let (rest, next) = c.requires.duty in
     record {
       reason = Own;
@@ -54,6 +54,6 @@ give_up-requires-clause-duty g c =
 
 pub returns-in-Share-clause-work : goal.returns-in-Share-clause-work
 returns-in-Share-clause-work g c = λ rest next.
-    subst (λ (ds : List Duty). HasWorked c.args.hand.now.view [] ds c.give_up.new.hand.view)
+    subst (λ (ds : List Duty). HasWorked c.args.hand.now.view [] ds c.give_up_as_other.new.hand.view)
     (ap behind (share_next c.args.hand.now.view c.args.row c.args.release rest c.in-Share.is next))
-    c.give_up.ensures.work
+    c.give_up_as_other.ensures.work
