@@ -1,7 +1,7 @@
 -- Rows by their indices, and how large they are.
-use Rattle.std.proofs.Common.{◌≡◌, ℕ, zero, suc, ◌+◌, ◌-◌, ◌*◌, ◌/◌, ◌^◌, ◌<◌, ◌≤◌, Bool, true, false, cond, inl, inr, refl, ap, arith}
+use Rattle.std.proofs.Common.{◌≡◌, ℕ, zero, suc, ◌+◌, ◌-◌, ◌*◌, ◌/◌, ◌^◌, ◌<◌, ◌≤◌, Bool, true, false, cond, refl, arith}
 use Rattle.std.specs.Prelude.{nat_le, nat_lt}
-use Rattle.std.proofs.lemmas.Bool.{cases_lt, and_parts, leb-true, ltb-true, lt-ltb, le-ltb}
+use Rattle.std.proofs.lemmas.Bool.{and_parts, leb-true, ltb-true}
 use Rattle.std.proofs.lemmas.Nat.{div_below, mul-le}
 use Rattle.brc_model.specs.declared.layout.Layout.{Layout}
 use Rattle.brc_model.specs.declared.duty.Duty.{Duty}
@@ -34,7 +34,8 @@ word_low : (layout : Layout) (t w : ℕ) → row_count layout ≤ total_limit �
     → w < mark_words_of layout t → w < 2 ^ 31
 word_low layout zero w few there low = omega (arith, few, low)
 word_low layout (suc t) w few there low =
-    let rows : suc t * layout.rows ≤ layout.workers * layout.rows = mul-le (suc t) layout.rows layout.workers layout.rows there (omega arith) in
+    let rows : suc t * layout.rows ≤ layout.workers * layout.rows =
+        mul-le (suc t) layout.rows layout.workers layout.rows there (omega arith) in
     omega (arith, few, low, rows)
 
 -- The index that a duty names is small, if its word exists and suits the duty.

@@ -1,6 +1,6 @@
 -- A division by a multiplication: the quotient is what a product with the reciprocal, rounded up, has above its lowest
 -- 40 bits.
-use Rattle.std.proofs.Common.{◌≡◌, ℕ, ◌+◌, ◌-◌, ◌*◌, ◌/◌, ◌%◌, ◌^◌, ◌<◌, ◌≤◌, arith}
+use Rattle.std.proofs.Common.{◌≡◌, ℕ, ◌+◌, ◌*◌, ◌/◌, ◌^◌, ◌<◌, ◌≤◌, arith}
 use Rattle.std.proofs.lemmas.Nat.{mul-le, div_below, le-div, mod_below}
 
 -- `d` is the divisor, `a` the quotient, and `q` the reciprocal, rounded down.

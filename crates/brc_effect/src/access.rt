@@ -14,9 +14,7 @@ ghost use Rattle.brc_effect.specs.Effects.{IsIndexed};
 use crate::blocks::Blocks;
 use brc_model::Duty;
 use brc_word::values::{EMPTY, FREE, FULL, GONE, LEAVING, NOBODY, ONE_REFERENCE, RUNNING};
-use brc_word::{
-    closed, dying, local_word, locked, mark_mask, merged, other_marks, released,
-};
+use brc_word::{closed, dying, local_word, locked, mark_mask, merged, other_marks, released};
 
 /// One atomic operation on one word.
 #[derive(Clone, Copy, Debug)]

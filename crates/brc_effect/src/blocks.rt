@@ -120,6 +120,10 @@ impl Blocks {
         requires low { marks_of_word * word + lowest_mark marks < 2 ^ 31 }
         ensures { result ≡ found_row self number word marks }
     {
-        row_at(self.layout, number, MARKS_OF_WORD * word + lowest_mark(marks))
+        row_at(
+            self.layout,
+            number,
+            MARKS_OF_WORD * word + lowest_mark(marks),
+        )
     }
 }

@@ -144,7 +144,6 @@ impl Doer {
             change: Change::Nothing,
         }
     }
-
 }
 
 #[inline(always)]

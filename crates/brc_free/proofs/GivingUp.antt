@@ -11,7 +11,7 @@ use Rattle.brc_effect.specs.declared.outcomes.SharedRelease.{SharedRelease}
 use Rattle.brc_effect.specs.declared.outcomes.SharedRelease.TheVariants as shared
 use Rattle.brc_effect.specs.declared.outcomes.Looked.{Looked}
 use Rattle.brc_heap.specs.Calls.{Leaves, local_left, shared_left}
-use Rattle.brc_heap.specs.Marks.{look_answer, look_left, posted}
+use Rattle.brc_heap.specs.Marks.{mark_found, look_answer, look_left, posted}
 use Rattle.brc_heap.specs.Steps.{Keeps, HasStepped}
 use Rattle.brc_heap.proofs.Keeping.{keeps_then}
 use Rattle.brc_heap.proofs.Stepping.{plain_first}
@@ -34,14 +34,15 @@ given_up {v} {u} {rest} x r answer at (inr is) =
     subst (λ (s : SharedRelease). HasWorked v [] (shared_left x r s ++ rest) u) is at
 
 -- The object is in its owner's queue, and the hand has looked after it.
-pub has_posted : {v u w : View} {x : ℕ} {rest : List Duty} (answer : Looked) (said found : ℕ)
-    → HasWorked v [] (SetMark x ∷ rest) u → answer ≡ look_answer said found → w ≡ posted u said found
+pub has_posted : {v u w : View} {x : ℕ} {rest : List Duty} (answer : Looked) (before said found : ℕ)
+    → HasWorked v [] (SetMark x ∷ rest) u → answer ≡ look_answer said (mark_found u x found)
+    → w ≡ posted u before said found
     → HasWorked v [] (look_left x answer ++ rest) w
-has_posted {v} {u} {w} {x} {rest} answer said found at is view =
+has_posted {v} {u} {w} {x} {rest} answer before said found at is view =
     worked_more at (worked_by
     (subst (λ (a : Looked). HasStepped u (look_left x a ++ rest) w) (sym is)
-    (subst (HasStepped u (look_left x (look_answer said found) ++ rest)) (sym view)
-    (posted_stepped said found (at.agenda ∙ plain_first u.actor.head (SetMark x) rest refl)))))
+    (subst (HasStepped u (look_left x (look_answer said (mark_found u x found)) ++ rest)) (sym view)
+    (posted_stepped before said found (at.agenda ∙ plain_first u.actor.head (SetMark x) rest refl)))))
 
 -- A release has ended.
 pub released : {x : ℕ} {left : List Duty} {v u w : View} → Leaves x left v u

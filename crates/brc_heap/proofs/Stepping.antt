@@ -4,7 +4,7 @@ use Rattle.std.specs.Prelude.{◌==◌, if◌then◌else◌}
 use Rattle.std.proofs.lemmas.Bool.{eq-eqb, ne_eqb}
 use Rattle.brc_word.specs.Words.{free_word}
 use Rattle.brc_model.specs.declared.duty.Duty.{Duty}
-use Rattle.brc_model.specs.declared.duty.Duty.TheVariants.{Die, Settle, TakeSlot, Scan}
+use Rattle.brc_model.specs.declared.duty.Duty.TheVariants.{Die, Settle, TakeSlot, Scan, TakeFound}
 use Rattle.brc_model.specs.Duties.{ready, continuation, new_head}
 use Rattle.brc_model.specs.Machine.{is_running, status_by, used_by}
 use Rattle.brc_model.specs.OpenWork.{is_about, is_finalising, finalised, may_wait}
@@ -39,6 +39,7 @@ gate_apart v u x apart same y is =
 pub plain_first : (head : ℕ) (d : Duty) (rest : List Duty) → is_plain d ≡ true → ready head (d ∷ rest) ≡ d ∷ rest
 plain_first head Settle rest is = absurd cc
 plain_first head (Scan i n) rest is = absurd cc
+plain_first head (TakeFound w n) rest is = absurd cc
 plain_first zero _ rest is = refl
 plain_first (suc head) _ rest is = refl
 

@@ -4,7 +4,7 @@ ghost use Rattle.std.specs.Prelude.{◌≡◌, ◌≢◌, ℕ};
 ghost use Rattle.brc_model.specs.declared.actor.Status.TheVariants.{Gone};
 ghost use Rattle.brc_table.specs.Hands.{TableState, IsOf, KeepsButView};
 ghost use Rattle.brc_heap.specs.Tries.{MarksNext};
-ghost use Rattle.brc_heap.specs.Marks.{posted, look_answer};
+ghost use Rattle.brc_heap.specs.Marks.{posted, look_answer, mark_found};
 
 use brc_effect::outcomes::Looked;
 use brc_table::Hand;
@@ -24,6 +24,7 @@ pub trait Marker<T> {
         requires alive { hand.old.view.actor.status ≢ Gone }
         requires duty { MarksNext row hand.old.view.actor.agenda }
         ensures kept { KeepsButView hand.old hand.new }
-        ensures events { (said : ℕ) × (found : ℕ) × (result ≡ look_answer said found)
-            × (hand.new.view ≡ posted hand.old.view said found) };
+        ensures events { (before : ℕ) × (said : ℕ) × (found : ℕ)
+            × (result ≡ look_answer said (mark_found hand.old.view row found))
+            × (hand.new.view ≡ posted hand.old.view before said found) };
 }

@@ -21,7 +21,8 @@ use Rattle.brc_model.specs.CountingLaws.{ComesNext}
 -- Each mark that is set is watched: the thread of its block runs, or its exit will scan the mark, or some thread will
 -- look at it.
 abbrev pub QueuedMarksAreWatched : Type 0
-QueuedMarksAreWatched = (p : Accounts) (n : ℕ) (m : Machine) (x : ℕ) → Counts p n m → mark_of m.layout m.memory x ≢ UNSET
+QueuedMarksAreWatched = (p : Accounts) (n : ℕ) (m : Machine) (x : ℕ) → Counts p n m
+    → mark_of m.layout m.memory x ≢ UNSET
     → IsWatched m x
 
 -- The thread has locked the row's object, and the object's gate names the thread.

@@ -1,7 +1,7 @@
 -- The step machine: the counting machine, with functions and places on top. At an event one thread does the first duty
 -- of its agenda, or dispatches its next instruction.
 use Rattle.std.specs.Prelude.{ℕ, zero, suc, ◌+◌, ◌*◌, Bool, true, false, if◌then◌else◌, nat_le, nat_lt, List, [], ◌∷◌, length, map, Option, None, Some, fold, slice_get, slice_set}
-use Rattle.brc_word.specs.declared.values.TheConstants.{NOT_STARTED, RUNNING, UNSET, EMPTY, FREE, NONE, LIST}
+use Rattle.brc_word.specs.declared.values.TheConstants.{NOT_STARTED, RUNNING, EMPTY, FREE, NONE, LIST}
 use Rattle.brc_lang.specs.declared.kind.Kind.{Kind}
 use Rattle.brc_lang.specs.declared.kind.Kind.TheVariants as kinds
 use Rattle.brc_lang.specs.declared.module.Function.{Function}

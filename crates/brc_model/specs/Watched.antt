@@ -28,8 +28,8 @@ scans_over i (Scan w n) = nat_le w (i / marks_of_word) && nat_lt i (marks_of_wor
 scans_over i (TakeFound w marks) = is_found i w marks
 scans_over i _ = false
 
--- the thread of the row's block runs; or it is exiting, and hasn't loaded the word of the row's mark yet, or has found the
--- mark there and hasn't taken it yet; or some thread will look
+-- the thread of the row's block runs; or it is exiting, and hasn't loaded the word of the row's mark yet, or has found
+-- the mark there and hasn't taken it yet; or some thread will look
 pub data IsWatched (m : Machine) (x : ℕ) : Type 0 where
   ByRunning : Runs m (block_of m.layout x) → IsWatched m x
   ByExit : (a : Actor) → slice_get m.actors (block_of m.layout x) ≡ Some a → a.status ≡ Leaving

@@ -1,5 +1,5 @@
 -- What a step can rely on: its word is there, and the values that it finds and leaves are a header's, below all bounds.
-use Rattle.std.specs.Prelude.{◌≡◌, ◌≢◌, ◌⊎◌, ℕ, ◌+◌, ◌*◌, ◌<◌, ◌≤◌, Bool, true, List, length}
+use Rattle.std.specs.Prelude.{◌≡◌, ◌≢◌, ◌⊎◌, ℕ, ◌+◌, ◌*◌, ◌<◌, ◌≤◌, Bool, true, List}
 use Rattle.brc_word.specs.declared.values.TheConstants.{EMPTY, FULL}
 use Rattle.brc_word.specs.Words.{half, most_local, owner_part, local_part, biased_part, phase_part, bias, marks_of_word, lowest_mark}
 use Rattle.brc_model.specs.declared.thread.Choice.{Choice}

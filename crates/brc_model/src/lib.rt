@@ -64,8 +64,8 @@ pub use state::{Exit, State, VarState};
 pub use thread::{Call, Choice};
 pub use work_laws::{
     births_begin, cell_loads_begin, claims_begin, exits_begin, immortals_are_free, kinds_are_asked,
-    locks_begin, mark_loads_begin, releases_begin, retains_begin, settles_begin, unlocks_begin, work_is_put_aside,
-    work_is_taken_back,
+    locks_begin, mark_loads_begin, releases_begin, retains_begin, settles_begin, unlocks_begin,
+    work_is_put_aside, work_is_taken_back,
 };
 pub use world_laws::{
     steps_are_within, steps_move, stops_give_up_what_is_owned, threads_make_their_traces,

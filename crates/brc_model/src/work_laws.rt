@@ -62,8 +62,8 @@ pub fn claims_begin()
     ensures { ClaimsBegin }
 {}
 
-/// States that the invariant holds after a ready thread that has put nothing aside begins to load a mark word of its own
-/// block.
+/// States that the invariant holds after a ready thread that has put nothing aside begins to load a mark word of its
+/// own block.
 pub fn mark_loads_begin()
     ensures { MarkLoadsBegin }
 {}

@@ -4,9 +4,9 @@ use Rattle.brc_table.specs.declared.view.View.{View}
 use Rattle.brc_table.specs.Views.{view_after, turned}
 use Rattle.brc_heap.specs.Marks.{looked_after}
 
--- the hand has set the object's mark
-abbrev pub marked : View → ℕ → View
-marked v x = view_after (turned v x) 0
+-- the hand has set the object's mark, in this mark word
+abbrev pub marked : View → ℕ → ℕ → View
+marked v x found = view_after (turned v x) found
 
 -- the hand has loaded the word of the thread of the object's block, and taken the mark back unless that thread runs
 abbrev pub looked : View → ℕ → ℕ → ℕ → View

@@ -1,42 +1,62 @@
 -- What a hand does that looks through its own queue, and what it does as it leaves.
-use Rattle.std.specs.Prelude.{◌≡◌, ℕ, suc, ◌+◌, ◌-◌, List, [], ◌∷◌, ◌++◌}
+use Rattle.std.specs.Prelude.{◌≡◌, ℕ, ◌+◌, ◌-◌, ◌*◌, ◌/◌, ◌<◌, List, [], ◌∷◌, ◌++◌}
 use Rattle.brc_host.specs.HostCalls.{HostCall}
+use Rattle.brc_word.specs.Words.{marks_of_word, unmarked_word, lowest_mark, first_marks}
 use Rattle.brc_model.specs.declared.duty.Duty.{Duty}
-use Rattle.brc_model.specs.declared.duty.Duty.TheVariants.{Scan, Finish}
-use Rattle.brc_model.specs.Layout.{root_row, row_at}
-use Rattle.brc_model.specs.Duties.{ready}
+use Rattle.brc_model.specs.declared.duty.Duty.TheVariants.{Scan, TakeFound, Finish}
+use Rattle.brc_model.specs.Layout.{root_row}
+use Rattle.brc_model.specs.Duties.{found_row, ready}
 use Rattle.brc_table.specs.declared.view.View.{View}
-use Rattle.brc_table.specs.Views.{view_after, claiming, leaving}
+use Rattle.brc_table.specs.Views.{view_after, claiming, loading_marks, leaving}
 use Rattle.brc_heap.specs.Calls.{released_locally}
 use Rattle.brc_free.specs.Works.{HasWorked, to_settle}
 
--- The hand has taken the mark of the row at index i of its block. Where the mark was set, it has merged the object,
--- given up the reference that was handed over with it, and settled, with these closes of the host.
-pub record Claims (i : ℕ) (closes : List HostCall) (v w : View) : Type 0 where
+-- the number of mark words that have marks of the first rows of a block
+abbrev pub words_used : ℕ → ℕ
+words_used rows = (rows + (marks_of_word - 1)) / marks_of_word
+
+-- ---- a running hand
+
+-- The hand has taken the mark of the row. Where the mark was set, it has merged the object, given up the reference that
+-- was handed over with it, and settled, with these closes of the host.
+pub record Claims (x : ℕ) (closes : List HostCall) (v w : View) : Type 0 where
   pub found : ℕ
-  pub follows : HasWorked (view_after (claiming v (row_at v.layout v.thread i)) found) closes [] w
+  pub follows : HasWorked (view_after (claiming v x) found) closes [] w
   pub settled : w.actor.head ≡ 0
 
--- The hand has taken the marks of the first rows of its block, by rising number, with these closes of the host.
+-- Of the marks that the hand has found in its mark word, it has claimed all but those that are left, the lowest first,
+-- with these closes of the host. A claim may find that the mark is taken by then.
+pub data ClaimsFound (word marks : ℕ) (v : View) : ℕ → List HostCall → View → Type 0 where
+  Refl : ClaimsFound word marks v marks [] v
+  Next : (left : ℕ) (closes more : List HostCall) (u w : View) → ClaimsFound word marks v left closes u → 0 < left
+      → Claims (found_row u.layout u.thread word left) more u w
+      → ClaimsFound word marks v (unmarked_word left (lowest_mark left)) (closes ++ more) w
+
+-- The hand has loaded its mark word, and claimed the marks of used rows that it has found there.
+pub record LooksAt (word : ℕ) (closes : List HostCall) (v w : View) : Type 0 where
+  pub found : ℕ
+  pub claims : ClaimsFound word (first_marks found (v.actor.used - marks_of_word * word))
+      (view_after (loading_marks v word) found) 0 closes w
+
+-- The hand has looked at the first mark words of its block, by rising number, with these closes of the host.
 pub data HasScanned (v : View) : ℕ → List HostCall → View → Type 0 where
   Refl : HasScanned v 0 [] v
-  Next : (i : ℕ) (closes more : List HostCall) (u w : View) → HasScanned v i closes u → Claims i more u w
-      → HasScanned v (i + 1) (closes ++ more) w
+  Next : (word : ℕ) (closes more : List HostCall) (u w : View) → HasScanned v word closes u → LooksAt word more u w
+      → HasScanned v (word + 1) (closes ++ more) w
 
--- To scan the marks of all used rows, and then to say that the thread is gone, is what comes next.
+-- ---- a hand that leaves
+
+-- To scan the marks of all used rows from this mark word on, and then to say that the thread is gone.
+abbrev pub scans_from : ℕ → ℕ → List Duty
+scans_from used word = Scan word (used - marks_of_word * word) ∷ Finish ∷ []
+
+-- The same is what comes next, and nothing has been scanned yet.
 abbrev pub ScansNext : View → Type 0
 ScansNext v = v.actor.agenda ≡ ready v.actor.head (Scan 0 v.actor.used ∷ Finish ∷ [])
 
--- The first duty is to scan the mark of the thread's row with index i, and n more behind it.
-pub record ScanNext (i : ℕ) (ds : List Duty) : Type 0 where
-  pub more : ℕ
-  pub rest : List Duty
-  pub next : ds ≡ Scan i (suc more) ∷ rest
-
--- what is left of these duties once the row is scanned
-abbrev pub scan_left : List Duty → List Duty
-scan_left (Scan i n ∷ rest) = Scan (i + 1) (n - 1) ∷ rest
-scan_left _ = []
+-- To take these marks that were found in a mark word is what comes next, and then to scan the words behind it.
+abbrev pub takes_from : ℕ → ℕ → ℕ → List Duty
+takes_from used word marks = TakeFound word marks ∷ scans_from used (word + 1)
 
 -- The hand has left: it has given up the reference to the root; then settled, in no step if its chain was empty; said
 -- that it leaves; scanned the marks of its rows, each mark that was set followed by the merge, the release and the

@@ -8,7 +8,7 @@ ghost use Rattle.brc_table.specs.Views.{view_after, work_about};
 ghost use Rattle.brc_table.specs.Hands.{IsOf, KeepsButView};
 ghost use Rattle.brc_table.specs.Calls.{CanAct};
 ghost use Rattle.brc_heap.specs.Calls.{Leaves};
-ghost use Rattle.brc_heap.specs.Marks.{look_answer, look_left, looked_after};
+ghost use Rattle.brc_heap.specs.Marks.{look_answer, look_left, looked_after, mark_found};
 ghost use Rattle.brc_heap.specs.Steps.{HasStepped};
 ghost use Rattle.brc_heap.specs.Tries.{MarksNext, LooksNext};
 ghost use Rattle.brc_queue.specs.Calls.{marked, looked};
@@ -49,7 +49,7 @@ impl<'h, T: Drop> Queue<'h, T> {
         ensures table { IsOf self.now hand.new }
         ensures carried { hand.new.carried ≡ hand.old.carried }
         ensures slots { hand.new.slots ≡ hand.old.slots }
-        ensures events { hand.new.view ≡ marked hand.old.view row }
+        ensures events { (found : ℕ) × (hand.new.view ≡ marked hand.old.view row found) }
         ensures left { Leaves row (Look row ∷ []) hand.old.view hand.new.view }
         ensures references { hand.new.view.references ≡ hand.old.view.references }
     {
@@ -63,14 +63,15 @@ impl<'h, T: Drop> Queue<'h, T> {
         requires may { MayGoOn work hand.old.view }
         requires duty { MarksNext row (turned_to work hand.old.view row).actor.agenda }
         ensures kept { KeepsButView hand.old hand.new }
-        ensures events { hand.new.view ≡ view_after (turned_to work hand.old.view row) 0 }
+        ensures events { (found : ℕ) × (hand.new.view ≡ view_after (turned_to work hand.old.view row) found) }
         ensures left { (rest : List Duty) → (turned_to work hand.old.view row).actor.agenda ≡ SetMark row ∷ rest
             → HasStepped (turned_to work hand.old.view row) (Look row ∷ rest) hand.new.view }
     {
         let words = self.heap.words();
         // `Marked` (PEP 703, Biased Reference Counting: the object is added to its owner's queue): the mark is set
         // before the look, because an owner that leaves in between may have scanned the mark by then
-        // (`post_without_look`).
+        // (`post_without_look`). An or, because other marks of the word are set and taken at the same time
+        // (`mark_overwrites_the_word`).
         words.go_on(hand, work, Duty::SetMark { row });
     }
 
@@ -84,7 +85,8 @@ impl<'h, T: Drop> Queue<'h, T> {
         ensures table { IsOf self.now hand.new }
         ensures carried { hand.new.carried ≡ hand.old.carried }
         ensures slots { hand.new.slots ≡ hand.old.slots }
-        ensures events { (said : ℕ) × (found : ℕ) × (result ≡ look_answer said found)
+        ensures events { (said : ℕ) × (found : ℕ)
+            × (result ≡ look_answer said (mark_found hand.old.view row found))
             × (hand.new.view ≡ looked hand.old.view row said found) }
         ensures left { Leaves row (look_left row result) hand.old.view hand.new.view }
         ensures references { hand.new.view.references ≡ hand.old.view.references }
@@ -99,7 +101,8 @@ impl<'h, T: Drop> Queue<'h, T> {
         requires may { MayGoOn work hand.old.view }
         requires duty { LooksNext row (turned_to work hand.old.view row).actor.agenda }
         ensures kept { KeepsButView hand.old hand.new }
-        ensures events { (said : ℕ) × (found : ℕ) × (result ≡ look_answer said found)
+        ensures events { (said : ℕ) × (found : ℕ)
+            × (result ≡ look_answer said (mark_found hand.old.view row found))
             × (hand.new.view ≡ looked_after (turned_to work hand.old.view row) said found) }
         ensures left { (rest : List Duty) → (turned_to work hand.old.view row).actor.agenda ≡ Look row ∷ rest
             → HasStepped (turned_to work hand.old.view row) (look_left row result ++ rest) hand.new.view }
@@ -111,10 +114,10 @@ impl<'h, T: Drop> Queue<'h, T> {
         if runs(said) {
             return Looked::Left;
         }
-        // `MarkTakenBack`, `MarkGone`: a swap, because the owner's exit may take the mark at the same time, and only
-        // one may merge the object.
+        // `MarkTakenBack`, `MarkGone`: an and, because the owner's exit may take the mark at the same time, and only
+        // one may merge the object (`post_clears_the_word`).
         let found = words.step(hand, Duty::TakeMark { row });
-        taken(found)
+        taken(words.mark(row, found))
     }
 
     /// Puts an object into its owner's queue and looks after it: `mark`, and then `look`.
@@ -125,8 +128,9 @@ impl<'h, T: Drop> Queue<'h, T> {
         ensures table { IsOf self.now hand.new }
         ensures carried { hand.new.carried ≡ hand.old.carried }
         ensures slots { hand.new.slots ≡ hand.old.slots }
-        ensures events { (said : ℕ) × (found : ℕ) × (result ≡ look_answer said found)
-            × (hand.new.view ≡ looked (marked hand.old.view row) row said found) }
+        ensures events { (before : ℕ) × (said : ℕ) × (found : ℕ)
+            × (result ≡ look_answer said (mark_found hand.old.view row found))
+            × (hand.new.view ≡ looked (marked hand.old.view row before) row said found) }
         ensures left { Leaves row (look_left row result) hand.old.view hand.new.view }
         ensures references { hand.new.view.references ≡ hand.old.view.references }
     {

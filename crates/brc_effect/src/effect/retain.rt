@@ -7,7 +7,7 @@ ghost use Rattle.brc_model.specs.declared.duty.Holding.{Holding};
 ghost use Rattle.brc_model.specs.Within.{IsShared};
 ghost use Rattle.brc_effect.specs.Effects.{IsEffect};
 
-use super::{is_running, Doer, Effect, Next};
+use super::{Doer, Effect, Next, is_running};
 use brc_model::{Duty, Holding};
 use brc_word::{LocalChoice, retain_choice};
 

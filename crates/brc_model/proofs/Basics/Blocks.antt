@@ -1,7 +1,7 @@
 -- The rows of each thread's block: where they are, which of them the thread has used, which are born, and which is born
 -- next. No other file depends on how the rows of a block are numbered.
 use Rattle.std.proofs.Common.{◌≡◌, ◌≢◌, ◌⊎◌, ℕ, zero, suc, ◌+◌, ◌-◌, ◌*◌, ◌<◌, ◌≤◌, Bool, true, false, cond, Some, get_or, refl, sym, ap, ◌∙◌, subst, arith, inl, inr}
-use Rattle.std.specs.Prelude.{◌/◌, ◌&&◌, ◌||◌, ◌==◌, nat_le, nat_lt, slice_get}
+use Rattle.std.specs.Prelude.{◌/◌, ◌&&◌, ◌==◌, nat_le, nat_lt, slice_get}
 use Rattle.std.proofs.Math.Nat.{div-mul-le_self, lt-div-mul-add, div-lt_iff_lt-mul, mul-le-mul, mul-le-mul_right}
 use Rattle.std.proofs.lemmas.Nat.{div-mul-add}
 use Rattle.std.proofs.lemmas.Bool.{cases_Bool, cases_lt, and_parts, eqb-true, leb-true, ltb-true, lt-ltb, le-ltb, le-leb, false≢true}

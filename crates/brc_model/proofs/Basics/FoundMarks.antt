@@ -1,11 +1,12 @@
--- The marks that a thread's exit finds in a mark word: they are of rows that the thread has used, and they stay so while
--- the exit takes one after another.
-use Rattle.std.proofs.Common.{◌≡◌, ◌≢◌, ℕ, ◌+◌, ◌-◌, ◌*◌, ◌/◌, ◌%◌, ◌^◌, ◌<◌, ◌≤◌, min, Bool, true, false, refl, sym, ap, ◌∙◌, subst, arith, inl, inr}
+-- The marks that a thread's exit finds in a mark word: they are of rows that the thread has used, and they stay so
+-- while the exit takes one after another.
+use Rattle.std.proofs.Common.{◌≡◌, ◌≢◌, ℕ, ◌+◌, ◌-◌, ◌*◌, ◌/◌, ◌%◌, ◌^◌, ◌<◌, min, Bool, true, sym, ap, ◌∙◌, subst, arith, inl, inr}
 use Rattle.std.specs.Prelude.{◌==◌, ◌&&◌, bit_and}
 use Rattle.std.specs.Int.{w64}
 use Rattle.std.proofs.lemmas.Bool.{eqb-true, eq-eqb, and_parts, cases_lt}
 use Rattle.std.proofs.lemmas.Nat.{pow_pos, pow_below, mod_below, and_le_l, xor_lt}
-use Rattle.std.proofs.lemmas.Nat.Bits.{bit_at-trailing_zeros, bit_at_above, bit_at_cat_low}
+use Rattle.std.proofs.lemmas.Nat.Bits.{bit_at-trailing_zeros, bit_at_above, bit_at_cat_low, and_pow}
+use lib.Bits.{xor_add_and}
 use Rattle.brc_word.specs.Words.{marks_of_word, mark_at, unmarked_word, lowest_mark, first_marks}
 use Rattle.brc_model.specs.Knowledge.{AreUsedMarks}
 use Rattle.brc_model.specs.OpenWork.{is_found}
@@ -49,6 +50,15 @@ taken_used marks used w are =
     let k = lowest_mark marks in
     xor_lt (min (used - marks_of_word * w) marks_of_word) marks (bit_and marks (2 ^ k)) are
     (omega (arith, and_le_l marks (2 ^ k), are))
+
+-- Fewer marks are left once the lowest is taken.
+pub fewer_left : (marks : ℕ) → 0 < marks → marks < 2 ^ 64 → unmarked_word marks (lowest_mark marks) < marks
+fewer_left marks some fits =
+    let k = lowest_mark marks in
+    let bit : bit_and marks (2 ^ k) ≡ 2 ^ k =
+    and_pow marks k ∙ ap (λ (b : ℕ). b * 2 ^ k) (lowest_set marks some fits) ∙ omega arith in
+    let both : bit_and marks (bit_and marks (2 ^ k)) ≡ 2 ^ k = ap (bit_and marks) bit ∙ bit in
+    omega (arith, xor_add_and marks (bit_and marks (2 ^ k)), bit, both, pow_pos k)
 
 -- ---- which marks are found
 

@@ -1,9 +1,8 @@
 -- Where a row's mark is: in a bit of a mark word, which no other row has. A step that changes one bit of a mark word
 -- leaves the marks of all other rows as they are.
-use Rattle.std.proofs.Common.{◌≡◌, ◌≢◌, ℕ, ◌+◌, ◌-◌, ◌*◌, ◌/◌, ◌%◌, ◌^◌, ◌<◌, ◌≤◌, Bool, true, false, cond, refl, sym, ap, ◌∙◌, subst, arith, inl, inr}
-use Rattle.std.specs.Prelude.{◌==◌, bit_and, bit_xor}
-use Rattle.std.proofs.lemmas.Bool.{eqb-true, and_parts, cases_Bool}
-use Rattle.std.proofs.lemmas.Bool.Decides.{eqb_tells}
+use Rattle.std.proofs.Common.{◌≡◌, ◌≢◌, ℕ, ◌+◌, ◌*◌, ◌^◌, ◌<◌, refl, sym, ap, ◌∙◌, arith, inl, inr}
+use Rattle.std.specs.Prelude.{bit_and, bit_xor}
+use Rattle.std.proofs.lemmas.Bool.{cases_Bool}
 use Rattle.std.proofs.lemmas.Nat.Bits.{bit_at-lt, bit_at_and, bit_at_or, bit_at_xor, bit_at-pow_same, bit_at-pow_other, bit_at-zero, and_pow, same_from_bits}
 use Rattle.brc_word.specs.Words.{marks_of_word, mark_at, marked_word, unmarked_word}
 use Rattle.brc_model.specs.declared.address.Address.{Address}
@@ -11,7 +10,7 @@ use Rattle.brc_model.specs.declared.address.Address.TheVariants.{Marks}
 use Rattle.brc_model.specs.declared.layout.Layout.{Layout}
 use Rattle.brc_model.specs.Duties.{mark_place}
 use Rattle.brc_model.specs.Machine.{same_address, written, mark_of}
-use Rattle.brc_model.specs.Layout.{row_count, block_of, block_size, row_at, index_of, mark_words_of, mark_word, mark_bit}
+use Rattle.brc_model.specs.Layout.{row_count, block_of, row_at, index_of, mark_words_of, mark_word, mark_bit}
 use Rattle.brc_model.proofs.Basics.Blocks.{row_back, index_within}
 use Rattle.brc_model.proofs.Basics.Written.{written_here, written_apart, written_load, same_marks}
 
@@ -68,7 +67,8 @@ module _ (layout : Layout) where
   bit_low x = omega arith
 
   -- The word and the bit tell the row.
-  pub marks_row : (x : ℕ) → row_at layout (block_of layout x) (mark_word layout x * marks_of_word + mark_bit layout x) ≡ x
+  pub marks_row : (x : ℕ) → row_at layout (block_of layout x)
+      (mark_word layout x * marks_of_word + mark_bit layout x) ≡ x
   marks_row x =
       let index : mark_word layout x * marks_of_word + mark_bit layout x ≡ index_of layout (block_of layout x) x =
       omega arith in

@@ -30,7 +30,7 @@ use Rattle.brc_model.specs.Limits.{cell_limit}
 use Rattle.brc_model.specs.declared.layout.Layout.{Layout}
 use Rattle.std.proofs.lemmas.Bool.{cases_Bool}
 use Rattle.brc_word.specs.declared.values.TheConstants.{SET}
-use Rattle.brc_model.specs.Layout.{row_count, block_of, row_at, mark_bit, is_immortal_row}
+use Rattle.brc_model.specs.Layout.{row_count, block_of, mark_bit, is_immortal_row}
 
 -- ---- duties
 

@@ -82,7 +82,8 @@ module _ {p : Accounts} {n : ℕ} {m : Machine} {t : ℕ} {a : Actor} {rest : Li
   duty_there (TakeFound w marks) here alive small =
       let fits = agenda_here here alive in
       let low = lowest_used marks a.used w (head_of here) fits.1 in
-      mark_there (found_row m.layout t w marks) here (used_low t a (marks_of_word * w + lowest_mark marks) here.core here.found low)
+      mark_there (found_row m.layout t w marks) here (used_low t a
+          (marks_of_word * w + lowest_mark marks) here.core here.found low)
   duty_there (MarksLoad w) here alive small = (own_thread here, head_of here)
   duty_there Finish here alive small = own_thread here
   duty_there _ here alive small = small.row _ (eq-eqb _ _ refl)

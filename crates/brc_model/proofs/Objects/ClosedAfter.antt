@@ -1,5 +1,5 @@
 -- What the invariant says of lives and of closed rows holds after a step.
-use Rattle.std.proofs.Common.{◌≡◌, ◌≢◌, ℕ, ◌<◌, ◌≤◌, Bool, true, false, List, [], ◌∷◌, ◌++◌, ◌⊎◌, inl, inr, None, Some, refl, sym, ap, ◌∙◌, subst, arith}
+use Rattle.std.proofs.Common.{◌≡◌, ◌≢◌, ℕ, ◌<◌, ◌≤◌, Bool, true, false, List, [], ◌∷◌, ◌++◌, inl, inr, None, Some, refl, sym, ap, ◌∙◌, subst, arith}
 use Rattle.std.specs.Prelude.{◌==◌, ◌||◌, AllPairs}
 use Rattle.std.proofs.lemmas.Bool.{eqb-true, eq-eqb, ne_eqb}
 use Rattle.std.proofs.lemmas.List.{get_or_default}
@@ -27,7 +27,6 @@ live_not_closed e = cc
 
 pub unborn_not_closed : Unborn ≡ Closed → ⊥
 unborn_not_closed e = cc
-
 
 pub one_is : (x y : ℕ) → is_among x (y ∷ []) ≡ true → y ≡ x
 one_is x y e = elim (either_true (y == x) false e) [ inl same ↦ eqb-true y x same | inr wrong ↦ absurd cc ]

@@ -31,7 +31,7 @@ use Rattle.brc_model.proofs.Frame.Aside.{waits_of_row, carries_of_row, merges_of
 use Rattle.brc_model.proofs.Objects.RowsAfterStep.{found_by, following, KeepsRow, RowStays, row_stays}
 use Rattle.brc_model.specs.Invariant.{AtDuty}
 use Rattle.brc_model.specs.declared.layout.Layout.{Layout}
-use Rattle.brc_model.specs.Layout.{row_at, IsCounted}
+use Rattle.brc_model.specs.Layout.{IsCounted}
 
 -- The row that a duty is about, or 0 if it is about none. Taking a mark that was found is about the mark's row.
 abbrev pub subject : Layout → ℕ → Duty → ℕ

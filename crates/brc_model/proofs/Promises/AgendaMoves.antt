@@ -83,7 +83,8 @@ less_found w marks some fits e =
 moves : {layout : Layout} {t before found : ℕ} (head : ℕ) (d : Duty) (rest next : List Duty) → FindsMarks d
     → Continuation layout t before found d next → IsOther head d rest next
 moves head d rest next finds (GoesOn e leads) = others_follow head d rest next (leads.other, tt)
-moves head d rest next finds (Frees x i n y e some leads) = others_follow head d rest next ((λ e. cc), (leads.other, tt))
+moves head d rest next finds (Frees x i n y e some leads) =
+    others_follow head d rest next ((λ e. cc), (leads.other, tt))
 moves head d rest next finds (FreesOld x i y z h some) = others_follow head d rest next ((λ e. cc), tt)
 -- the settling comes again, behind another duty that isn't passed over
 moves {before = before} head d rest next finds SettlesRow = λ is.
@@ -92,7 +93,8 @@ moves {before = before} head d rest next finds SettlesRow = λ is.
 moves head d rest next finds (Claims x set) = others_follow head d rest next ((λ e. cc), ((λ e. cc), tt))
 moves head d rest next finds (ClaimsNone x) = others_follow head d rest next ((λ e. cc), tt)
 moves head d rest next finds (Exits i n) = others_follow head d rest next ((λ e. cc), ((λ e. cc), tt))
-moves head d rest next finds (Scans w n) = others_follow head d rest next ((λ e. cc), (next_word w (n - marks_of_word) n, tt))
+moves head d rest next finds (Scans w n) = others_follow head d rest next ((λ e. cc), (next_word w
+    (n - marks_of_word) n, tt))
 moves head d rest next finds (Takes w marks set) =
     others_follow head d rest next ((λ e. cc), ((λ e. cc), (less_found w marks finds.0 finds.1, tt)))
 moves head d rest next finds (TakesNone w marks) =

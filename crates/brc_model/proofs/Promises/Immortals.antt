@@ -197,7 +197,8 @@ immortals_shown n = record {
 
 module _ {p : Accounts} {n : ℕ} {m : Machine} where
   -- An immortal object's mark is never set.
-  immortal_mark : (x : ℕ) → CoreInvariant p n m → is_immortal_row m.layout x ≡ true → mark_of m.layout m.memory x ≡ UNSET
+  immortal_mark : (x : ℕ) → CoreInvariant p n m → is_immortal_row m.layout x ≡ true
+      → mark_of m.layout m.memory x ≡ UNSET
   immortal_mark x core immortal = elim (core.marks x) [
     | inl none ↦ none
     | inr set ↦ absurd (immortal_apart m.layout x x set.1 immortal refl)

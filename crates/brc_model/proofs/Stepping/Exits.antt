@@ -71,7 +71,8 @@ module _ {p : Accounts} {n : ℕ} {m : Machine} {t : ℕ} {a : Actor} {d : Duty}
   claim_step : (x : ℕ) (behind : List Duty) → AtDuty p n m t a d rest → NotGone a → is_steady d ≡ true
       → ClaimStep m t a d x rest behind → FitsAfter p m t a d rest
   claim_step x behind here alive steady step =
-      elim (mark_of m.layout m.memory x == SET) as (λ b. (mark_of m.layout m.memory x == SET) ≡ b → FitsAfter p m t a d rest) [
+      elim (mark_of m.layout m.memory x == SET) as (λ b. (mark_of m.layout m.memory x == SET) ≡ b
+          → FitsAfter p m t a d rest) [
         | true ↦ λ e.
             let marked : mark_of m.layout m.memory x ≡ SET = eqb-true (mark_of m.layout m.memory x) 1 e in
             let above = mark_above x here.core marked in
@@ -106,9 +107,11 @@ module _ {p : Accounts} {n : ℕ} {m : Machine} {t : ℕ} {a : Actor} {rest : Li
       let fits = agenda_here here alive in
       let marks = first_marks (found_by m t a (Scan w k)) k in
       let next : List Duty = TakeFound w marks ∷ Scan (w + 1) (k - marks_of_word) ∷ [] in
-      let later : Later a.used a.status (next ++ rest) =
-      (fits.0, found_used (found_by m t a (Scan w k)) a.used w k fits.1,
-      (fits.0, omega (arith, fits.1), fits.2)) in
+      let later : Later a.used a.status (next ++ rest) = (
+        fits.0,
+        found_used (found_by m t a (Scan w k)) a.used w k fits.1,
+        (fits.0, omega (arith, fits.1), fits.2),
+      ) in
       let ready_so = ready_is m.layout t a.used a.status a.head (next ++ rest) later in
       own_steady next (ready a.head (next ++ rest)) here alive refl (record {
         next_is = refl;

@@ -21,7 +21,7 @@ use Rattle.brc_model.proofs.Frame.Alive.{first_weighs, Alive, alive_born, alive_
 use Rattle.brc_model.proofs.Basics.Written.{written_here}
 use Rattle.brc_model.proofs.Frame.Leaves.{head_of, merge_alive}
 use Rattle.brc_model.proofs.Frame.Lives.{leaves_others}
-use Rattle.brc_model.proofs.Stepping.FitsAfter.{found_by, agenda_here, NotGone, FitsAfter}
+use Rattle.brc_model.proofs.Stepping.FitsAfter.{agenda_here, NotGone, FitsAfter}
 use Rattle.brc_model.proofs.Stepping.Counts.{held_same}
 use Rattle.brc_model.proofs.Stepping.Steps.{own_done, own_next, own_dying}
 use Rattle.brc_model.proofs.Work.MergesOnce.{swapped_apart}

@@ -3,9 +3,7 @@
 -- plain store. The rule of a store names the word stored and not the word found, and a step has both, so the word found
 -- has to follow from the invariant. `overwritten` shows that it does: a thread at a storing duty finds the word that
 -- `Overwrites` names.
-use Rattle.std.proofs.Common.{◌≡◌, ℕ, ◌<◌, ◌≤◌, Bool, true, List, [], ◌∷◌, refl, sym, ap, ◌∙◌, subst, arith, Option}
-use Rattle.std.specs.Prelude.{◌==◌}
-use Rattle.std.proofs.lemmas.Bool.{eq-eqb}
+use Rattle.std.proofs.Common.{◌≡◌, ℕ, ◌≤◌, Bool, true, List, [], ◌∷◌, refl, sym, ap, ◌∙◌, subst, arith, Option}
 use Rattle.brc_word.specs.declared.values.TheConstants.{NOBODY}
 use Rattle.brc_model.specs.declared.duty.Duty.{Duty}
 use Rattle.brc_model.specs.declared.duty.Duty.TheVariants.{RetainStore, ReleaseStore, Die, SettleEnd, Leave, Finish, BirthKind, BirthSlot, BirthLocal, UnlockGate, ReturnSlot}

@@ -22,7 +22,7 @@ use Rattle.brc_model.specs.Accounts.{Accounts}
 use Rattle.brc_model.specs.OpenWork.{Later, Agenda, is_found, scans}
 use Rattle.brc_model.specs.Invariant.{AtDuty, looks, IsWatched, ByRunning, ByExit, ByLook, CoreInvariant}
 use Rattle.brc_model.specs.Knowledge.{status_word}
-use Rattle.brc_model.proofs.Basics.Written.{written_apart, written_load}
+use Rattle.brc_model.proofs.Basics.Written.{written_load}
 use Rattle.brc_model.proofs.Basics.Marks.{loaded_marks, set_mark, set_elsewhere, taken_mark, taken_elsewhere}
 use Rattle.brc_model.proofs.Basics.FoundMarks.{first_bit, is_found_here, none_found, others_found}
 use Rattle.brc_model.proofs.Basics.Continuation.{is_inner, next_inner, first_inner, Continuation, Ends, GoesOn, Frees, Exits, Scans, Takes, TakesNone, continues}
@@ -57,7 +57,8 @@ scans_told x [] row = absurd row
 scans_told x (Leave j k ∷ rest) row = absurd row
 scans_told x (Scan w k ∷ rest) row = le-leb w (x / marks_of_word) row.0
 scans_told x (TakeFound w marks ∷ rest) (inl found) = ap (λ (b : Bool). b || scans x rest) found
-scans_told x (TakeFound w marks ∷ rest) (inr row) = or_second (is_found x w marks) (scans x rest) (scans_told x rest row)
+scans_told x (TakeFound w marks ∷ rest) (inr row) = or_second (is_found x w marks) (scans x rest)
+    (scans_told x rest row)
 scans_told x (_ ∷ rest) row = scans_told x rest row
 
 later_scans : (used : ℕ) (status : Status) (x : ℕ) (rest : List Duty)
@@ -283,7 +284,8 @@ module _ {p : Accounts} {n : ℕ} {m : Machine} {t : ℕ} {a : Actor} {d : Duty}
             (actor_by m.layout t a d rest (found_by m t a d)) other.1 ∙ found) e
       ]
 
-  watched_after : (x : ℕ) → AtDuty p n m t a d rest → NotGone a → mark_of m.layout m.memory x ≡ SET → Spares m.layout t d x
+  watched_after : (x : ℕ) → AtDuty p n m t a d rest → NotGone a → mark_of m.layout m.memory x ≡ SET
+      → Spares m.layout t d x
       → IsWatched m x → IsWatched (machine_by_duty m t a d rest) x
   watched_after x here alive marked spares (ByRunning runs) = running_after p n m t a d rest x here alive marked runs
   watched_after x here alive marked spares (ByExit b found e) = exit_after x b here alive marked spares found e
@@ -302,7 +304,8 @@ setting m y = written m.memory (mark_place m.layout y)
     (marked_word (m.memory (mark_place m.layout y)) (mark_bit m.layout y))
 
 abbrev pub MarkFits : Machine → ℕ → Type 0
-MarkFits m x = (mark_of m.layout m.memory x ≡ UNSET) ⊎ ((mark_of m.layout m.memory x ≡ SET) × (IsCounted m.layout x) × IsWatched m x)
+MarkFits m x = (mark_of m.layout m.memory x ≡ UNSET) ⊎ ((mark_of m.layout m.memory x ≡ SET)
+    × (IsCounted m.layout x) × IsWatched m x)
 
 module _ {p : Accounts} {n : ℕ} {m : Machine} {t : ℕ} {a : Actor} {d : Duty} {rest : List Duty} where
   mark_kept : (x : ℕ) → AtDuty p n m t a d rest → NotGone a → Spares m.layout t d x
@@ -324,7 +327,8 @@ module _ {p : Accounts} {n : ℕ} {m : Machine} {t : ℕ} {a : Actor} {d : Duty}
             ∙ ap (λ (z : ℕ). mark_of m.layout (taking m z) x) same.1 ∙ taken_mark m.layout m.memory x)
         | inr other ↦
             mark_kept x here alive (spares other.1)
-            (ap (λ (memory : Address → ℕ). mark_of m.layout memory x) now ∙ taken_elsewhere m.layout m.memory y x other.1)
+            (ap (λ (memory : Address → ℕ). mark_of m.layout memory x) now
+                ∙ taken_elsewhere m.layout m.memory y x other.1)
       ]
 
 module _ {p : Accounts} {n : ℕ} {m : Machine} {t : ℕ} {a : Actor} {rest : List Duty} where

@@ -68,10 +68,10 @@ post-requires-clause-duty g c =
 
 pub returns-in-Left-clause-work : goal.returns-in-Left-clause-work
 returns-in-Left-clause-work g c =
-    let (said, found, is, view) = c.post.ensures.events in
+    let (before, said, found, is, view) = c.post.ensures.events in
     subst (λ (a : Looked). HasWorked c.args.hand.now.view [] (look_left c.args.row a
     ++ behind c.args.hand.now.view.actor.agenda) c.post.new.hand.view) c.in-Left.is
-    (has_posted c.post.result said found
+    (has_posted c.post.result before said found
     (queued g (goal.at.returns-in-Left-clause-work g c).After-release_shared c.in-Queued.is) is view)
 
 -- The owner doesn't look there any more: the object is merged next.
@@ -81,10 +81,10 @@ claimed : (g : given.Over) (c : After-post g) → c.post.result ≡ looks.Claime
     → HasWorked c.args.hand.now.view [] (MergeSwap c.args.row Handed ∷ behind c.args.hand.now.view.actor.agenda)
     c.post.new.hand.view
 claimed g c claims at =
-    let (said, found, is, view) = c.post.ensures.events in
+    let (before, said, found, is, view) = c.post.ensures.events in
     subst (λ (a : Looked). HasWorked c.args.hand.now.view [] (look_left c.args.row a
     ++ behind c.args.hand.now.view.actor.agenda) c.post.new.hand.view) claims
-    (has_posted c.post.result said found at is view)
+    (has_posted c.post.result before said found at is view)
 
 pub merge-requires-clause-table : goal.merge-requires-clause-table
 merge-requires-clause-table g c =

@@ -20,12 +20,12 @@ looked : (g : given.Over) (c : After-post g) (answer : Looked) → c.post.result
     c.post.new.hand.view
 looked g c answer answers =
     let duty = c.requires.duty in
-    let (said, found, is, view) = c.post.ensures.events in
+    let (before, said, found, is, view) = c.post.ensures.events in
     let begun = subst (λ (ds : List Duty). HasWorked c.args.hand.now.view [] (SetMark c.args.row ∷ ds)
     c.args.hand.now.view) (sym (ap behind duty.next)) (worked_by (plain_begins duty.next refl)) in
     subst (λ (a : Looked). HasWorked c.args.hand.now.view [] (look_left c.args.row a
     ++ behind c.args.hand.now.view.actor.agenda) c.post.new.hand.view) answers
-    (has_posted c.post.result said found begun is view)
+    (has_posted c.post.result before said found begun is view)
 
 pub returns-in-Left-clause-work : goal.returns-in-Left-clause-work
 returns-in-Left-clause-work g c = looked g (goal.at.returns-in-Left-clause-work g c).After-post _ c.in-Left.is
