@@ -1,7 +1,8 @@
 -- The duties that the table's one step call does, and what comes next.
-use Rattle.std.specs.Prelude.{◌≡◌, ℕ, ◌+◌, ◌<◌, ◌^◌, List, [], ◌∷◌, unwrap_or}
+use Rattle.std.specs.Prelude.{◌≡◌, ℕ, ◌+◌, ◌*◌, ◌<◌, ◌^◌, List, [], ◌∷◌, unwrap_or}
+use Rattle.brc_word.specs.Words.{marks_of_word, lowest_mark}
 use Rattle.brc_model.specs.declared.duty.Duty.{Duty}
-use Rattle.brc_model.specs.declared.duty.Duty.TheVariants.{RetainLoad, RetainStore, RetainAdd, ReleaseLoad, SharedLoad, SharedExchange, MergeSwap, MergeLoad, MergeExchange, Die, Settle, SettleCell, TakeSlot, CloseResource, Leave, Scan, BirthKind, BirthSlot, BirthLocal, LockGate, CellLoad, CellSwap, LendSlot, ReturnSlot}
+use Rattle.brc_model.specs.declared.duty.Duty.TheVariants.{RetainLoad, RetainStore, RetainAdd, ReleaseLoad, SharedLoad, SharedExchange, MergeSwap, MergeLoad, MergeExchange, Die, Settle, SettleCell, TakeSlot, CloseResource, Leave, Scan, TakeFound, BirthKind, BirthSlot, BirthLocal, LockGate, CellLoad, CellSwap, LendSlot, ReturnSlot}
 use Rattle.brc_model.specs.declared.duty.Holding.TheVariants.{AsCaller}
 use Rattle.brc_model.specs.declared.duty.Reason.TheVariants.{Own}
 use Rattle.brc_model.specs.Duties.{duty_row}
@@ -31,9 +32,11 @@ abbrev pub HasChain : Duty → ℕ → Type 0
 HasChain Settle head = 0 < head
 HasChain _ head = Unit {0}
 
--- If the duty is about a row of the thread's block by the row's index, the thread has used the row.
+-- If the duty loads a mark word of an exit, the thread has used a row of that word. If it takes the lowest of the marks
+-- that were found, there is one, and the thread has used its row.
 abbrev pub HasUsedRow : Duty → ℕ → Type 0
-HasUsedRow (Scan i n) used = i < used
+HasUsedRow (Scan w n) used = marks_of_word * w < used
+HasUsedRow (TakeFound w marks) used = (0 < marks) × (marks_of_word * w + lowest_mark marks < used)
 HasUsedRow _ used = Unit {0}
 
 -- If the duty chains an object, the object's row plus 1 is a number of 32 bits.
@@ -66,8 +69,8 @@ bare (MergeSwap x r) = MergeSwap x Own
 bare (MergeLoad x c r) = MergeLoad x c Own
 bare (MergeExchange x c w r) = MergeExchange x c w Own
 bare (SettleCell x i n) = SettleCell x i 0
-bare (Leave i n) = Leave i 0
-bare (Scan i n) = Scan i 0
+bare (Leave w n) = Leave w 0
+bare (Scan w n) = Scan w 0
 bare (BirthKind x h w) = BirthKind x AsCaller w
 bare (BirthLocal x h) = BirthLocal x AsCaller
 bare d = d

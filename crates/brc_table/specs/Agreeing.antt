@@ -5,13 +5,14 @@ use Rattle.std.specs.Prelude.{◌≡◌, ◌⊎◌, ℕ, ◌+◌, ◌<◌, ◌�
 use Rattle.std.specs.List.{list_any}
 use mathlib.Core.Option.{some}
 use lib.ListN.{get_elem?}
-use Rattle.brc_word.specs.Words.{owner_part, local_part, biased_part, phase_part, bias, closed_word}
+use Rattle.brc_word.specs.Words.{owner_part, local_part, biased_part, phase_part, bias, mark_at, closed_word}
 use Rattle.brc_model.specs.declared.duty.Reason.TheVariants.{Own}
 use Rattle.brc_model.specs.declared.duty.Duty.{Duty}
 use Rattle.brc_model.specs.declared.duty.Duty.TheVariants.{RetainLoad, RetainStore, RetainAdd, ReleaseLoad, ReleaseStore, SharedLoad, SharedExchange, BirthKind, BirthSlot, BirthLocal, CellSwap}
-use Rattle.brc_model.specs.declared.address.Address.TheVariants.{Local, Shared, Mark, Cell}
+use Rattle.brc_model.specs.declared.address.Address.TheVariants.{Local, Shared, Cell}
 use Rattle.brc_model.specs.declared.layout.Layout.{Layout}
-use Rattle.brc_model.specs.Layout.{row_count, block_of}
+use Rattle.brc_model.specs.Layout.{row_count, block_of, mark_bit}
+use Rattle.brc_model.specs.Duties.{mark_place}
 use Rattle.brc_model.specs.Knowledge.{IsDyingWord}
 use Rattle.brc_model.specs.References.{word_holds}
 use Rattle.brc_model.specs.CountingLaws.{over_cells}
@@ -29,8 +30,9 @@ local_at words x = slice_index words (place (Local x))
 abbrev pub shared_at : List ℕ → ℕ → ℕ
 shared_at words x = slice_index words (place (Shared x))
 
-abbrev pub mark_at : List ℕ → ℕ → ℕ
-mark_at words x = slice_index words (place (Mark x))
+-- the row's mark: 1 if it is set, else 0
+abbrev pub row_mark : Layout → List ℕ → ℕ → ℕ
+row_mark layout words x = mark_at (slice_index words (place (mark_place layout x))) (mark_bit layout x)
 
 -- 0 default, 2 queued, 3 merged
 abbrev pub phase_at : List ℕ → ℕ → ℕ
@@ -78,15 +80,15 @@ in_cells layout words x =
     over_cells (λ y i. word_holds (slice_index words (place (Cell y i))) x) (row_count layout)
 
 -- the decrements that are pending: one if the mark is set, and those of the hands' work
-abbrev pub pending : List ℕ → List View → ℕ → ℕ
-pending words views x = mark_at words x + over_work (awaits x) views
+abbrev pub pending : Layout → List ℕ → List View → ℕ → ℕ
+pending layout words views x = row_mark layout words x + over_work (awaits x) views
 
 -- The object has a reference or a pending decrement. Then it lives: it is born, and it isn't dying or closed. A hand
 -- lists a reference that it makes, and at a birth there is no other, so those that are being made don't count.
 abbrev pub IsInUse : Layout → List ℕ → List View → ℕ → Type 0
 IsInUse layout words views x =
     over_work (makes x) views
-    < listed views x + in_cells layout words x + over_work (gives_up x) views + pending words views x
+    < listed views x + in_cells layout words x + over_work (gives_up x) views + pending layout words views x
 
 -- ---- who counts an object locally
 
@@ -120,7 +122,7 @@ pub record IsFreeOf (layout : Layout) (words : List ℕ) (views : List View) (x 
   pub unnamed : in_cells layout words x ≡ 0
   pub unmade : over_work (makes x) views ≡ 0
   pub given_up : over_work (gives_up x) views ≡ 0
-  pub none_pending : pending words views x ≡ 0
+  pub none_pending : pending layout words views x ≡ 0
 
 -- ---- agreement
 
@@ -132,14 +134,14 @@ pub record AgreesInTable (layout : Layout) (words : List ℕ) (views : List View
   -- the counts add up to the references and the pending decrements; the references are those that hands list and those
   -- that cells hold, without those that hands are making, and with those that hands are giving up
   pub total : counted words views x + over_work (makes x) views
-      ≡ listed views x + in_cells layout words x + over_work (gives_up x) views + pending words views x + bias
+      ≡ listed views x + in_cells layout words x + over_work (gives_up x) views + pending layout words views x + bias
   -- no object has two pending decrements
-  pub one_pending : pending words views x ≤ 1
+  pub one_pending : pending layout words views x ≤ 1
   -- default: no decrement is pending, and the shared count isn't negative
-  pub default_none : phase_at words x ≡ 0 → pending words views x ≡ 0
+  pub default_none : phase_at words x ≡ 0 → pending layout words views x ≡ 0
   pub default_counts : phase_at words x ≡ 0 → bias ≤ biased_part (shared_at words x)
   -- queued: one decrement is pending
-  pub queued_one : IsInUse layout words views x → phase_at words x ≡ 2 → pending words views x ≡ 1
+  pub queued_one : IsInUse layout words views x → phase_at words x ≡ 2 → pending layout words views x ≡ 1
   -- merged: nobody owns the object, and the shared count is above 0
   pub merged_free : IsInUse layout words views x → phase_at words x ≡ 3 → local_at words x ≡ 0
   pub merged_counts : IsInUse layout words views x → phase_at words x ≡ 3 → bias < biased_part (shared_at words x)

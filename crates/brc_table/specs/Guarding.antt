@@ -6,6 +6,7 @@ use Rattle.std.specs.List.{list_any}
 use mathlib.Core.Option as home
 use mathlib.Core.Option.{some}
 use lib.ListN.{get_elem?}
+use Rattle.brc_word.specs.declared.values.TheConstants.{UNSET}
 use Rattle.brc_word.specs.Words.{locked_word}
 use Rattle.brc_model.specs.declared.duty.Duty.{Duty}
 use Rattle.brc_model.specs.declared.actor.Status.TheVariants.{Leaving, Gone}
@@ -28,14 +29,14 @@ use Rattle.brc_table.specs.Rule.{thread_reading, Stands}
 use Rattle.brc_table.specs.Homes.{times_taken, TableStands}
 use Rattle.brc_table.specs.Threads.{thread_word}
 use Rattle.brc_table.specs.Ending.{kind_at}
-use Rattle.brc_table.specs.Agreeing.{mark_at}
+use Rattle.brc_table.specs.Agreeing.{row_mark}
 
 -- what the word of a thread says of it
 abbrev pub thread_says : List ℕ → ℕ → ℕ
 thread_says words t = thread_reading (slice_index words (place (ThreadWord t)))
 
--- The thread of the row's block runs or isn't started; or its hand is leaving and still has to scan the row's mark; or
--- some hand has the duty to look at the mark.
+-- The thread of the row's block runs or isn't started; or its hand is leaving, and still has to load the row's mark
+-- word, or to take the mark, which it has found there; or some hand has the duty to look at the mark.
 pub data IsWatched (layout : Layout) (words : List ℕ) (views : List View) (x : ℕ) : Type 0 where
   ByRunning : thread_says words (block_of layout x) ≡ 1 → IsWatched layout words views x
   ByExit : (id : ℕ) (v : View) → get_elem? views id ≡ some v → v.thread ≡ block_of layout x → v.actor.status ≡ Leaving
@@ -47,7 +48,7 @@ pub data IsWatched (layout : Layout) (words : List ℕ) (views : List View) (x :
 -- Each mark that is set is watched.
 abbrev pub SetMarksAreWatched : Type 0
 SetMarksAreWatched = (layout : Layout) (words : List ℕ) (views : List View) (x : ℕ) → Stands layout words views
-    → x < row_count layout → mark_at words x ≢ 0 → IsWatched layout words views x
+    → x < row_count layout → row_mark layout words x ≢ UNSET → IsWatched layout words views x
 
 -- The hand's first duty is about the word at the address, which the table has, and changes it.
 pub record ChangesWord (layout : Layout) (words : List ℕ) (views : List View) (v : View) (d : Duty) (a : Address)
@@ -60,7 +61,7 @@ pub record ChangesWord (layout : Layout) (words : List ℕ) (views : List View) 
   pub alive : v.actor.status ≢ Gone
   pub there : HasWord layout a
   pub at : address_of layout v.thread v.actor.head d ≡ a
-  pub other : new_word v.thread v.actor.head d (slice_index words (place a)) ≢ slice_index words (place a)
+  pub other : new_word layout v.thread v.actor.head d (slice_index words (place a)) ≢ slice_index words (place a)
 
 -- The hand has locked the row's object, and the object's gate names the hand's thread.
 abbrev pub HoldsGate : List ℕ → View → ℕ → Type 0

@@ -1,24 +1,38 @@
--- Where each word of the table is. Eight rows share a tile, and in a tile a cache line of eight words has their local
--- words, the next one their shared words, and so on, so that an owner and another thread don't write to one line. Then
--- come the marks, and a line of cells for each row. The thread words are in front of all tiles.
+-- Where each word of the table is. The thread words come first, and then the mark words. Those of a thread's block have
+-- cache lines of their own, so that two threads that look through their queues share no line. Then come the tiles.
+-- Eight rows share a tile, and in a tile a cache line of eight words has their local words, the next one their shared
+-- words, and so on, so that an owner and another thread don't write to one line. Behind these is a line of cells for
+-- each row.
 use Rattle.std.specs.Prelude.{ℕ, ◌+◌, ◌-◌, ◌*◌, ◌/◌, ◌%◌, ◌<◌}
 use Rattle.brc_model.specs.declared.address.Address.{Address}
-use Rattle.brc_model.specs.declared.address.Address.TheVariants.{Local, Shared, Gate, KindOf, Mark, Cell, Slot, Resource, ThreadWord}
+use Rattle.brc_model.specs.declared.address.Address.TheVariants.{Local, Shared, Gate, KindOf, Marks, Cell, Slot, Resource, ThreadWord}
 use Rattle.brc_model.specs.declared.layout.Layout.{Layout}
-use Rattle.brc_model.specs.Layout.{row_count}
-use Rattle.brc_model.specs.Limits.{cell_limit}
+use Rattle.brc_model.specs.Layout.{row_count, mark_words_of}
+use Rattle.brc_model.specs.Limits.{cell_limit, thread_limit}
 
 -- the words of a cache line
 abbrev pub line : ℕ
 line = 8
 
--- the words in front of the tiles: five lines of thread words
-abbrev pub front : ℕ
-front = 40
+-- the words in front of the mark words: five lines of thread words
+abbrev pub marks_front : ℕ
+marks_front = 40
 
--- the words of a tile: local, shared, gate, kind, marks, and a line of cells for each of its rows
+-- the words between the mark words of a block and those of the next one: three lines
+abbrev pub mark_room : ℕ
+mark_room = 24
+
+-- the words in front of the tiles
+abbrev pub front : ℕ
+front = marks_front + mark_room * thread_limit
+
+-- the lines of a tile in front of its cells: local, shared, gate and kind
+abbrev pub header_lines : ℕ
+header_lines = 4
+
+-- the words of a tile: these lines, and a line of cells for each of its rows
 abbrev pub tile : ℕ
-tile = 104
+tile = line * (header_lines + line)
 
 -- the place of a row's word, in the line of the tile with this number
 abbrev pub in_tile : ℕ → ℕ → ℕ
@@ -26,7 +40,7 @@ in_tile number row = front + tile * (row / line) + line * number + row % line
 
 -- the place of a row's cell
 abbrev pub cell_place : ℕ → ℕ → ℕ
-cell_place row cell = front + tile * (row / line) + line * (5 + row % line) + cell
+cell_place row cell = front + tile * (row / line) + line * (header_lines + row % line) + cell
 
 -- the place of the word at the address. A slot and a resource have no word.
 abbrev pub place : Address → ℕ
@@ -34,7 +48,7 @@ place (Local x) = in_tile 0 x
 place (Shared x) = in_tile 1 x
 place (Gate x) = in_tile 2 x
 place (KindOf x) = in_tile 3 x
-place (Mark x) = in_tile 4 x
+place (Marks t w) = marks_front + mark_room * t + w
 place (Cell x i) = cell_place x i
 place (Slot x) = 0
 place (Resource x) = 0
@@ -46,20 +60,20 @@ HasWord layout (Local x) = x < row_count layout
 HasWord layout (Shared x) = x < row_count layout
 HasWord layout (Gate x) = x < row_count layout
 HasWord layout (KindOf x) = x < row_count layout
-HasWord layout (Mark x) = x < row_count layout
+HasWord layout (Marks t w) = (t < 1 + layout.workers) × (w < mark_words_of layout t)
 HasWord layout (Cell x i) = (x < row_count layout) × (i < cell_limit)
 HasWord layout (Slot x) = ⊥
 HasWord layout (Resource x) = ⊥
 HasWord layout (ThreadWord t) = t < 1 + layout.workers
 
--- The word belongs to an object, and isn't a thread's.
+-- The word belongs to objects, and isn't a thread's.
 abbrev pub IsObjectWord : Address → Type 0
 IsObjectWord (Slot x) = ⊥
 IsObjectWord (Resource x) = ⊥
 IsObjectWord (ThreadWord t) = ⊥
 IsObjectWord _ = Unit {0}
 
--- The address has a word of the table, an object's or a thread's.
+-- The address has a word of the table, of objects or of a thread.
 abbrev pub IsTableWord : Address → Type 0
 IsTableWord (Slot x) = ⊥
 IsTableWord (Resource x) = ⊥

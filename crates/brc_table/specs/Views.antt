@@ -3,7 +3,7 @@ use Rattle.std.specs.Prelude.{Bool, ◌≡◌, ℕ, ◌<◌, ◌≤◌, true, �
 use Rattle.std.specs.List.{filter, list_any}
 use Rattle.brc_model.specs.declared.duty.Holding.TheVariants.{AsCaller}
 use Rattle.brc_model.specs.declared.duty.Duty.{Duty}
-use Rattle.brc_model.specs.declared.duty.Duty.TheVariants.{RetainLoad, ReleaseLoad, BirthKind, BirthSlot, BirthLocal, KindLoad, LockGate, UnlockGate, CellLoad, Settle, TakeSlot, SettleEnd, ClaimMark, Leave}
+use Rattle.brc_model.specs.declared.duty.Duty.TheVariants.{RetainLoad, ReleaseLoad, BirthKind, BirthSlot, BirthLocal, KindLoad, LockGate, UnlockGate, CellLoad, Settle, TakeSlot, SettleEnd, ClaimMark, MarksLoad, Leave}
 use Rattle.brc_model.specs.declared.layout.Layout.{Layout}
 use Rattle.brc_model.specs.Layout.{row_count, block_size, front_rows, root_row, row_at, is_immortal_row}
 use Rattle.brc_model.specs.Duties.{address_of, new_word, cells_of}
@@ -66,7 +66,7 @@ abbrev pub event_of : View → Duty → ℕ → WordEvent
 event_of v d found = record {
   address = address_of v.layout v.thread v.actor.head d;
   found = found;
-  left = new_word v.thread v.actor.head d found;
+  left = new_word v.layout v.thread v.actor.head d found;
 }
 
 -- the rows without the first
@@ -172,6 +172,10 @@ settling v = with_next v (settle_first v.actor.agenda)
 -- the hand begins to claim the mark of a row of its own block
 abbrev pub claiming : View → ℕ → View
 claiming v x = with_next v (ClaimMark x ∷ [])
+
+-- the hand begins to load a mark word of its own block
+abbrev pub loading_marks : View → ℕ → View
+loading_marks v w = with_next v (MarksLoad w ∷ [])
 
 -- the hand begins to leave
 abbrev pub leaving : View → View

@@ -14,8 +14,8 @@ ghost use Rattle.brc_table.specs.Uses.{HoldsItsOwn, behind_slot};
 ghost use Rattle.brc_table.specs.Calls.{OwnsFirst};
 
 use crate::hand::Hand;
-use crate::size::row_at;
 use crate::words::Words;
+use brc_effect::rows::row_at;
 use brc_model::{
     Duty, Holding, births_begin, duties_are_kept, needed_slots_are_unlocked, work_is_put_aside,
 };
@@ -42,7 +42,7 @@ impl<T: Drop> Words<T> {
         births_begin();
         self.layout_is_plain();
         hand.rows_are_there();
-        let row = row_at(self.layout, hand.thread, hand.used);
+        let row = row_at(self.blocks.layout(), hand.thread, hand.used);
         self.step_from::<Brand>(
             hand,
             &Duty::BirthKind {

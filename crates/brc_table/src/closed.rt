@@ -10,9 +10,9 @@ ghost use Rattle.brc_table.specs.Homes.{resources};
 
 use crate::hand::Hand;
 use crate::place::{GATE, KIND, in_cell, in_line};
-use crate::size::row_count;
 use crate::words::Words;
 use atomic_table::Closed as ClosedTable;
+use brc_effect::rows::row_count;
 use brc_model::{Layout, items_are_there};
 use std::alloc::Global;
 use std::marker::Model;
@@ -70,10 +70,10 @@ impl<T: Drop> Words<T> {
         } = hand;
         drop(spares);
         drop(carried);
-        let Words { table, layout } = self;
+        let Words { table, blocks } = self;
         Closed {
             table: table.close_with(seat),
-            layout,
+            layout: blocks.layout(),
             of,
         }
     }

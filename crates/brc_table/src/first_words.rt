@@ -4,7 +4,8 @@ ghost use Rattle.std.specs.Prelude.{◌≡◌, IfOk};
 ghost use Rattle.brc_table.specs.Opening.{blank_line, blank_word, first_word, AreFirst};
 
 use crate::place::{FRONT, GATE, KIND, LINE, LOCAL, SHARED, TILE, in_line};
-use crate::size::{CELLS, NONE_ROW, ROOT_ROW, word_count};
+use crate::size::{CELLS, word_count};
+use brc_effect::rows::{NONE_ROW, ROOT};
 use brc_model::Layout;
 use brc_word::values::{FREE, LIST, NONE, RUNNING};
 use brc_word::{kind_word, local_word};
@@ -53,11 +54,11 @@ fn first_word(index: usize) -> u64
 {
     if index == in_line(LOCAL, NONE_ROW) {
         local_word(Some(MAIN), IMMORTAL)
-    } else if index == in_line(LOCAL, ROOT_ROW) {
+    } else if index == in_line(LOCAL, ROOT) {
         local_word(Some(MAIN), 1)
     } else if index == in_line(KIND, NONE_ROW) {
         kind_word(NONE, 0)
-    } else if index == in_line(KIND, ROOT_ROW) {
+    } else if index == in_line(KIND, ROOT) {
         kind_word(LIST, u32::from(CELLS))
     } else {
         blank_word(index)

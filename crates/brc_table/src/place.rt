@@ -1,18 +1,29 @@
 //! Where each word of the table is.
 
 ghost use Rattle.std.specs.Prelude.{◌≡◌, ◌<◌};
-ghost use Rattle.brc_table.specs.Places.{in_tile, cell_place, place};
+ghost use Rattle.brc_model.specs.declared.address.Address.TheVariants.{Marks};
+ghost use Rattle.brc_table.specs.Places.{header_lines, in_tile, cell_place, place};
 
 use brc_model::Address;
 
 /// The words of a cache line of 64 bytes.
 pub(crate) const LINE: usize = 8;
 
-/// The words in front of the tiles: five lines of thread words.
-pub(crate) const FRONT: usize = 40;
+/// The words in front of the mark words: five lines of thread words.
+const MARKS_FRONT: usize = 40;
+
+/// The words between the mark words of a block and those of the next one: three lines. A block has at most 17 mark
+/// words.
+const MARK_ROOM: usize = 24;
+
+/// The most threads: main and 32 workers.
+const THREADS: usize = 33;
+
+/// The words in front of the tiles.
+pub(crate) const FRONT: usize = MARKS_FRONT + MARK_ROOM * THREADS;
 
 /// The words of a tile, which has the words of eight rows.
-pub(crate) const TILE: usize = 104;
+pub(crate) const TILE: usize = LINE * (CELLS + LINE);
 
 /// The line of a tile's local words.
 pub(crate) const LOCAL: usize = 0;
@@ -26,16 +37,14 @@ pub(crate) const GATE: usize = 2;
 /// The line of a tile's kind words.
 pub(crate) const KIND: usize = 3;
 
-/// The line of a tile's marks.
-pub(crate) const MARK: usize = 4;
-
 /// The line of the cells of a tile's first row.
-const CELLS: usize = 5;
+const CELLS: usize = 4;
 
 /// Returns the place of a row's word. The words of a row are in different cache lines, so that the owner, which writes
 /// the local word, and another thread, which writes the shared word, don't write to one line.
+#[inline(always)]
 pub(crate) fn in_line(line: usize, row: u32) -> usize
-    requires { line < 5 }
+    requires { line < header_lines }
     ensures { result ≡ in_tile line row }
 {
     let row = row as usize;
@@ -43,11 +52,21 @@ pub(crate) fn in_line(line: usize, row: u32) -> usize
 }
 
 /// Returns the place of a cell. The cells of a row are a cache line.
+#[inline(always)]
 pub(crate) fn in_cell(row: u32, cell: u32) -> usize
     ensures { result ≡ cell_place row cell }
 {
     let row = row as usize;
     FRONT + TILE * (row / LINE) + LINE * (CELLS + row % LINE) + cell as usize
+}
+
+/// Returns the place of a mark word of the thread's block. The mark words of a block have cache lines of their own, so
+/// that two threads that look through their queues share no line.
+#[inline(always)]
+fn in_marks(thread: u32, word: u32) -> usize
+    ensures { result ≡ place (Marks thread word) }
+{
+    MARKS_FRONT + MARK_ROOM * thread as usize + word as usize
 }
 
 /// Returns the place of the word at the address. A slot and a resource have no word.
@@ -60,7 +79,7 @@ pub(crate) fn place_at(address: Address) -> usize
         Address::Shared { row } => in_line(SHARED, row),
         Address::Gate { row } => in_line(GATE, row),
         Address::KindOf { row } => in_line(KIND, row),
-        Address::Mark { row } => in_line(MARK, row),
+        Address::Marks { thread, word } => in_marks(thread, word),
         Address::Cell { row, cell } => in_cell(row, cell),
         Address::ThreadWord { thread } => thread as usize,
         Address::Slot { .. } | Address::Resource { .. } => 0,

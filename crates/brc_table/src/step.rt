@@ -150,9 +150,9 @@ impl<T: Drop> Words<T> {
         self.layout_is_plain();
         self.words_are_there();
         hand.rows_are_there();
-        let address = address_of(self.layout, hand.thread, hand.head, *duty);
+        let address = address_of(self.blocks, hand.thread, hand.head, *duty);
         let index = place_at(address);
-        let access = access_of(*duty, hand.thread, hand.head);
+        let access = access_of(self.blocks, *duty, hand.thread, hand.head);
         let word = self.operate::<B>(&mut hand.seat, index, access);
         let found = said_by(*duty, word);
         // Computed behind the operation: a value from before it would be written back at each step.
@@ -202,6 +202,8 @@ impl<T: Drop> Words<T> {
                 .table
                 .shared
                 .compare_exchange::<Stepped<B>>(seat, index, old, new),
+            Access::Or { bits } => self.table.shared.fetch_or::<Stepped<B>>(seat, index, bits),
+            Access::And { bits } => self.table.shared.fetch_and::<Stepped<B>>(seat, index, bits),
         }
     }
 }

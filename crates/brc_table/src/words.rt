@@ -1,7 +1,8 @@
 //! The words of all objects.
 
 ghost use Rattle.std.specs.Prelude.{◌≡◌, ◌<◌, ◌≤◌, [], IfOk};
-ghost use Rattle.brc_model.specs.Layout.{block_size};
+ghost use Rattle.brc_word.specs.Words.{mark_at};
+ghost use Rattle.brc_model.specs.Layout.{block_size, mark_bit, mark_words};
 ghost use Rattle.brc_model.specs.Limits.{worker_limit, row_limit};
 ghost use Rattle.brc_model.specs.Counting.{IsPlainLayout};
 ghost use Rattle.brc_table.specs.Views.{main_view};
@@ -13,10 +14,13 @@ use crate::carried::{nothing_carried, spares_of};
 use crate::first_words::first_words;
 use crate::hand::Hand;
 use crate::rule::Counting;
-use crate::size::{CELLS, FRONT_ROWS, row_count};
+use crate::size::{CELLS, mark_words_of};
 use crate::view::View;
 use atomic_table::Table;
+use brc_effect::Blocks;
+use brc_effect::rows::{FRONT_ROWS, block_size, row_count};
 use brc_model::{Layout, hands_begin};
+use brc_word::mark_at;
 use std::alloc::{AllocError, Global};
 use std::marker::Model;
 
@@ -24,7 +28,7 @@ use std::marker::Model;
 #[derive(Drop)]
 pub struct Words<T: Drop> {
     pub(crate) table: Table<Option<T>, View, Layout, Counting, Global>,
-    pub(crate) layout: Layout,
+    pub(crate) blocks: Blocks,
 }
 
 impl<T: Drop> Model for Words<T> {
@@ -37,7 +41,7 @@ impl<T: Drop> Model for Words<T> {
 
     ghost view = { λ w. record { table = w.table.shared.table_id; layout = w.table.shared.key } };
 
-    ghost invariant = { λ w. (w.layout ≡ w.table.shared.key)
+    ghost invariant = { λ w. (w.blocks ≡ w.table.shared.key)
         × (w.table.shared.table_id.words ≡ word_count w.table.shared.key)
         × IsPlainLayout w.table.shared.key };
 }
@@ -75,7 +79,8 @@ impl<T: Drop> Words<T> {
             spares,
             carried,
         };
-        Ok((Words { table, layout }, main))
+        let blocks = Blocks::new(layout);
+        Ok((Words { table, blocks }, main))
     }
 
     /// Returns how many rows the thread's block has: 2 for main, else as many as each worker has.
@@ -83,31 +88,46 @@ impl<T: Drop> Words<T> {
         ensures { result ≡ block_size self.now.layout thread }
     {
         self.layout_is_plain();
-        if thread == 0 {
-            FRONT_ROWS
-        } else {
-            u32::from(self.layout.rows)
-        }
+        block_size(self.blocks.layout(), thread)
+    }
+
+    /// Returns how many mark words there are: those of main's block and of each worker's, without the unused words
+    /// between the blocks. With 4 workers of 1024 rows each it is 65, and with 4 workers of 130 rows each it is 13.
+    pub fn mark_words(&self) -> usize
+        ensures { result ≡ mark_words self.now.layout }
+    {
+        self.layout_is_plain();
+        let layout = self.blocks.layout();
+        let of_workers = u32::from(layout.workers) * mark_words_of(layout, 1);
+        (mark_words_of(layout, 0) + of_workers) as usize
+    }
+
+    /// Returns the row's mark in its mark word, which was found: 1 if the mark is set, else 0.
+    #[inline(always)]
+    pub fn mark(&self, row: u32, found: u64) -> u64
+        ensures { result ≡ mark_at found (mark_bit self.now.layout row) }
+    {
+        mark_at(found, self.blocks.mark_bit(row))
     }
 
     /// Returns how many workers there are.
     pub fn workers(&self) -> u8
         ensures { result ≡ self.now.layout.workers }
     {
-        self.layout.workers
+        self.blocks.layout().workers
     }
 
     /// States that the table has 1 to 32 workers with 1 to 1024 rows each.
     pub fn layout_is_plain(&self)
         ensures { IsPlainLayout self.now.layout }
     {
-        let _opened = self.layout;
+        let _opened = self.blocks;
     }
 
     /// States that the table has as many words as its size asks for.
     pub(crate) fn words_are_there(&self)
         ensures { self.now.table.words ≡ word_count self.now.layout }
     {
-        let _opened = self.layout;
+        let _opened = self.blocks;
     }
 }

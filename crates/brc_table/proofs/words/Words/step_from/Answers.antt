@@ -72,7 +72,7 @@ operate-word-requires-clause-table g c = ap (λ (h : HandState). h.table) c.hand
 pub operate-word-requires-clause-there : goal.operate-word-requires-clause-there
 operate-word-requires-clause-there g c =
     let v = c.args.hand.now.view in
-    let layout = c.self.inside.layout in
+    let layout = c.self.inside.blocks in
     let layout_is = c.self.invariant.0 ∙ ap (λ (w : TableState). w.layout) c.self.view_is in
     let address = address_of layout c.hand.inside.thread c.hand.inside.head c.args.duty.now in
     subst (λ (i : ℕ). i < c.args.self.now.table.words)
@@ -98,7 +98,7 @@ operate-word-requires-clause-allowed g c =
     let same = subst (λ (h : HandState). KeepsButWork h.view (begins h.view)) (sym view_is) c.requires.begins.same in
     let thread : hand.thread ≡ u.thread = c.hand.invariant.1 ∙ sym (ap (λ (v : View). v.thread) same) in
     let head : hand.head ≡ u.actor.head = c.hand.invariant.3 ∙ sym (ap (λ (v : View). v.actor.head) same) in
-    let layout : c.self.inside.layout ≡ u.layout =
+    let layout : c.self.inside.blocks ≡ u.layout =
     c.self.invariant.0 ∙ (ap (λ (w : TableState). w.layout) c.self.view_is
     ∙ (sym c.requires.table.1 ∙ (ap (λ (h : HandState). h.view.layout) (sym view_is)
     ∙ sym (ap (λ (v : View). v.layout) same)))) in
