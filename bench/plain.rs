@@ -14,13 +14,19 @@ use std::sync::{Arc, Barrier, Mutex};
 use std::thread;
 use std::time::{Duration, Instant};
 
-// The block: the threads' words, then a tile for each 8 rows. A tile has 8 words for each field, then the rows' cells.
+// The block: the threads' words, then three lines of mark words for each of 33 threads, then a tile for each 8 rows. A
+// tile has 8 words for each field, then the rows' cells.
 const THREAD_WORDS: u64 = 40;
+const MARK_ROOM: u64 = 24;
+const FRONT: u64 = THREAD_WORDS + 33 * MARK_ROOM;
 const TILE_ROWS: u64 = 8;
-const TILE_WORDS: u64 = 104;
+const TILE_WORDS: u64 = 96;
 
 /// The line of a tile that has the cells of the tile's first row.
-const CELL_LINE: u64 = 5;
+const CELL_LINE: u64 = 4;
+
+/// The marks of a mark word: one bit for each row.
+const MARKS_OF_WORD: u64 = 64;
 
 /// What a word is to its row. A tile has these, and then the rows' cells.
 #[derive(Clone, Copy)]
@@ -29,17 +35,16 @@ enum Field {
     Shared = 1,
     Gate = 2,
     Kind = 3,
-    Mark = 4,
 }
 
 /// Returns the index of the word of `field` for `row`.
 fn place(field: Field, row: u64) -> usize {
-    (THREAD_WORDS + TILE_WORDS * (row / TILE_ROWS) + TILE_ROWS * field as u64 + row % TILE_ROWS) as usize
+    (FRONT + TILE_WORDS * (row / TILE_ROWS) + TILE_ROWS * field as u64 + row % TILE_ROWS) as usize
 }
 
 /// Returns the index of the word of cell `cell` of `row`. The cells of a row are a line.
 fn cell_place(row: u64, cell: u64) -> usize {
-    (THREAD_WORDS + TILE_WORDS * (row / TILE_ROWS) + TILE_ROWS * (CELL_LINE + row % TILE_ROWS) + cell) as usize
+    (FRONT + TILE_WORDS * (row / TILE_ROWS) + TILE_ROWS * (CELL_LINE + row % TILE_ROWS) + cell) as usize
 }
 
 // A local word, a gate and a kind word each have a high half and a low half of 32 bits.
@@ -69,8 +74,6 @@ const ZERO_MERGED: u64 = ZERO_DEFAULT + 3;
 const NO_OWNER: u64 = 0;
 const GATE_FREE: u64 = 1;
 const GATE_CLOSED: u64 = 1 << 63;
-const NOT_QUEUED: u64 = 0;
-const QUEUED: u64 = 1;
 /// The word of a thread that runs.
 const RUNNING: u64 = 1;
 const NONE_ROW: u64 = 0;
@@ -92,7 +95,7 @@ impl Block {
     fn new(workers: u64, rows_each: u64) -> Block {
         assert!(workers < THREAD_WORDS);
         let rows = FIRST_WORKER_ROW + workers * rows_each;
-        let len = THREAD_WORDS + TILE_WORDS * rows.div_ceil(TILE_ROWS);
+        let len = FRONT + TILE_WORDS * rows.div_ceil(TILE_ROWS);
         let block = Block { words: (0..len).map(|_| AtomicU64::new(0)).collect() };
         for row in 0..rows {
             block.word(Field::Local, row).store(NO_OWNER, SeqCst);
@@ -107,6 +110,11 @@ impl Block {
 
     fn word(&self, field: Field, row: u64) -> &AtomicU64 {
         &self.words[place(field, row)]
+    }
+
+    /// Returns the mark word with the number `word` of the thread.
+    fn marks(&self, thread: u64, word: u64) -> &AtomicU64 {
+        &self.words[(THREAD_WORDS + MARK_ROOM * thread + word) as usize]
     }
 
     fn cell(&self, row: u64, cell: u64) -> &AtomicU64 {
@@ -302,8 +310,8 @@ fn settle(hand: &mut Hand, block: &Block) {
 /// Sets the mark of `row`, which a release queued, and looks whether its owner runs. Returns whether it does.
 fn post(block: &Block, row: u64, rows_each: u64) -> bool {
     // The mark comes first: an owner that leaves says so before it looks for marks (`post_without_look`).
-    block.word(Field::Mark, row).store(QUEUED, SeqCst);
-    let owner = (row - FIRST_WORKER_ROW) / rows_each + 1;
+    let (owner, index) = ((row - FIRST_WORKER_ROW) / rows_each + 1, (row - FIRST_WORKER_ROW) % rows_each);
+    block.marks(owner, index / MARKS_OF_WORD).fetch_or(1 << (index % MARKS_OF_WORD), SeqCst);
     block.words[owner as usize].load(SeqCst) == RUNNING
 }
 
@@ -322,15 +330,24 @@ fn merge_claimed(hand: &mut Hand, block: &Block, row: u64) {
     while try_release_shared(hand, block, row) == SharedRelease::Again {}
 }
 
-/// Looks through the marks of all rows that the thread has used. Merges each row whose mark was set, gives up the
-/// reference that was handed over with it, and finalises what dies. Returns how many rows it merged.
+/// Loads each mark word of the rows that the thread has used, and takes the marks that it has found there, one by one.
+/// Merges each row whose mark was still set, gives up the reference that was handed over with it, and finalises what
+/// dies. Returns how many rows it merged.
 fn merge_pending(hand: &mut Hand, block: &Block) -> u64 {
     let mut merged = 0;
-    for row in hand.first_row..hand.first_row + hand.used {
-        if block.word(Field::Mark, row).swap(NOT_QUEUED, SeqCst) == QUEUED {
-            merge_claimed(hand, block, row);
-            settle(hand, block);
-            merged += 1;
+    for word in 0..hand.used.div_ceil(MARKS_OF_WORD) {
+        let marks = block.marks(hand.thread, word);
+        let rows = hand.used - MARKS_OF_WORD * word;
+        let mask = if rows < MARKS_OF_WORD { (1 << rows) - 1 } else { u64::MAX };
+        let mut found = marks.load(SeqCst) & mask;
+        while found != 0 {
+            let bit = u64::from(found.trailing_zeros());
+            found &= !(1 << bit);
+            if marks.fetch_and(!(1 << bit), SeqCst) >> bit & 1 == 1 {
+                merge_claimed(hand, block, hand.first_row + MARKS_OF_WORD * word + bit);
+                settle(hand, block);
+                merged += 1;
+            }
         }
     }
     merged

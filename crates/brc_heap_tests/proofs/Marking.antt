@@ -32,23 +32,23 @@ look_ready zero x = refl
 look_ready (suc head) x = refl
 
 -- The hand's work about the row is then to look.
-looks_next : (v : View) (x : ℕ) → work_about x v ≡ SetMark x ∷ [] → work_about x (view_after (turned v x) 0)
-    ≡ Look x ∷ []
-looks_next v x is =
+looks_next : (v : View) (x found : ℕ) → work_about x v ≡ SetMark x ∷ []
+    → work_about x (view_after (turned v x) found) ≡ Look x ∷ []
+looks_next v x found is =
     let others = filter (λ d. not (is_about x d)) (open_work v) in
-    ap (λ (ds : List Duty). work_about x (view_by (turned v x) ds 0)) is
+    ap (λ (ds : List Duty). work_about x (view_by (turned v x) ds found)) is
     ∙ (ap (λ (ds : List Duty). filter (is_about x) (ds ++ others)) (look_ready v.actor.head x)
     ∙ (ap (λ (b : Bool). cond b (Look x ∷ filter (is_about x) others) (filter (is_about x) others)) (eq-eqb x x refl)
     ∙ ap (λ (ds : List Duty). Look x ∷ ds) (none_left (is_about x) (open_work v))))
 
-pub looks : (v u : View) (x : ℕ) → work_about x v ≡ SetMark x ∷ [] → u ≡ view_after (turned v x) 0
+pub looks : (v u : View) (x found : ℕ) → work_about x v ≡ SetMark x ∷ [] → u ≡ view_after (turned v x) found
     → IsNext (Look x) (work_about x u)
-looks v u x is after =
+looks v u x found is after =
     subst (λ (w : View). IsNext (Look x) (work_about x w)) (sym after)
-    (subst (IsNext (Look x)) (sym (looks_next v x is)) refl)
+    (subst (IsNext (Look x)) (sym (looks_next v x found is)) refl)
 
-pub still_marks : (v u : View) (x : ℕ) → CanAct v → work_about x v ≡ SetMark x ∷ [] → u ≡ view_after (turned v x) 0
-    → CanAct u
-still_marks v u x acts is after =
-    subst CanAct (sym after) (subst (λ (ds : List Duty). CanAct (view_by (turned v x) ds 0)) (sym is)
+pub still_marks : (v u : View) (x found : ℕ) → CanAct v → work_about x v ≡ SetMark x ∷ []
+    → u ≡ view_after (turned v x) found → CanAct u
+still_marks v u x found acts is after =
+    subst CanAct (sym after) (subst (λ (ds : List Duty). CanAct (view_by (turned v x) ds found)) (sym is)
     (acts.0, subst MayWait (sym (look_ready v.actor.head x)) refl))

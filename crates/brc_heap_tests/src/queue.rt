@@ -111,7 +111,8 @@ fn merges_own(heap: &Heap<u32>, main: &mut Hand<u32>) -> Option<(u32, u64, u64)>
 {
     let words = heap.words();
     words.layout_is_plain();
-    if words.mark_claim(main, ROOT) != QUEUED {
+    let found = words.mark_claim(main, ROOT);
+    if words.mark(ROOT, found) != QUEUED {
         return None;
     }
     let (row, reason) = (ROOT, Reason::Handed);

@@ -27,8 +27,8 @@ pub record Claims (x : ℕ) (closes : List HostCall) (v w : View) : Type 0 where
 -- Of the marks that the hand has found in its mark word, it has claimed all but those that are left, the lowest first,
 -- with these closes of the host. A claim may find that the mark is taken by then.
 pub data ClaimsFound (word marks : ℕ) (v : View) : ℕ → List HostCall → View → Type 0 where
-  Refl : ClaimsFound word marks v marks [] v
-  Next : (left : ℕ) (closes more : List HostCall) (u w : View) → ClaimsFound word marks v left closes u → 0 < left
+  NoMark : ClaimsFound word marks v marks [] v
+  NextMark : (left : ℕ) (closes more : List HostCall) (u w : View) → ClaimsFound word marks v left closes u → 0 < left
       → Claims (found_row u.layout u.thread word left) more u w
       → ClaimsFound word marks v (unmarked_word left (lowest_mark left)) (closes ++ more) w
 
@@ -40,8 +40,8 @@ pub record LooksAt (word : ℕ) (closes : List HostCall) (v w : View) : Type 0 w
 
 -- The hand has looked at the first mark words of its block, by rising number, with these closes of the host.
 pub data HasScanned (v : View) : ℕ → List HostCall → View → Type 0 where
-  Refl : HasScanned v 0 [] v
-  Next : (word : ℕ) (closes more : List HostCall) (u w : View) → HasScanned v word closes u → LooksAt word more u w
+  NoWord : HasScanned v 0 [] v
+  NextWord : (word : ℕ) (closes more : List HostCall) (u w : View) → HasScanned v word closes u → LooksAt word more u w
       → HasScanned v (word + 1) (closes ++ more) w
 
 -- ---- a hand that leaves

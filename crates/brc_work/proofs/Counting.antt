@@ -7,7 +7,8 @@ use Rattle.brc_host.specs.declared.counts.HostCounts.{HostCounts}
 use Rattle.brc_host.proofs.Answering.{one_call, answered_then, host_faults_then, close_faults_then}
 use Rattle.brc_table.specs.declared.view.View.{View}
 use Rattle.brc_free.proofs.Working.{works_close}
-use Rattle.brc_queue.specs.Scans.{HasScanned, Refl, Next, HasLeft}
+use Rattle.brc_queue.specs.Scans.{ClaimsFound, HasScanned, HasLeft}
+use Rattle.brc_queue.specs.Scans as scans
 use Rattle.brc_work.specs.declared.ran.Ran.{Ran}
 use Rattle.brc_work.specs.declared.ran.Ran.TheVariants.{Done, Stopped}
 use Rattle.brc_work.specs.declared.totals.Totals.{Totals}
@@ -112,13 +113,22 @@ done_with totals (Stopped before) = refl
 
 -- ---- closes
 
--- A hand that looks through its queue asks for closes alone,
-pub looks_close : (v w : View) (i : ℕ) (cs : List HostCall) → HasScanned v i cs w → host_faults cs ≡ 0
-looks_close v w i cs Refl = refl
-looks_close v w i cs (Next j closes more u x looks claims) =
+-- A hand that claims the marks that it has found asks for closes alone,
+claims_close : (word marks left : ℕ) (v w : View) (cs : List HostCall) → ClaimsFound word marks v left cs w
+    → host_faults cs ≡ 0
+claims_close word marks left v w cs scans.NoMark = refl
+claims_close word marks left v w cs (scans.NextMark more closes later u x found some claims) =
+    host_faults_then closes later
+    ∙ (ap (λ (n : ℕ). n + host_faults later) (claims_close word marks more v u closes found)
+    ∙ ap (λ (n : ℕ). 0 + n) (works_close _ x later claims.follows.works))
+
+-- and so does one that looks through its queue,
+pub looks_close : (v w : View) (words : ℕ) (cs : List HostCall) → HasScanned v words cs w → host_faults cs ≡ 0
+looks_close v w words cs scans.NoWord = refl
+looks_close v w words cs (scans.NextWord word closes more u x before looks) =
     host_faults_then closes more
-    ∙ (ap (λ (n : ℕ). n + host_faults more) (looks_close v u j closes looks)
-    ∙ ap (λ (n : ℕ). 0 + n) (works_close _ x more claims.follows.works))
+    ∙ (ap (λ (n : ℕ). n + host_faults more) (looks_close v u word closes before)
+    ∙ ap (λ (n : ℕ). 0 + n) (claims_close _ _ _ _ x more looks.claims))
 
 -- and so does one that leaves.
 pub leaves_close : (v w : View) (cs : List HostCall) → HasLeft cs v w → host_faults cs ≡ 0

@@ -9,7 +9,7 @@ use Rattle.brc_model.specs.declared.state.State.{State}
 use Rattle.brc_model.specs.Stops.{row_locked, owned_rows, stopping}
 use Rattle.brc_model.specs.Tables.{Reaches}
 use Rattle.brc_table.specs.declared.view.View.{View}
-use Rattle.brc_queue.specs.Scans.{HasScanned}
+use Rattle.brc_queue.specs.Scans.{HasScanned, words_used}
 use Rattle.brc_work.specs.Traces.{MakesTrace, MakesCalls}
 
 -- the greatest number of instructions that a run may begin: no run begins as many
@@ -49,7 +49,7 @@ pub record LooksAndCalls (code : List Instr) (may left : ℕ) (ended : Bool) (ca
     pub closes : List HostCall
     pub within : List HostCall
     pub calls_are : calls ≡ closes ++ within
-    pub looks : HasScanned v v.actor.used closes looked
+    pub looks : HasScanned v (words_used v.actor.used) closes looked
     pub called : CallsOnce code may left ended within looked u
 
 -- The hand, which may begin this many instructions, has stopped with fewer calls made than it was to make.
@@ -59,7 +59,7 @@ pub data StopsBy (code : List Instr) (times steps : ℕ) (v : View) : List HostC
       → StopsBy code times steps v calls u
   -- in a call
   Within : (made begun more : ℕ) (calls closes within : List HostCall) (u w x : View) → made < times
-      → MakesCalls code v made begun calls u → HasScanned u u.actor.used closes w → begun + more ≡ steps
+      → MakesCalls code v made begun calls u → HasScanned u (words_used u.actor.used) closes w → begun + more ≡ steps
       → StopsInCall code more within w x → StopsBy code times steps v (calls ++ (closes ++ within)) x
 
 -- What the hand has made in a run, with these calls of the host. It was to make `times` calls of the code, and may

@@ -28,7 +28,7 @@ use Rattle.brc_model.specs.Machine.{actor_by}
 use Rattle.brc_model.specs.Trace.{events_of}
 use Rattle.brc_table.specs.declared.view.View.{View}
 use Rattle.brc_model.specs.declared.event.WordEvent.{WordEvent}
-use Rattle.brc_queue.specs.Scans.{HasScanned}
+use Rattle.brc_queue.specs.Scans.{HasScanned, words_used}
 
 -- ---- calls of the host
 
@@ -166,6 +166,6 @@ MakesTrace begun calls code p v q u = Traces begun calls code p [] v q [] u
 pub data MakesCalls (code : List Instr) (v : View) : ℕ → ℕ → List HostCall → View → Type 0 where
   NoCall : MakesCalls code v 0 0 [] v
   OneMore : (n begun within : ℕ) (calls closes more : List HostCall) (u w x : View)
-      → MakesCalls code v n begun calls u → HasScanned u u.actor.used closes w
+      → MakesCalls code v n begun calls u → HasScanned u (words_used u.actor.used) closes w
       → MakesTrace within more code (Idle 1) w (Idle 0) x
       → MakesCalls code v (n + 1) (begun + within) (calls ++ (closes ++ more)) x

@@ -26,8 +26,7 @@ impl Doer {
     }
 
     /// Loads a mark word. The thread takes those marks of used rows that it has found, one by one, before it loads the
-    /// next word. The scan passes over no word (`scan_skips_a_word`) and over no row of one (`scan_skips_a_row`). Rule
-    /// `MarksRead`.
+    /// next word. The scan passes over no row (`scan_skips_a_row`). Rule `MarksRead`.
     #[inline(always)]
     pub(super) fn scan(self, word: u32, rows: u32, found: u64) -> Effect
         requires { word < 2 ^ 31 }

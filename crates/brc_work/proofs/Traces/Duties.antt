@@ -8,7 +8,7 @@ use Rattle.brc_model.specs.declared.actor.Actor.{Actor}
 use Rattle.brc_model.specs.Machine.{is_running, status_by, used_by, locked_by, lent_by, actor_by}
 use Rattle.brc_model.specs.declared.actor.Place.{Place}
 use Rattle.brc_model.specs.declared.duty.Duty.{Duty}
-use Rattle.brc_model.specs.declared.duty.Duty.TheVariants.{Settle, Scan}
+use Rattle.brc_model.specs.declared.duty.Duty.TheVariants.{Settle, Scan, TakeFound}
 use Rattle.brc_model.specs.declared.event.WordEvent.{WordEvent}
 use Rattle.brc_table.specs.declared.view.View.{View}
 use Rattle.brc_table.specs.Views.{view_by, view_after, event_of}
@@ -22,15 +22,18 @@ use Rattle.brc_work.proofs.Traces.Joining.{only_these}
 abbrev pub may_be_none : Duty → Bool
 may_be_none Settle = true
 may_be_none (Scan i n) = true
+may_be_none (TakeFound w n) = true
 may_be_none _ = false
 
 -- Any other one comes next.
 pub comes_next : (head : ℕ) (d : Duty) (rest : List Duty) → may_be_none d ≡ false → ready head (d ∷ rest) ≡ d ∷ rest
 comes_next zero Settle rest is = absurd (let wrong : true ≡ false = is in cc)
 comes_next zero (Scan i n) rest is = absurd (let wrong : true ≡ false = is in cc)
+comes_next zero (TakeFound w n) rest is = absurd (let wrong : true ≡ false = is in cc)
 comes_next zero _ rest is = refl
 comes_next (suc head) Settle rest is = absurd (let wrong : true ≡ false = is in cc)
 comes_next (suc head) (Scan i n) rest is = absurd (let wrong : true ≡ false = is in cc)
+comes_next (suc head) (TakeFound w n) rest is = absurd (let wrong : true ≡ false = is in cc)
 comes_next (suc head) _ rest is = refl
 
 pub no_duty : (head : ℕ) → ready head [] ≡ []

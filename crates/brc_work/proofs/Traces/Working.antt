@@ -2,15 +2,15 @@
 use Rattle.std.proofs.Common.{◌≡◌, ℕ, zero, suc, ◌+◌, Bool, true, false, cond, List, [], ◌∷◌, ◌++◌, append_assoc, append-nil, inl, inr, refl, sym, ap, ◌∙◌, subst}
 use Rattle.std.specs.Prelude.{◌==◌, ◌&&◌, nat_lt}
 use Rattle.std.proofs.lemmas.Bool.{cases_Bool}
-use Rattle.brc_word.specs.Words.{is_immortal_word, local_part, fresh_word, dead_word, released_word, merged_word, most_local}
+use Rattle.brc_word.specs.Words.{is_immortal_word, local_part, fresh_word, dead_word, released_word, merged_word, most_local, mark_at}
 use Rattle.brc_host.specs.HostCalls.{HostCall, Close}
 use Rattle.brc_lang.specs.declared.module.Instr.{Instr}
-use Rattle.brc_model.specs.Duties.{continuation, new_head, ready, counts_locally, has_resource, cells_of, cells_from, claimed, release_found}
-use Rattle.brc_model.specs.Layout.{row_at}
+use Rattle.brc_model.specs.Duties.{found_row, continuation, new_head, ready, counts_locally, has_resource, cells_of, cells_from, claimed, release_found}
+use Rattle.brc_model.specs.Layout.{mark_bit}
 use Rattle.brc_model.specs.Machine.{is_running}
 use Rattle.brc_model.specs.declared.actor.Place.{Place}
 use Rattle.brc_model.specs.declared.duty.Duty.{Duty}
-use Rattle.brc_model.specs.declared.duty.Duty.TheVariants.{RetainLoad, RetainStore, RetainAdd, ReleaseLoad, ReleaseStore, DecideAtZero, SharedLoad, SharedExchange, SetMark, Look, TakeMark, MergeSwap, MergeLoad, MergeExchange, Die, Settle, SettleKind, SettleCell, TakeSlot, CloseResource, SettleEnd, Scan, ClaimMark, BirthKind, BirthSlot, CellSwap, LendSlot, ReturnSlot}
+use Rattle.brc_model.specs.declared.duty.Duty.TheVariants.{RetainLoad, RetainStore, RetainAdd, ReleaseLoad, ReleaseStore, DecideAtZero, SharedLoad, SharedExchange, SetMark, Look, TakeMark, MergeSwap, MergeLoad, MergeExchange, Die, Settle, SettleKind, SettleCell, TakeSlot, CloseResource, SettleEnd, Scan, TakeFound, ClaimMark, BirthKind, BirthSlot, CellSwap, LendSlot, ReturnSlot}
 use Rattle.brc_model.specs.declared.duty.Reason.TheVariants.{Own, Handed}
 use Rattle.brc_model.specs.declared.layout.Layout.{Layout}
 use Rattle.brc_table.specs.declared.view.View.{View}
@@ -66,15 +66,19 @@ ready_off zero [] off = refl
 ready_off zero (Settle ∷ ds) off = ready_off zero ds off
 ready_off zero (Scan i zero ∷ ds) off = ready_off zero ds off
 ready_off zero (Scan i (suc n) ∷ ds) off = off
+ready_off zero (TakeFound w zero ∷ ds) off = ready_off zero ds off
+ready_off zero (TakeFound w (suc n) ∷ ds) off = off
 ready_off zero (d ∷ ds) off = off
 ready_off (suc head) [] off = refl
 ready_off (suc head) (Scan i zero ∷ ds) off = ready_off (suc head) ds off
 ready_off (suc head) (Scan i (suc n) ∷ ds) off = off
+ready_off (suc head) (TakeFound w zero ∷ ds) off = ready_off (suc head) ds off
+ready_off (suc head) (TakeFound w (suc n) ∷ ds) off = off
 ready_off (suc head) (d ∷ ds) off = off
 
-claimed_off : (x found : ℕ) (ds : List Duty) → are_off_slots ds ≡ true → are_off_slots (claimed x found ++ ds) ≡ true
-claimed_off x found ds off =
-    off_then (claimed x found) ds (off_either (found == 1) (MergeSwap x Handed ∷ []) [] refl refl) off
+claimed_off : (x mark : ℕ) (ds : List Duty) → are_off_slots ds ≡ true → are_off_slots (claimed x mark ++ ds) ≡ true
+claimed_off x mark ds off =
+    off_then (claimed x mark) ds (off_either (mark == 1) (MergeSwap x Handed ∷ []) [] refl refl) off
 
 cells_off : (x i n : ℕ) → are_off_slots (cells_from x i n) ≡ true
 cells_off x i n = off_either (nat_lt i n) (SettleCell x i n ∷ []) (SettleEnd x ∷ []) refl refl
@@ -103,7 +107,7 @@ next_off layout t running head (SharedExchange x r w) found off other =
     (off_either (released_word w == dead_word) (Die x ∷ []) [] refl refl)) refl
 next_off layout t running head (Look x) found off other = off_either (found == 1) [] (TakeMark x ∷ []) refl refl
 next_off layout t running head (TakeMark x) found off other =
-    off_either (found == 1) (MergeSwap x Handed ∷ []) [] refl refl
+    off_either (mark_at found (mark_bit layout x) == 1) (MergeSwap x Handed ∷ []) [] refl refl
 next_off layout t running head (MergeSwap x Own) found off other =
     off_either (found == 0) [] (MergeLoad x (local_part found) Own ∷ []) refl refl
 next_off layout t running head (MergeSwap x Handed) found off other =
@@ -122,8 +126,10 @@ next_off layout t running head (TakeSlot x) found off other = absurd (let wrong 
 next_off layout t running head (CloseResource x) found off other = absurd (let wrong : false ≡ true = off in cc)
 next_off layout t running head (BirthKind x h w) found off other = absurd (let wrong : false ≡ true = off in cc)
 next_off layout t running head (BirthSlot x h) found off other = absurd (let wrong : false ≡ true = off in cc)
-next_off layout t running head (Scan i n) found off other = claimed_off (row_at layout t i) found _ refl
-next_off layout t running head (ClaimMark x) found off other = claimed_off x found _ refl
+next_off layout t running head (TakeFound w marks) found off other =
+    claimed_off (found_row layout t w marks) (mark_at found (mark_bit layout (found_row layout t w marks))) _ refl
+next_off layout t running head (ClaimMark x) found off other =
+    claimed_off x (mark_at found (mark_bit layout x)) _ refl
 next_off layout t running head (CellSwap x i y h) found off other =
     subst (λ (ds : List Duty). are_off_slots ds ≡ true) (append-nil (release_found found)) (found_off found [] refl)
 next_off layout t running head _ found off other = refl
@@ -155,10 +161,14 @@ ready_behind zero [] rest = refl
 ready_behind zero (Settle ∷ ds) rest = ready_behind zero ds rest
 ready_behind zero (Scan i zero ∷ ds) rest = ready_behind zero ds rest
 ready_behind zero (Scan i (suc n) ∷ ds) rest = refl
+ready_behind zero (TakeFound w zero ∷ ds) rest = ready_behind zero ds rest
+ready_behind zero (TakeFound w (suc n) ∷ ds) rest = refl
 ready_behind zero (d ∷ ds) rest = refl
 ready_behind (suc head) [] rest = refl
 ready_behind (suc head) (Scan i zero ∷ ds) rest = ready_behind (suc head) ds rest
 ready_behind (suc head) (Scan i (suc n) ∷ ds) rest = refl
+ready_behind (suc head) (TakeFound w zero ∷ ds) rest = ready_behind (suc head) ds rest
+ready_behind (suc head) (TakeFound w (suc n) ∷ ds) rest = refl
 ready_behind (suc head) (d ∷ ds) rest = refl
 
 -- to settle, or nothing

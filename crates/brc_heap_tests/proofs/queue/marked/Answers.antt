@@ -1,16 +1,12 @@
-use Rattle.std.proofs.Common.{sym, ap, ◌∙◌, subst}
 use Rattle.brc_model.specs.Layout.{root_row}
-use Rattle.brc_table.specs.Views.{view_after, turned}
-use Rattle.brc_table.specs.Accesses.{IsNext}
 use Rattle.brc_heap_tests.proofs.Marking.{looks, still_marks}
 use Rattle.brc_heap_tests.proofs.queue.marked.Goals as goal
 
 pub go_on-requires-2-clause-may : goal.go_on-requires-2-clause-may
 go_on-requires-2-clause-may c =
-    still_marks c.args.hand.now.view c.go_on.new.hand.view root_row c.requires.acts c.requires.duty
-    (c.go_on.ensures.view ∙ ap (view_after (turned c.args.hand.now.view root_row)) c.go_on.ensures.overwrites)
+    still_marks c.args.hand.now.view c.go_on.new.hand.view root_row c.go_on.result c.requires.acts c.requires.duty
+    c.go_on.ensures.view
 
 pub go_on-requires-2-clause-next : goal.go_on-requires-2-clause-next
 go_on-requires-2-clause-next c =
-    looks c.args.hand.now.view c.go_on.new.hand.view root_row c.requires.duty
-    (c.go_on.ensures.view ∙ ap (view_after (turned c.args.hand.now.view root_row)) c.go_on.ensures.overwrites)
+    looks c.args.hand.now.view c.go_on.new.hand.view root_row c.go_on.result c.requires.duty c.go_on.ensures.view

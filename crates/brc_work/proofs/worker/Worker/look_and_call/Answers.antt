@@ -1,5 +1,5 @@
 use Rattle.std.proofs.Common.{refl, sym, ap, ◌∙◌}
-use Rattle.brc_queue.specs.Scans.{HasScanned}
+use Rattle.brc_queue.specs.Scans.{HasScanned, words_used}
 use Rattle.brc_table.specs.Hands.{TableState}
 use Rattle.brc_work.proofs.Calling.{looked_called, called_then}
 use Rattle.brc_work.proofs.Counting.{looks_close, asked_closes, asked_then}
@@ -27,7 +27,7 @@ returns-clause-asked g c =
       looks = looks;
       called = makes;
     })
-    (asked_closes {Made = λ cs. HasScanned c.args.hand.now.view c.args.hand.now.view.actor.used cs
+    (asked_closes {Made = λ cs. HasScanned c.args.hand.now.view (words_used c.args.hand.now.view.actor.used) cs
     c.merge_pending-failed.new.hand.view} work.0 c.merge_pending-failed.result (looks_close _ _ _ work.0 work.1) work.2
     c.count_close_faults.ensures work.3 work.1)
     c.call.ensures.asked
