@@ -11,12 +11,14 @@ use lib.ListN.{get_elem?}
 use Rattle.brc_word.specs.Words.{owner_part, local_part, biased_part, phase_part, bias}
 use Rattle.brc_model.specs.declared.duty.Duty.{Duty}
 use Rattle.brc_model.specs.declared.duty.Holding.TheVariants.{AsCaller}
-use Rattle.brc_model.specs.declared.address.Address.TheVariants.{Local, Shared, Gate, Mark, Cell}
+use Rattle.brc_model.specs.declared.address.Address.TheVariants.{Local, Shared, Gate, Cell}
 use Rattle.brc_model.specs.declared.layout.Layout.{Layout}
 use Rattle.brc_model.specs.Layout.{row_count, block_of, IsCounted}
 use Rattle.brc_model.specs.AbstractState.{references_to}
 use Rattle.brc_model.specs.Limits.{cell_limit}
 use Rattle.brc_model.specs.References.{word_holds}
+use Rattle.brc_model.specs.Machine.{mark_of}
+use Rattle.brc_table.proofs.RowMarks.{mark_reads}
 use Rattle.brc_table.specs.Places.{place}
 use Rattle.brc_model.specs.Agreement.{awaits, carries, weighed, HasDuty, SomeThreadHas, OwnerHas, decides_or_merges, has_swapped, IsPhase, biased_total, awaiting}
 use Rattle.brc_model.specs.Agreement as model
@@ -31,7 +33,7 @@ use Rattle.brc_model.specs.CountingLaws as laws
 use Rattle.brc_table.specs.declared.view.View.{View}
 use Rattle.brc_table.specs.Views.{holds, open_work}
 use Rattle.brc_table.specs.Rule.{Stands}
-use Rattle.brc_table.specs.Agreeing.{local_at, shared_at, mark_at, gives_up, makes, over_work, listed, in_cells, pending, IsInUse, IsCountedLocally, SomeHandHas, OwnersHandHas, IsDeadGate, IsFreeOf, AgreesInTable}
+use Rattle.brc_table.specs.Agreeing.{local_at, shared_at, row_mark, gives_up, makes, over_work, listed, in_cells, pending, IsInUse, IsCountedLocally, SomeHandHas, OwnersHandHas, IsDeadGate, IsFreeOf, AgreesInTable}
 use Rattle.brc_table.specs.Ending.{gate_at}
 use Rattle.brc_table.proofs.Dead.{IsDeadRow, dead_row, makes_none}
 use Rattle.brc_table.proofs.ThreadHands.{thread_is}
@@ -305,7 +307,8 @@ module _ (layout : Layout) (words : List ℕ) (views : List View) (s : Stands la
       let cells : in_cells m.layout words x ≡ in_cells layout words x =
       ap (λ (l : Layout). in_cells l words x) s.layout_is in
       let made = none_made x dead in
-      let mark : m.memory (Mark x) ≡ mark_at words x = s.reads (Mark x) there in
+      let mark : mark_of m.layout m.memory x ≡ row_mark layout words x =
+      mark_reads layout words views s x there ∙ ap (λ (l : Layout). row_mark l words x) s.layout_is in
       record {
         unlisted = omega (arith, refs, made, dead.row.references);
         unnamed = omega (arith, refs, made, dead.row.references, cells);
@@ -327,7 +330,8 @@ agrees_in_table law hold layout words views x s is there =
     row_says law s.accounts (1 + m.layout.workers) m x s.counts is' (m.life x) refl (s.counts.kept.core.rows x is') in
     let local : m.memory (Local x) ≡ local_at words x = s.reads (Local x) there' in
     let shared : m.memory (Shared x) ≡ shared_at words x = s.reads (Shared x) there' in
-    let mark : m.memory (Mark x) ≡ mark_at words x = s.reads (Mark x) there' in
+    let mark : mark_of m.layout m.memory x ≡ row_mark layout words x =
+    mark_reads layout words views s x there' ∙ ap (λ (l : Layout). row_mark l words x) s.layout_is in
     let phase = ap phase_part shared in
     let biased = ap biased_part shared in
     let carried = work layout words views s (carries x) in
@@ -335,7 +339,7 @@ agrees_in_table law hold layout words views x s is there =
     let refs = references layout words views s hold x is' in
     let cells : in_cells m.layout words x ≡ in_cells layout words x =
     ap (λ (l : Layout). in_cells l words x) s.layout_is in
-    let awaits_is : awaiting m x ≡ pending words views x = omega (arith, mark, awaited) in
+    let awaits_is : awaiting m x ≡ pending layout words views x = omega (arith, mark, awaited) in
     let in_use : IsInUse layout words views x → 1 ≤ uses m x = λ used. omega (arith, used, refs, cells, awaits_is) in
     record {
       total = omega (arith, says.total, ap local_part local, biased, carried, refs, cells, awaits_is);

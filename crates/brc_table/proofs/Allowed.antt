@@ -1,5 +1,5 @@
 -- What a table asks of a step: whatever its words are, the hand can go on, and the rule holds again.
-use Rattle.std.proofs.Common.{◌≡◌, ◌≢◌, ℕ, ◌+◌, Option, None, Some, List, [], ◌∷◌, set, inl, refl, sym, ap, ◌∙◌, subst, arith}
+use Rattle.std.proofs.Common.{◌≡◌, ◌≢◌, ℕ, ◌+◌, ◌<◌, ◌^◌, Option, None, Some, List, [], ◌∷◌, set, inl, refl, sym, ap, ◌∙◌, subst, arith}
 use Rattle.std.specs.Prelude.{slice_index}
 use Rattle.std.proofs.lemmas.List.{set-set}
 use Rattle.std.proofs.lemmas.Option.{slice_get_within}
@@ -119,12 +119,13 @@ module _ (laws : ModelLaws) (layout : Layout) (v u : View)
             (finds laws.kept laws.within laws.guarded layout words views id u d rest does) tells;
       }
 
-  -- What a table asks of the word that the step leaves.
+  -- What a table asks of the word that the step leaves. The word that it finds is one of 64 bits.
   abbrev pub LeavesWord : (ℕ → ℕ) → Type 0
   LeavesWord f =
-      ((found : ℕ) → Knows u d (read_of u d found)
-      → read_of u d (f found) ≡ new_word u.thread u.actor.head d (read_of u d found))
+      ((found : ℕ) → found < 2 ^ 64 → Knows u d (read_of u d found)
+      → read_of u d (f found) ≡ new_word u.layout u.thread u.actor.head d (read_of u d found))
       × ((words : List ℕ) (views : List View) (id : ℕ) (does : Does layout words views id u d rest)
+      → slice_index words (place_of u d) < 2 ^ 64
       → KeepsThreads does.stands.machine.layout words
       (set words (place_of u d) (f (slice_index words (place_of u d)))) u
       (view_by u (d ∷ rest) (read_of u d (slice_index words (place_of u d)))))
@@ -172,16 +173,16 @@ module _ (laws : ModelLaws) (layout : Layout) (v u : View)
         (finds laws.kept laws.within laws.guarded layout s.words (set s.views id u) id u d rest does
         ∙ ap (read_of u d) same)
 
-    module _ (f : ℕ → ℕ) (leaves : LeavesWord f) where
+    module _ (f : ℕ → ℕ) (leaves : LeavesWord f) (small : word < 2 ^ 64) where
       after : Passes layout (set s.words (place_of u d) (f word))
           (set (set s.views id u) id (view_by u (d ∷ rest) (read_of u d (slice_index s.words (place_of u d))))) [] None
           first.stands.machine
       after =
           passes_after laws.kept laws.within laws.guarded layout s.words (set s.views id u) id u d rest does (f word)
-          (leaves.0 word known ∙ ap (λ (k : ℕ). new_word u.thread u.actor.head d (read_of u d k)) (sym same))
+          (leaves.0 word small known ∙ ap (λ (k : ℕ). new_word u.layout u.thread u.actor.head d (read_of u d k)) (sym same))
           (subst (λ (k : ℕ). KeepsThreads does.stands.machine.layout s.words (set s.words (place_of u d) (f k)) u
           (view_by u (d ∷ rest) (read_of u d (slice_index s.words (place_of u d))))) same
-          (leaves.1 s.words (set s.views id u) id does))
+          (leaves.1 s.words (set s.views id u) id does (subst (λ (k : ℕ). k < 2 ^ 64) (sym same) small)))
 
       moved : Passes layout (set s.words index (f word)) (set s.views id w) [] None first.stands.machine
       moved =
@@ -241,10 +242,10 @@ module _ (laws : ModelLaws) (layout : Layout) (v u : View)
         keeps,
         tt,
         record {
-          stands = (now s holds id mine f leaves).stands;
-          slots = slots_now s holds id mine f leaves (stays (read_of u d (slice_index s.words index)));
+          stands = (now s holds id mine f leaves below).stands;
+          slots = slots_now s holds id mine f leaves below (stays (read_of u d (slice_index s.words index)));
         },
-        goes (slice_index s.words index) (known s holds id mine) (rows_now s holds id mine f leaves),
+        goes (slice_index s.words index) (known s holds id mine) (rows_now s holds id mine f leaves below),
       )
 
 -- ---- a step on an object's word
@@ -271,17 +272,18 @@ module _ (laws : ModelLaws) (layout : Layout) (v u : View)
   pub itself : (word : ℕ) → read_of u d word ≡ word
   itself word = object_reads (address_of u.layout u.thread u.actor.head d) word is_at.object
 
-  pub object_leaves : (f : ℕ → ℕ) → ((found : ℕ) → Knows u d found → f found ≡ new_word u.thread u.actor.head d found)
+  pub object_leaves : (f : ℕ → ℕ)
+      → ((found : ℕ) → found < 2 ^ 64 → Knows u d found → f found ≡ new_word u.layout u.thread u.actor.head d found)
       → LeavesWord laws layout v u d rest index becomes (object_next u d rest index is_at) f
   object_leaves f leaves = (
-    λ found known.
-        itself (f found) ∙ (leaves found (subst (Knows u d) (itself found) known)
-        ∙ ap (new_word u.thread u.actor.head d) (sym (itself found))),
-    λ words views i does.
+    λ found small known.
+        itself (f found) ∙ (leaves found small (subst (Knows u d) (itself found) known)
+        ∙ ap (new_word u.layout u.thread u.actor.head d) (sym (itself found))),
+    λ words views i does small.
         let m = does.stands.machine in
         let raw = slice_index words (place_of u d) in
         object_step m.layout words u (view_by u (d ∷ rest) (read_of u d raw)) (event_of u d (read_of u d raw)) (f raw)
-        does.stands.plain.few_workers
+        does.stands.plain
         (omega (
           arith,
           slice_get_within m.actors u.thread u.actor (does.stands.acts i u does.here),

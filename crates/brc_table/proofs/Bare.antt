@@ -18,7 +18,7 @@ use Rattle.brc_table.specs.Accesses.{HasAccess, bare, row_of}
 -- What a step needs of duty d is the same of duty e.
 pub record IsLike (d e : Duty) : Type 0 where
   pub address : (layout : Layout) (t head : ℕ) → address_of layout t head d ≡ address_of layout t head e
-  pub word : (t head found : ℕ) → new_word t head d found ≡ new_word t head e found
+  pub word : (layout : Layout) (t head found : ℕ) → new_word layout t head d found ≡ new_word layout t head e found
   pub head : (head found : ℕ) → new_head head d found ≡ new_head head e found
   pub used : (used : ℕ) → used_by used d ≡ used_by used e
   pub status : (s : Status) → status_by s d ≡ status_by s e
@@ -34,7 +34,7 @@ pub record IsLike (d e : Duty) : Type 0 where
 like_bare : (d : Duty) → IsLike d (bare d)
 like_bare (RetainLoad x h) = record {
   address = λ layout t head. refl;
-  word = λ t head found. refl;
+  word = λ layout t head found. refl;
   head = λ head found. refl;
   used = λ used. refl;
   status = λ s. refl;
@@ -49,7 +49,7 @@ like_bare (RetainLoad x h) = record {
 }
 like_bare _ = record {
   address = λ layout t head. refl;
-  word = λ t head found. refl;
+  word = λ layout t head found. refl;
   head = λ head found. refl;
   used = λ used. refl;
   status = λ s. refl;
@@ -66,7 +66,7 @@ like_bare _ = record {
 bare_like : (d : Duty) → IsLike (bare d) d
 bare_like (RetainLoad x h) = record {
   address = λ layout t head. refl;
-  word = λ t head found. refl;
+  word = λ layout t head found. refl;
   head = λ head found. refl;
   used = λ used. refl;
   status = λ s. refl;
@@ -81,7 +81,7 @@ bare_like (RetainLoad x h) = record {
 }
 bare_like _ = record {
   address = λ layout t head. refl;
-  word = λ t head found. refl;
+  word = λ layout t head found. refl;
   head = λ head found. refl;
   used = λ used. refl;
   status = λ s. refl;
@@ -98,7 +98,7 @@ bare_like _ = record {
 like_by : (a b c : Duty) → IsLike a b → IsLike b c → IsLike a c
 like_by a b c one other = record {
   address = λ layout t head. one.address layout t head ∙ other.address layout t head;
-  word = λ t head found. one.word t head found ∙ other.word t head found;
+  word = λ layout t head found. one.word layout t head found ∙ other.word layout t head found;
   head = λ head found. one.head head found ∙ other.head head found;
   used = λ used. one.used used ∙ other.used used;
   status = λ s. one.status s ∙ other.status s;

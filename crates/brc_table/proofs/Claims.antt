@@ -8,7 +8,7 @@ use Rattle.brc_model.specs.declared.duty.Holding.{Holding}
 use Rattle.brc_model.specs.declared.duty.Holding.TheVariants.{InFlight}
 use Rattle.brc_model.specs.declared.duty.Reason.TheVariants.{Own}
 use Rattle.brc_model.specs.declared.duty.Duty.{Duty}
-use Rattle.brc_model.specs.declared.duty.Duty.TheVariants.{RetainLoad, RetainStore, RetainAdd, ReleaseLoad, ReleaseStore, SharedLoad, SharedExchange, Settle, SettleCell, SettleEnd, Leave, Scan, Finish, BirthKind, BirthSlot, BirthLocal, CellSwap}
+use Rattle.brc_model.specs.declared.duty.Duty.TheVariants.{RetainLoad, RetainStore, RetainAdd, ReleaseLoad, ReleaseStore, SharedLoad, SharedExchange, Settle, SettleCell, SettleEnd, Leave, Scan, TakeFound, Finish, BirthKind, BirthSlot, BirthLocal, CellSwap}
 use Rattle.brc_model.specs.declared.actor.Status.{Status}
 use Rattle.brc_model.specs.declared.actor.Status.TheVariants.{Running, Leaving, Gone}
 use Rattle.brc_model.specs.AbstractState.{same_holding}
@@ -196,6 +196,9 @@ none_later s used status (Leave i n ∷ []) later =
 none_later s used status (Scan i n ∷ rest) later =
     ap (λ (l : List Holding). l ++ all_holdings s.holdings rest) (s.later used status (Scan i n) rest later)
     ∙ none_later s used status rest later.2
+none_later s used status (TakeFound w marks ∷ rest) later =
+    ap (λ (l : List Holding). l ++ all_holdings s.holdings rest) (s.later used status (TakeFound w marks) rest later)
+    ∙ none_later s used status rest later.2
 none_later s used status (Finish ∷ []) later =
     ap (λ (l : List Holding). l ++ []) (s.later used status Finish [] later)
 none_later s used status _ later = absurd later
@@ -206,6 +209,7 @@ behind s used status Settle rest fits = none_later s used status rest fits
 behind s used status (Leave i n) [] fits = refl
 behind s used status (Leave i n) (e ∷ rest) fits = absurd fits
 behind s used status (Scan i n) rest fits = none_later s used status rest fits.2
+behind s used status (TakeFound w marks) rest fits = none_later s used status rest fits.2
 behind s used status Finish [] fits = refl
 behind s used status Finish (e ∷ rest) fits = absurd fits
 behind s used status _ rest fits = none_later s used status rest fits

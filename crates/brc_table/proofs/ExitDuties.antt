@@ -1,16 +1,16 @@
--- The duties of a hand that claims a mark of its block, or leaves: where their words are, and how the hand begins.
+-- The duties of a hand that looks through its queue, or leaves: where their words are, and how the hand begins.
 use Rattle.std.proofs.Common.{◌≡◌, ℕ, zero, suc, ◌+◌, ◌*◌, ◌<◌, ◌≤◌, Bool, cond, List, [], ◌∷◌, set, inl, inr, refl, sym, ap, ◌∙◌, subst, arith}
 use Rattle.std.specs.Prelude.{◌==◌, count_by}
 use Rattle.std.proofs.Math.Nat.{mul-le-mul_right}
 use Rattle.std.proofs.lemmas.Bool.{cases_Bool, lt-ltb}
 use Rattle.brc_model.specs.declared.duty.Holding.TheVariants.{ByVariable, AsCaller, InFlight}
-use Rattle.brc_model.specs.declared.duty.Duty.TheVariants.{ClaimMark, Leave}
+use Rattle.brc_model.specs.declared.duty.Duty.TheVariants.{ClaimMark, MarksLoad, Leave}
 use Rattle.brc_model.specs.declared.layout.Layout.{Layout}
-use Rattle.brc_model.specs.Layout.{front_rows, worker_rows, block_of, block_size, row_at, row_count, is_immortal_row}
+use Rattle.brc_model.specs.Layout.{front_rows, worker_rows, block_of, block_size, row_at, row_count, mark_words_of, is_immortal_row}
 use Rattle.brc_model.specs.Accounts.{HoldsNone}
-use Rattle.brc_model.specs.CountingLaws.{DutiesAreKept, ReleasesBegin, ClaimsBegin, ExitsBegin}
+use Rattle.brc_model.specs.CountingLaws.{DutiesAreKept, ReleasesBegin, ClaimsBegin, MarkLoadsBegin, ExitsBegin}
 use Rattle.brc_table.specs.declared.view.View.{View}
-use Rattle.brc_table.specs.Views.{RowsAreThere, claiming, leaving}
+use Rattle.brc_table.specs.Views.{RowsAreThere, claiming, loading_marks, leaving}
 use Rattle.brc_table.specs.Begins.{Passes, Becomes}
 use Rattle.brc_table.specs.Hands.{MayWait}
 use Rattle.brc_model.specs.Machine.{Machine}
@@ -37,6 +37,20 @@ claiming_becomes law layout v x free own there = record {
   same = refl;
   in_slot = λ y locks. refl;
   uses = waiting_uses v (claiming v x) (subst MayWait (sym free.agenda) tt) refl;
+}
+
+-- A hand begins to load a mark word of its block.
+pub loading_becomes : MarkLoadsBegin → (layout : Layout) (v : View) (w : ℕ) → IsFree v
+    → w < mark_words_of v.layout v.thread → Becomes layout v (loading_marks v w)
+loading_becomes law layout v w free there = record {
+  passes = λ words views id stands here.
+      rearranged layout words views id v stands here (MarksLoad w ∷ []) v.actor.aside
+      (law stands.accounts (1 + stands.machine.layout.workers) stands.machine v.thread v.actor w stands.counts
+      (record { found = stands.acts id v here; running = free.running; agenda = free.agenda }) free.aside
+      (subst (λ (l : Layout). w < mark_words_of l v.thread) (stands.told id v here) there));
+  same = refl;
+  in_slot = λ y locks. refl;
+  uses = waiting_uses v (loading_marks v w) (subst MayWait (sym free.agenda) tt) refl;
 }
 
 -- ---- the beginning of an exit

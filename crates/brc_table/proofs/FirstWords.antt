@@ -1,25 +1,25 @@
 -- The first words say what the words of the first machine of hands are.
-use Rattle.std.proofs.Common.{◌≡◌, ◌≢◌, ℕ, zero, suc, ◌+◌, ◌*◌, ◌/◌, ◌%◌, ◌-◌, ◌<◌, ◌≤◌, Bool, true, false, List, refl, sym, ap, ◌∙◌, arith}
+use Rattle.std.proofs.Common.{◌≡◌, ◌≢◌, ℕ, zero, suc, ◌+◌, ◌*◌, ◌/◌, ◌%◌, ◌-◌, ◌<◌, Bool, true, false, List, refl, sym, ap, ◌∙◌, arith}
 use Rattle.std.specs.Prelude.{◌==◌, nat_lt, if◌then◌else◌, slice_index}
 use Rattle.std.proofs.Math.Nat.{div-add-mod, mod-lt}
 use Rattle.std.proofs.lemmas.Bool.{ne_eqb, le-leb, le-ltb, lt-ltb}
 use Rattle.brc_word.specs.Words.{free_word, fresh_word}
 use Rattle.brc_model.specs.declared.address.Address.{Address}
-use Rattle.brc_model.specs.declared.address.Address.TheVariants.{Local, Shared, Gate, KindOf, Mark, Cell, Slot, Resource, ThreadWord}
+use Rattle.brc_model.specs.declared.address.Address.TheVariants.{Local, Shared, Gate, KindOf, Marks, Cell, Slot, Resource, ThreadWord}
 use Rattle.brc_model.specs.declared.layout.Layout.{Layout}
 use Rattle.brc_model.specs.Layout.{row_count, none_row, root_row}
-use Rattle.brc_model.specs.Limits.{worker_limit}
+use Rattle.brc_model.specs.Counting.{IsPlainLayout}
 use Rattle.brc_model.specs.Machine.{same_address}
 use Rattle.brc_model.specs.StepMachine.{rooted_memory}
-use Rattle.brc_table.specs.Places.{line, front, tile, in_tile, place, HasWord}
+use Rattle.brc_table.specs.Places.{line, front, header_lines, tile, in_tile, place, HasWord}
 use Rattle.brc_table.specs.Rule.{reading}
 use Rattle.brc_table.specs.Opening.{blank_line, blank_word, first_word, AreFirst}
-use Rattle.brc_table.proofs.Places.{place_apart, place_within}
+use Rattle.brc_table.proofs.Places.{in_front, place_apart, place_within}
 
 -- ---- lines
 
 -- A place behind the thread words is in the line that its tile's number, line and column say.
-line_of : (q l c : ℕ) → l < 13 → c < line → ((front + tile * q + line * l + c) - front) % tile / line ≡ l
+line_of : (q l c : ℕ) → l < header_lines + line → c < line → ((front + tile * q + line * l + c) - front) % tile / line ≡ l
 line_of q l c low small =
     let n = (front + tile * q + line * l + c) - front in
     let one = div-add-mod n tile in let below = mod-lt n (let h : 0 < tile = omega arith in h) in
@@ -28,7 +28,7 @@ line_of q l c low small =
     omega (arith, one, below, other, under, low, small)
 
 -- So the first value of a blank word is that of its line.
-blank_behind : (q l c : ℕ) → l < 13 → c < line → blank_word (front + tile * q + line * l + c) ≡ blank_line l
+blank_behind : (q l c : ℕ) → l < header_lines + line → c < line → blank_word (front + tile * q + line * l + c) ≡ blank_line l
 blank_behind q l c low small =
     let index = front + tile * q + line * l + c in
     let behind : nat_lt index front ≡ false = le-ltb index front (omega arith) in
@@ -50,7 +50,7 @@ first_else : (index : ℕ) → index ≢ in_tile 0 none_row → index ≢ in_til
 first_else index a b c d = rw (ne_eqb index _ a, ne_eqb index _ b, ne_eqb index _ c, ne_eqb index _ d) refl
 
 -- The same of an address.
-module _ (layout : Layout) (few : layout.workers ≤ worker_limit) where
+module _ (layout : Layout) (plain : IsPlainLayout layout) where
   none_there : none_row < row_count layout
   none_there = omega arith
 
@@ -61,10 +61,10 @@ module _ (layout : Layout) (few : layout.workers ≤ worker_limit) where
       → same_address a (Local root_row) ≡ false → same_address a (KindOf none_row) ≡ false
       → same_address a (KindOf root_row) ≡ false → first_word (place a) ≡ blank_word (place a)
   first_apart a has b c d e =
-      first_else (place a) (place_apart layout a (Local none_row) few has none_there b)
-      (place_apart layout a (Local root_row) few has root_there c)
-      (place_apart layout a (KindOf none_row) few has none_there d)
-      (place_apart layout a (KindOf root_row) few has root_there e)
+      first_else (place a) (place_apart layout a (Local none_row) plain has none_there b)
+      (place_apart layout a (Local root_row) plain has root_there c)
+      (place_apart layout a (KindOf none_row) plain has none_there d)
+      (place_apart layout a (KindOf root_row) plain has root_there e)
 
   rest_low : (x : ℕ) → x % line < line
   rest_low x = mod-lt x (omega arith)
@@ -72,7 +72,7 @@ module _ (layout : Layout) (few : layout.workers ≤ worker_limit) where
   -- The first word of main says that it runs, and those of the workers are 0.
   pub thread_first : (t : ℕ) → HasWord layout (ThreadWord t) → first_word t ≡ (if t == 0 then 1 else 0)
   thread_first t has =
-      let in_front : nat_lt t front ≡ true = lt-ltb t front (omega (arith, few, has)) in
+      let in_front : nat_lt t front ≡ true = lt-ltb t front (omega (arith, plain.few_workers, has)) in
       first_apart (ThreadWord t) has refl refl refl refl
       ∙ ap (λ (b : Bool). if b then (if t == 0 then 1 else 0) else blank_line ((t - front) % tile / line)) in_front
 
@@ -101,13 +101,17 @@ module _ (layout : Layout) (few : layout.workers ≤ worker_limit) where
       sym (first_apart (KindOf row) has refl refl (ne_eqb row none_row (λ e. omega (arith, e)))
       (ne_eqb row root_row (λ e. omega (arith, e)))
       ∙ blank_behind (row / line) 3 (row % line) (omega arith) (rest_low row))
-  first_reads (Mark x) has =
-      sym (first_apart (Mark x) has refl refl refl refl
-      ∙ blank_behind (x / line) 4 (x % line) (omega arith) (rest_low x))
+  first_reads (Marks t w) has =
+      let at = place (Marks t w) in
+      let before : nat_lt at front ≡ true = lt-ltb at front (in_front layout t w plain has) in
+      let behind : (at == 0) ≡ false = ne_eqb at 0 (λ e. omega (arith, e)) in
+      sym (first_apart (Marks t w) has refl refl refl refl
+      ∙ (ap (λ (b : Bool). if b then (if at == 0 then 1 else 0) else blank_line ((at - front) % tile / line)) before
+      ∙ ap (λ (b : Bool). if b then 1 else 0) behind))
   first_reads (Cell x i) has =
       sym (first_apart (Cell x i) has refl refl refl refl
-      ∙ blank_behind (x / line) (5 + x % line) i (omega (arith, rest_low x)) has.1
-      ∙ line_zero (5 + x % line) (omega arith))
+      ∙ blank_behind (x / line) (header_lines + x % line) i (omega (arith, rest_low x)) has.1
+      ∙ line_zero (header_lines + x % line) (omega arith))
   first_reads (Slot x) has = absurd has
   first_reads (Resource x) has = absurd has
   first_reads (ThreadWord zero) has =
@@ -123,4 +127,4 @@ module _ (layout : Layout) (few : layout.workers ≤ worker_limit) where
   pub words_read : (words : List ℕ) → AreFirst layout words → (a : Address) → HasWord layout a
       → rooted_memory layout.workers 1 a ≡ reading a (slice_index words (place a))
   words_read words first a has =
-      first_reads a has ∙ sym (ap (reading a) (first.each (place a) (place_within layout a few has)))
+      first_reads a has ∙ sym (ap (reading a) (first.each (place a) (place_within layout a plain has)))

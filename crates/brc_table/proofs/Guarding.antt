@@ -14,7 +14,7 @@ use Rattle.brc_model.specs.declared.duty.Holding.TheVariants.{AsCaller}
 use Rattle.brc_model.specs.declared.actor.Status.{Status}
 use Rattle.brc_model.specs.declared.actor.Status.TheVariants.{Running, Leaving, Gone}
 use Rattle.brc_model.specs.declared.address.Address.{Address}
-use Rattle.brc_model.specs.declared.address.Address.TheVariants.{Local, Gate, KindOf, Mark, Cell, ThreadWord}
+use Rattle.brc_model.specs.declared.address.Address.TheVariants.{Local, Gate, KindOf, Cell, ThreadWord}
 use Rattle.brc_model.specs.declared.layout.Layout.{Layout}
 use Rattle.brc_model.specs.Layout.{row_count, block_of, index_of, root_row, IsCounted}
 use Rattle.brc_model.specs.Duties.{address_of, new_word}
@@ -31,6 +31,8 @@ use Rattle.brc_model.specs.SlotLaws.{UsesSlot, needs_slot}
 use Rattle.brc_model.proofs.Basics.Blocks.{block_within}
 use Rattle.brc_model.proofs.Basics.Lists.{some_is}
 use Rattle.brc_model.proofs.Basics.Written.{written_here}
+use Rattle.brc_table.specs.Agreeing.{row_mark}
+use Rattle.brc_table.proofs.RowMarks.{mark_reads}
 use Rattle.brc_table.specs.declared.view.View.{View}
 use Rattle.brc_table.specs.Places.{place, HasWord}
 use Rattle.brc_table.specs.Views.{holds}
@@ -121,11 +123,13 @@ module _ (layout : Layout) (words : List ℕ) (views : List View) (v : View) (d 
       it.stands.reads a has ∙ plain (slice_index words (place a)) in
       let at : address_of now.layout v.thread v.actor.head d ≡ a =
       subst (λ (l : Layout). address_of l v.thread v.actor.head d ≡ a) (sym it.stands.layout_is) it.at in
-      let after : (machine_by_duty now v.thread v.actor d it.rest).memory a ≡ new_word v.thread v.actor.head d
+      let after : (machine_by_duty now v.thread v.actor d it.rest).memory a ≡ new_word now.layout v.thread v.actor.head d
       (now.memory a) =
-      ap (λ (b : Address). written now.memory b (new_word v.thread v.actor.head d (now.memory b)) a) at
-      ∙ written_here now.memory a (new_word v.thread v.actor.head d (now.memory a)) in
-      it.other (ap (new_word v.thread v.actor.head d) (sym found) ∙ (sym after ∙ (same ∙ found)))
+      ap (λ (b : Address). written now.memory b (new_word now.layout v.thread v.actor.head d (now.memory b)) a) at
+      ∙ written_here now.memory a (new_word now.layout v.thread v.actor.head d (now.memory a)) in
+      it.other
+      (ap (λ (l : Layout). new_word l v.thread v.actor.head d (slice_index words (place a))) (sym it.stands.layout_is)
+      ∙ (ap (new_word now.layout v.thread v.actor.head d) (sym found) ∙ (sym after ∙ (same ∙ found))))
 
 -- ---- the laws
 
@@ -135,7 +139,7 @@ marks_are_watched law layout words views x s there set =
     let there' : x < row_count s.machine.layout = subst (λ (l : Layout). x < row_count l) (sym same) there in
     subst (λ (l : Layout). IsWatched l words views x) same
     (watched_so layout words views s x (law s.accounts (1 + s.machine.layout.workers) s.machine x s.counts
-    (λ none. set (sym (s.reads (Mark x) there') ∙ none))))
+    (λ none. set (sym (ap (λ (l : Layout). row_mark l words x) same) ∙ (sym (mark_reads layout words views s x there') ∙ none)))))
 
 pub holders_change : guard.CellsAreGuarded → OnlyHoldersChangeCells
 holders_change law layout words views v d x i it =

@@ -34,7 +34,7 @@ load_leaves memory x y = elim (cases_Bool (y == x)) [
 -- A kind word above 0 is not stored again.
 pub kind_stays : (layout : Layout) (memory : Address → ℕ) (t head : ℕ) (d : Duty) (x word : ℕ)
     → Overwrites t d (memory (address_of layout t head d)) → 0 < word → memory (KindOf x) ≡ word
-    → written memory (address_of layout t head d) (new_word t head d (memory (address_of layout t head d))) (KindOf x)
+    → written memory (address_of layout t head d) (new_word layout t head d (memory (address_of layout t head d))) (KindOf x)
     ≡ word
 kind_stays layout memory t head (SettleKind y) x word over more is = load_leaves memory x y ∙ is
 kind_stays layout memory t head (KindLoad y) x word over more is = load_leaves memory x y ∙ is
@@ -67,12 +67,12 @@ lock_before layout t head _ x found locked apart is = is
 -- The hand's step, as its trace has it, is the one that the machine makes.
 pub record IsStep (layout : Layout) (memory : Address → ℕ) (t head : ℕ) (d : Duty) (e : WordEvent) : Type 0 where
   pub address : e.address ≡ address_of layout t head d
-  pub left : e.left ≡ new_word t head d (memory (address_of layout t head d))
+  pub left : e.left ≡ new_word layout t head d (memory (address_of layout t head d))
 
 module _ (layout : Layout) (memory : Address → ℕ) (t head : ℕ) (d : Duty) (e : WordEvent)
     (is_step : IsStep layout memory t head d e) (trace : List WordEvent) where
   abbrev after : Address → ℕ
-  after = written memory (address_of layout t head d) (new_word t head d (memory (address_of layout t head d)))
+  after = written memory (address_of layout t head d) (new_word layout t head d (memory (address_of layout t head d)))
 
   after_is : after ≡ written memory e.address e.left
   after_is =

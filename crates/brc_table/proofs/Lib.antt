@@ -7,6 +7,7 @@ mod ThreadsKept
 mod KnownKept
 mod Stepping
 mod CellGuards
+mod RowMarks
 mod RowsThere
 mod LockedSlots
 mod Allowed

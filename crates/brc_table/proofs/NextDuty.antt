@@ -1,15 +1,16 @@
 -- The duty that comes next: where its word is, and what its step leaves of the thread.
-use Rattle.std.proofs.Common.{◌≡◌, ℕ, zero, suc, ◌+◌, ◌-◌, ◌<◌, ◌^◌, ◌⊎◌, Bool, true, List, [], ◌∷◌, inl, inr, refl, sym, ap, ◌∙◌, subst, arith, cond}
+use Rattle.std.proofs.Common.{◌≡◌, ℕ, zero, suc, ◌+◌, ◌*◌, ◌<◌, ◌≤◌, ◌^◌, ◌⊎◌, Bool, true, List, [], ◌∷◌, inl, inr, refl, sym, ap, ◌∙◌, subst, arith, cond}
 use Rattle.std.proofs.lemmas.Bool.{eq-eqb, ne_eqb}
 use Rattle.brc_model.specs.declared.duty.Duty.{Duty}
-use Rattle.brc_model.specs.declared.duty.Duty.TheVariants.{Look, Die, Settle, SettleCell, TakeSlot, CloseResource, Leave, Scan, Finish, BirthSlot, LockGate, CellLoad, CellSwap, LendSlot, ReturnSlot}
+use Rattle.brc_model.specs.declared.duty.Duty.TheVariants.{SetMark, Look, TakeMark, Die, Settle, SettleCell, TakeSlot, CloseResource, Leave, Scan, TakeFound, Finish, ClaimMark, MarksLoad, BirthSlot, LockGate, CellLoad, CellSwap, LendSlot, ReturnSlot}
 use Rattle.brc_model.specs.declared.layout.Layout.{Layout}
 use Rattle.brc_model.specs.Counting.{IsPlainLayout}
-use Rattle.brc_model.specs.Duties.{address_of, new_head}
+use Rattle.brc_word.specs.Words.{marks_of_word, lowest_mark}
+use Rattle.brc_model.specs.Duties.{address_of, new_head, found_row}
 use Rattle.brc_model.specs.Layout.{block_of, block_size, row_count}
-use Rattle.brc_model.specs.Within.{IsThere, Suits}
+use Rattle.brc_model.specs.Within.{Suits}
 use Rattle.brc_model.specs.declared.address.Address.{Address}
-use Rattle.brc_model.specs.declared.address.Address.TheVariants.{Cell, Slot, Resource, ThreadWord}
+use Rattle.brc_model.specs.declared.address.Address.TheVariants.{Marks, ThreadWord}
 use Rattle.brc_model.specs.Machine.{status_by, used_by}
 use Rattle.brc_model.specs.OpenWork.{is_about}
 use Rattle.brc_model.specs.SlotLaws.{SlotUse, use_of}
@@ -19,7 +20,6 @@ use Rattle.brc_effect.specs.declared.access.Access.TheVariants.{Store}
 use Rattle.brc_table.specs.declared.view.View.{View}
 use Rattle.brc_effect.specs.Accesses.{IfStored}
 use Rattle.brc_effect.specs.Effects.{IsIndexed}
-use Rattle.brc_effect.proofs.Indices.{indexed}
 use Rattle.brc_table.specs.Accesses.{HasAccess, HasCell, HasChain, HasNextRow, HasUsedRow, IsNext, row_of}
 use Rattle.brc_table.specs.DutySteps.{OverwritesFirst, said}
 use Rattle.brc_table.specs.Rule.{reading}
@@ -27,6 +27,7 @@ use Rattle.brc_table.specs.Places.{HasWord, IsObjectWord, IsTableWord}
 use Rattle.brc_table.specs.Plays.{overwritten, overwritten_by}
 use Rattle.brc_table.specs.Uses.{first_use, first_due, held_after}
 use Rattle.brc_table.specs.Views.{RowsAreThere, view_by, view_after, work_about}
+use Rattle.brc_table.proofs.Places.{mark_has}
 use Rattle.brc_table.proofs.Bare.{IsLike, alike}
 use Rattle.brc_table.proofs.Duties.{first_there, rows_few, work_there}
 use Rattle.brc_table.proofs.ExitDuties.{own_row_there}
@@ -67,6 +68,11 @@ table_word_of layout t head (LendSlot x) has = absurd has
 table_word_of layout t head (ReturnSlot x) has = absurd has
 table_word_of layout t head _ has = tt
 
+-- A mark word of a hand's block is there, if the hand has used a row of it.
+own_word_there : (v : View) (w : ℕ) → RowsAreThere v → marks_of_word * w < v.actor.used
+    → HasWord v.layout (Marks v.thread w)
+own_word_there v w rows low = (omega (arith, rows.thread), omega (arith, low, rows.used))
+
 -- Their word is there, if their row is.
 pub word_there : (v : View) (d : Duty) → IsPlainLayout v.layout → RowsAreThere v → HasAccess d → HasCell d
     → HasChain d v.actor.head → HasUsedRow d v.actor.used
@@ -77,7 +83,14 @@ word_there v (Look x) plain rows has cell chain used row =
 word_there v (Leave i n) plain rows has cell chain used row = omega (arith, rows.thread)
 word_there v Finish plain rows has cell chain used row = omega (arith, rows.thread)
 word_there v Settle plain rows has cell chain used row = omega (arith, rows.head, chain)
-word_there v (Scan i n) plain rows has cell chain used row = own_row_there v i rows plain.immortals used
+word_there v (Scan w n) plain rows has cell chain used row = own_word_there v w rows used
+word_there v (MarksLoad w) plain rows has cell chain used row = own_word_there v w rows used
+word_there v (TakeFound w marks) plain rows has cell chain used row =
+    mark_has v.layout (found_row v.layout v.thread w marks) plain
+    (own_row_there v (marks_of_word * w + lowest_mark marks) rows plain.immortals used.1)
+word_there v (SetMark x) plain rows has cell chain used row = mark_has v.layout x plain (row (eq-eqb x x refl))
+word_there v (TakeMark x) plain rows has cell chain used row = mark_has v.layout x plain (row (eq-eqb x x refl))
+word_there v (ClaimMark x) plain rows has cell chain used row = mark_has v.layout x plain (row (eq-eqb x x refl))
 word_there v (SettleCell x i n) plain rows has cell chain used row = (row (eq-eqb x x refl), cell)
 word_there v (CellLoad x i) plain rows has cell chain used row = (row (eq-eqb x x refl), cell)
 word_there v (TakeSlot x) plain rows has cell chain used row = absurd has
@@ -101,7 +114,7 @@ next_row_low layout t head (Die x) plain there = omega (arith, rows_few layout p
 next_row_low layout t head _ plain there = tt
 
 -- A thread has room for its numbers.
-pub block_few : (layout : Layout) (t : ℕ) → IsPlainLayout layout → block_size layout t < 2 ^ 32 - 1
+pub block_few : (layout : Layout) (t : ℕ) → IsPlainLayout layout → block_size layout t < 2 ^ 31
 block_few layout zero plain = omega (arith, plain.immortals)
 block_few layout (suc t) plain = omega (arith, plain.few_rows)
 
@@ -200,16 +213,10 @@ stored_says layout t head d (Store word b) started =
     says_itself (address_of layout t head d) b (λ at is. started layout at is)
 stored_says layout t head d _ started = tt
 
--- The address of a word of the table is there in the model.
-in_table : (layout : Layout) (a : Address) → HasWord layout a → IsThere (row_count layout) (1 + layout.workers) a
-in_table layout (Slot x) there = absurd there
-in_table layout (Resource x) there = absurd there
-in_table layout (Cell x i) there = there
-in_table layout _ there = there
-
--- The index that the duty names is small, if its word is there.
-pub index_small : (layout : Layout) (t head : ℕ) (d : Duty) → IsPlainLayout layout
-    → HasWord layout (address_of layout t head d) → IsIndexed d
-index_small layout t head d plain there =
-    indexed layout t head (row_count layout) (1 + layout.workers) d (omega (arith, rows_few layout plain))
-    (in_table layout (address_of layout t head d) there)
+-- The mark word that the duty names has no large number, if the thread has used a row of it.
+pub index_small : (layout : Layout) (t used : ℕ) (d : Duty) → IsPlainLayout layout → used ≤ block_size layout t
+    → HasUsedRow d used → IsIndexed d
+index_small layout t used (Scan w n) plain few low = omega (arith, block_few layout t plain, few, low)
+index_small layout t used (TakeFound w marks) plain few low =
+    (low.0, omega (arith, block_few layout t plain, few, low.1))
+index_small layout t used _ plain few low = tt

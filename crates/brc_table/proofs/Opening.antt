@@ -75,13 +75,13 @@ module _ (begin : HandsBegin) (layout : Layout) (plain : IsPlainLayout layout) (
   -- Main runs, and no worker is started.
   main_runs : thread_word words 0 ≡ 1
   main_runs =
-      first.each 0 (thread_within layout 0 plain (omega arith)) ∙ thread_first layout plain.few_workers 0 (omega arith)
+      first.each 0 (thread_within layout 0 plain (omega arith)) ∙ thread_first layout plain 0 (omega arith)
 
   worker_waits : (t : ℕ) → 0 < t → t ≤ layout.workers → thread_word words t ≡ 0
   worker_waits zero pos low = absurd (omega (arith, pos))
   worker_waits (suc t) pos low =
       first.each (suc t) (thread_within layout (suc t) plain low)
-      ∙ (thread_first layout plain.few_workers (suc t) (omega (arith, low))
+      ∙ (thread_first layout plain (suc t) (omega (arith, low))
       ∙ ap (λ (b : Bool). if b then 1 else 0) (ne_eqb (suc t) 0 (λ e. omega (arith, e))))
 
   pub opening : Stands layout words hands
@@ -92,7 +92,7 @@ module _ (begin : HandsBegin) (layout : Layout) (plain : IsPlainLayout layout) (
     layout_is = refl;
     plain = plain;
     length_is = first.length_is;
-    reads = words_read layout plain.few_workers words first;
+    reads = words_read layout plain words first;
     acts = λ id v is.
         of_main (λ w. slice_get (hands_machine layout).actors w.thread ≡ Some w.actor) id v is refl;
     lends_none = λ id v is. of_main (λ w. w.actor.lent ≡ None) id v is refl;

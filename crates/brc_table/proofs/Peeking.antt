@@ -109,7 +109,7 @@ module _ (accounts : AccountsAreThere) (chains : ChainsAreThere) (layout : Layou
       length_is = length-set words t found;
       reads = λ b there_b.
           sym (unwritten m.memory (ThreadWord t) b (thread_reading found) (s.reads (ThreadWord t) has))
-          ∙ written_reads m.layout words m.memory (ThreadWord t) found (thread_reading found) s.plain.few_workers
+          ∙ written_reads m.layout words m.memory (ThreadWord t) found (thread_reading found) s.plain
           s.length_is refl has s.reads b there_b;
       actors = sym (set_itself m.actors v.thread v.actor (s.acts id v here));
       thread_same = refl;

@@ -1,5 +1,5 @@
 -- The step of a duty that has an operation is allowed, whatever it does with slots.
-use Rattle.std.proofs.Common.{◌≡◌, ◌≢◌, ℕ, ◌<◌, Bool, Option, List, [], ◌∷◌, inl, inr, refl, sym, ap, ◌∙◌, subst}
+use Rattle.std.proofs.Common.{◌≡◌, ◌≢◌, ℕ, ◌<◌, ◌^◌, Bool, Option, List, [], ◌∷◌, inl, inr, refl, sym, ap, ◌∙◌, subst}
 use Rattle.atomic_table.specs.Table.{State, Me, Allows}
 use Rattle.brc_model.specs.declared.duty.Duty.{Duty}
 use Rattle.brc_model.specs.declared.duty.Duty.TheVariants.{MergeExchange, KindLoad, CellLoad}
@@ -104,8 +104,8 @@ module _ (laws : ModelLaws) (words : TableState) (hand : HandState) (begins : Vi
   -- The step of a duty that comes next leaves the duty's new word.
   next_leaves : (d : Duty) → HasAccess d → (e : Duty) (rest : List Duty) (next : IsNextAt u e rest index) → IsLike e d
       → (f : ℕ → ℕ)
-      → ((running : Bool) (n found : ℕ) → Suits u.thread running n d found
-      → f found ≡ new_word u.thread u.actor.head d found)
+      → ((running : Bool) (n found : ℕ) → found < 2 ^ 64 → Suits u.thread running n d found
+      → f found ≡ new_word u.layout u.thread u.actor.head d found)
       → allowed.LeavesWord laws layout me.0 u e rest index becoming next f
   next_leaves d has e rest next like f leaves = elim (word_of u.layout u.thread u.actor.head d has) [
     | inl object ↦
@@ -116,12 +116,12 @@ module _ (laws : ModelLaws) (words : TableState) (hand : HandState) (begins : Vi
           index_is = next.index_is;
         } in
         allowed.object_leaves laws layout me.0 u e rest index becoming is_at f
-        (λ found knows.
-        leaves (is_running u.actor.status) (row_count u.layout) found
+        (λ found small knows.
+        leaves (is_running u.actor.status) (row_count u.layout) found small
         (like.suits u.thread (is_running u.actor.status) (row_count u.layout) found knows.suits)
-        ∙ sym (like.word u.thread u.actor.head found))
+        ∙ sym (like.word u.layout u.thread u.actor.head found))
     | inr (on, suits) ↦
-        let word = like.word u.thread u.actor.head in
+        let word = like.word u.layout u.thread u.actor.head in
         thread_leaves laws layout me.0 u e rest index becoming next
         (record {
           thread = on.thread;
@@ -133,8 +133,8 @@ module _ (laws : ModelLaws) (words : TableState) (hand : HandState) (begins : Vi
           ];
         })
         f
-        (λ found.
-        leaves (is_running u.actor.status) (row_count u.layout) found
+        (λ found small.
+        leaves (is_running u.actor.status) (row_count u.layout) found small
         (suits (is_running u.actor.status) (row_count u.layout) found)
         ∙ sym (word found))
   ]
@@ -144,8 +144,8 @@ module _ (laws : ModelLaws) (words : TableState) (hand : HandState) (begins : Vi
       → HasAccess d → IsNext d u.actor.agenda → u.actor.status ≢ Gone → index
       ≡ place (address_of u.layout u.thread u.actor.head d)
       → (f : ℕ → ℕ)
-      → ((running : Bool) (n found : ℕ) → Suits u.thread running n d found
-      → f found ≡ new_word u.thread u.actor.head d found)
+      → ((running : Bool) (n found : ℕ) → found < 2 ^ 64 → Suits u.thread running n d found
+      → f found ≡ new_word u.layout u.thread u.actor.head d found)
       → DueSlot (use_of d 0) (held_in me.1) u
       → Allows (λ (s : State (Option T) View). TableStands layout s.words s.homes s.views) slots id me index f
       (StepsBy begins me)

@@ -7,11 +7,11 @@ use Rattle.std.proofs.lemmas.Bool.{eq-eqb, ne_eqb, cases_Bool}
 use mathlib.Core.Option.{some}
 use lib.ListN.{get_elem?}
 use Rattle.brc_model.specs.declared.address.Address.{Address}
-use Rattle.brc_model.specs.declared.address.Address.TheVariants.{Local, Shared, Gate, KindOf, Mark, Cell, Slot, Resource, ThreadWord}
+use Rattle.brc_model.specs.declared.address.Address.TheVariants.{Local, Shared, Gate, KindOf, Marks, Cell, Slot, Resource, ThreadWord}
 use Rattle.brc_model.specs.declared.actor.Status.TheVariants.{Gone}
 use Rattle.brc_model.specs.declared.duty.Holding.{Holding}
 use Rattle.brc_model.specs.declared.duty.Duty.{Duty}
-use Rattle.brc_model.specs.declared.duty.Duty.TheVariants.{Settle, BirthSlot, BirthLocal, Scan, TakeSlot, CloseResource, SettleEnd}
+use Rattle.brc_model.specs.declared.duty.Duty.TheVariants.{Settle, BirthSlot, BirthLocal, Scan, TakeFound, TakeSlot, CloseResource, SettleEnd}
 use Rattle.brc_model.specs.declared.layout.Layout.{Layout}
 use Rattle.brc_model.specs.Duties.{address_of, new_word, continuation, ready}
 use Rattle.brc_model.specs.declared.actor.Actor.{Actor}
@@ -44,7 +44,7 @@ away x _ AtSlot memory word layout (Local y) has = refl
 away x _ AtSlot memory word layout (Shared y) has = refl
 away x _ AtSlot memory word layout (Gate y) has = refl
 away x _ AtSlot memory word layout (KindOf y) has = refl
-away x _ AtSlot memory word layout (Mark y) has = refl
+away x _ AtSlot memory word layout (Marks t w) has = refl
 away x _ AtSlot memory word layout (Cell y i) has = refl
 away x _ AtSlot memory word layout (Slot y) has = absurd has
 away x _ AtSlot memory word layout (Resource y) has = absurd has
@@ -53,7 +53,7 @@ away x _ AtResource memory word layout (Local y) has = refl
 away x _ AtResource memory word layout (Shared y) has = refl
 away x _ AtResource memory word layout (Gate y) has = refl
 away x _ AtResource memory word layout (KindOf y) has = refl
-away x _ AtResource memory word layout (Mark y) has = refl
+away x _ AtResource memory word layout (Marks t w) has = refl
 away x _ AtResource memory word layout (Cell y i) has = refl
 away x _ AtResource memory word layout (Slot y) has = absurd has
 away x _ AtResource memory word layout (Resource y) has = absurd has
@@ -98,6 +98,8 @@ ready_silent : (x head : ℕ) (d : Duty) (rest : List Duty) → needs_slot x d �
 ready_silent x zero Settle rest needs = absurd cc
 ready_silent x zero (Scan i n) rest needs = absurd cc
 ready_silent x (suc head) (Scan i n) rest needs = absurd cc
+ready_silent x zero (TakeFound w marks) rest needs = absurd cc
+ready_silent x (suc head) (TakeFound w marks) rest needs = absurd cc
 ready_silent x zero _ rest needs = refl
 ready_silent x (suc head) _ rest needs = refl
 
@@ -189,7 +191,7 @@ module _ (kept : DutiesAreKept) (unlocked : NeededSlotsAreUnlocked) (layout : La
       passed : Passes layout words (set views id u) v.taken v.actor.locked m
       passed =
           let at = silent.at m.layout t a.head in
-          let word = new_word t a.head d (m.memory address) in
+          let word = new_word m.layout t a.head d (m.memory address) in
           passes layout words views id v u s here words (record {
             accounts = s.accounts;
             machine = machine_by_duty m t a d rest;

@@ -61,11 +61,11 @@ module _ (laws : ModelLaws) where
         let next = object_next u (LockGate x) [] index is_at in
         let leaves =
         allowed.object_leaves laws layout v u (LockGate x) [] index becomes is_at f
-        (λ found knows. either_is found free_word gate free_word (locked_word v.thread) refl names) in
+        (λ found small knows. either_is found free_word gate free_word (locked_word v.thread) refl names) in
         let w = view_by u (LockGate x ∷ []) word in
         let rows =
         allowed.rows_now laws layout v u (LockGate x) [] index becomes next s holds id mine
-        f leaves in
+        f leaves below in
         elim (cases_Bool (word == free_word)) [
           | inl is_free ↦
               let takes_it : use_of (LockGate x) word ≡ Takes x = ap (λ (b : Bool). cond b (Takes x) Stays) is_free in
@@ -74,7 +74,7 @@ module _ (laws : ModelLaws) where
               holds id mine takes_it in
               let now =
               taken.stands_now laws layout v u (LockGate x) [] index becomes next x s
-              holds id mine takes_it f leaves (λ y locks. none_locked y locks)
+              holds id mine takes_it f leaves below (λ y locks. none_locked y locks)
               (λ y locks.
               inl (is_some x y (sym (ap (λ (b : Bool). cond b (Some x) v.actor.locked) is_free) ∙ locks), refl)) in (
                 w,
@@ -103,7 +103,7 @@ module _ (laws : ModelLaws) where
               let stays : use_of (LockGate x) word ≡ Stays = ap (λ (b : Bool). cond b (Takes x) Stays) other in
               let now =
               allowed.now laws layout v u (LockGate x) [] index becomes next s holds id mine
-              f leaves in (
+              f leaves below in (
                 w,
                 keeps,
                 tt,
@@ -111,7 +111,7 @@ module _ (laws : ModelLaws) where
                   stands = now.stands;
                   slots =
                       allowed.slots_now laws layout v u (LockGate x) [] index becomes next s
-                      holds id mine f leaves stays;
+                      holds id mine f leaves below stays;
                 },
                 (
                   ap (λ (z : View). view_after (locking z x n) word) (sym is_me),

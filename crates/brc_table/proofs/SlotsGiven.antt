@@ -1,5 +1,5 @@
 -- A hand gives back the slot that it took last by its first duty, and the rule holds again.
-use Rattle.std.proofs.Common.{◌≡◌, ℕ, ◌+◌, ◌<◌, true, Option, Some, List, ◌∷◌, cond, set, inl, inr, sym, ap, ◌∙◌, subst}
+use Rattle.std.proofs.Common.{◌≡◌, ◌^◌, ℕ, ◌+◌, ◌<◌, true, Option, Some, List, ◌∷◌, cond, set, inl, inr, sym, ap, ◌∙◌, subst}
 use Rattle.std.specs.Prelude.{◌==◌, slice_index}
 use Rattle.std.proofs.lemmas.Bool.{cases_Bool}
 use mathlib.Core.Option as home
@@ -37,21 +37,21 @@ use Rattle.brc_table.proofs.Allowed.{Knows, IsNextAt}
 gives_row : (x y : ℕ) → Gives y ≡ Gives x → y ≡ x
 gives_row x y is = cc
 
-given_there : (layout : Layout) (t head k threads : ℕ) (d : Duty) (found x : ℕ) → use_of d found ≡ Gives x
-    → IsThere k threads (address_of layout t head d) → x < k
-given_there layout t head k threads (LockGate y) found x is there = elim (cases_Bool (found == free_word)) [
+given_there : (layout : Layout) (t head : ℕ) (d : Duty) (found x : ℕ) → use_of d found ≡ Gives x
+    → IsThere layout (address_of layout t head d) → x < row_count layout
+given_there layout t head (LockGate y) found x is there = elim (cases_Bool (found == free_word)) [
   | inl free ↦
       absurd (let wrong : Takes y ≡ Gives x = sym (ap (λ b. cond b (Takes y) Stays) free) ∙ is in cc)
   | inr other ↦
       absurd (let wrong : Stays ≡ Gives x = sym (ap (λ b. cond b (Takes y) Stays) other) ∙ is in cc)
 ]
-given_there layout t head k threads (UnlockGate y) found x is there =
-    subst (λ (z : ℕ). z < k) (gives_row x y is) there
-given_there layout t head k threads (BirthLocal y h) found x is there =
-    subst (λ (z : ℕ). z < k) (gives_row x y is) there
-given_there layout t head k threads (SettleEnd y) found x is there =
-    subst (λ (z : ℕ). z < k) (gives_row x y is) there
-given_there layout t head k threads _ found x is there = absurd cc
+given_there layout t head (UnlockGate y) found x is there =
+    subst (λ (z : ℕ). z < row_count layout) (gives_row x y is) there
+given_there layout t head (BirthLocal y h) found x is there =
+    subst (λ (z : ℕ). z < row_count layout) (gives_row x y is) there
+given_there layout t head (SettleEnd y) found x is there =
+    subst (λ (z : ℕ). z < row_count layout) (gives_row x y is) there
+given_there layout t head _ found x is there = absurd cc
 
 -- What is due is what the machine says that the slot holds, after the hand has turned to the duty.
 due_is : SlotsAreKnown → (layout : Layout) (words : List ℕ) (views : List View) (id : ℕ) (v u : View) (d : Duty)
@@ -115,7 +115,7 @@ module _ (laws : ModelLaws)
         let relied = relies laws.kept laws.within laws.guarded layout s.words (set s.views id u) id u d rest it in
         let same : k.layout ≡ m.layout = it.stands.layout_is ∙ sym holds.stands.layout_is in
         subst (λ (l : Layout). x < row_count l) same
-        (given_there k.layout u.thread u.actor.head (row_count k.layout) (1 + k.layout.workers) d found x gives_it
+        (given_there k.layout u.thread u.actor.head d found x gives_it
         relied.there)
 
     -- What the slot holds is what the machine says.
@@ -128,22 +128,22 @@ module _ (laws : ModelLaws)
         (λ y locks. first.slots y (inr locks) ∙ (holds.slots.locked id y v here locks).1) due
 
     module _ (f : ℕ → ℕ)
-        (leaves : allowed.LeavesWord laws layout v u d rest index becomes next f) where
+        (leaves : allowed.LeavesWord laws layout v u d rest index becomes next f) (small : slice_index s.words index < 2 ^ 64) where
       -- The rule holds after the step.
       pub stands_now : TableStands layout (set s.words index (f (slice_index s.words index)))
           (set s.homes x (home.some slot)) (set s.views id (view_by u (d ∷ rest) found))
       stands_now =
           let now =
-          allowed.now laws layout v u d rest index becomes next s holds id here f leaves in
+          allowed.now laws layout v u d rest index becomes next s holds id here f leaves small in
           let stays =
           allowed.slots_stay laws layout v u d rest index becomes next s holds id here f
-          leaves in
+          leaves small in
           record {
             stands = now.stands;
             slots =
                 slots_given m now.stands.machine s.homes s.views id v (view_by u (d ∷ rest) found) holds.slots here
                 (allowed.layout_stays laws layout v u d rest index becomes next s holds id
-                here f leaves) x rows taken
+                here f leaves small) x rows taken
                 (ap (taken_after u.taken) gives_it ∙ ap behind_first ((taken_same becomes) ∙ taken)) slot row_low
                 (holds_due ∙ sym (stays x))
                 (λ y apart uses.
@@ -173,7 +173,7 @@ module _ (laws : ModelLaws)
       let found_now = read_of u d word in
       let gives_it = all found_now in
       let w = view_by u (d ∷ rest) found_now in
-      let now = stands_now s holds id mine gives_it (rows_of ps) (sym follows) slot due f leaves in
+      let now = stands_now s holds id mine gives_it (rows_of ps) (sym follows) slot due f leaves below in
       let is_u : begins seat ≡ u = ap begins is_me ∙ becomes_is in (
         w,
         gives,
@@ -184,7 +184,7 @@ module _ (laws : ModelLaws)
               ap (λ (ds : List Duty). view_by u ds found_now) (sym next.agenda)
                   ∙ ap (λ (z : View). view_by z z.actor.agenda found_now) (sym is_u),
               allowed.rows_now laws layout v u d rest index becomes next s holds id mine f
-                  leaves,
+                  leaves below,
               λ same.
                   ap behind_first (follows ∙ sym (taken_same becomes)) ∙ sym (ap (taken_after u.taken) gives_it),
               sym (ap (λ (z : SlotUse). held_after ((x, resources slot) ∷ held_in ps) z

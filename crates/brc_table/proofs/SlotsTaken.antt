@@ -1,6 +1,6 @@
 -- A hand takes a slot by its first duty, and the rule holds again: the slot was at home, and is the hand's from then
 -- on.
-use Rattle.std.proofs.Common.{◌≡◌, ◌⊎◌, ℕ, ◌+◌, ◌<◌, Option, Some, List, ◌∷◌, cond, set, inl, inr, refl, sym, ap, ◌∙◌, subst, arith}
+use Rattle.std.proofs.Common.{◌≡◌, ◌^◌, ◌⊎◌, ℕ, ◌+◌, ◌<◌, Option, Some, List, ◌∷◌, cond, set, inl, inr, refl, sym, ap, ◌∙◌, subst, arith}
 use Rattle.std.specs.Prelude.{◌==◌, slice_get, slice_index}
 use Rattle.std.proofs.lemmas.Bool.{cases_Bool, cases_lt}
 use Rattle.std.proofs.lemmas.Bool.Decides.{eqb_tells}
@@ -38,20 +38,20 @@ takes_row : (x y : ℕ) → Takes y ≡ Takes x → y ≡ x
 takes_row x y is = cc
 
 -- The slot that a duty takes is of a row.
-taken_there : (layout : Layout) (t head k threads : ℕ) (d : Duty) (found x : ℕ) → use_of d found ≡ Takes x
-    → IsThere k threads (address_of layout t head d) → x < k
-taken_there layout t head k threads (LockGate y) found x is there = elim (cases_Bool (found == free_word)) [
+taken_there : (layout : Layout) (t head : ℕ) (d : Duty) (found x : ℕ) → use_of d found ≡ Takes x
+    → IsThere layout (address_of layout t head d) → x < row_count layout
+taken_there layout t head (LockGate y) found x is there = elim (cases_Bool (found == free_word)) [
   | inl free ↦
       let same = takes_row x y (sym (ap (λ b. cond b (Takes y) Stays) free) ∙ is) in
-      subst (λ (z : ℕ). z < k) same there
+      subst (λ (z : ℕ). z < row_count layout) same there
   | inr other ↦
       absurd (let wrong : Stays ≡ Takes x = sym (ap (λ b. cond b (Takes y) Stays) other) ∙ is in cc)
 ]
-taken_there layout t head k threads (BirthKind y h w) found x is there =
-    subst (λ (z : ℕ). z < k) (takes_row x y is) there
-taken_there layout t head k threads (SettleKind y) found x is there =
-    subst (λ (z : ℕ). z < k) (takes_row x y is) there
-taken_there layout t head k threads _ found x is there = absurd cc
+taken_there layout t head (BirthKind y h w) found x is there =
+    subst (λ (z : ℕ). z < row_count layout) (takes_row x y is) there
+taken_there layout t head (SettleKind y) found x is there =
+    subst (λ (z : ℕ). z < row_count layout) (takes_row x y is) there
+taken_there layout t head _ found x is there = absurd cc
 
 -- A duty that takes a slot whatever it finds leaves the hand's lock as it is.
 pub takes_no_lock : (d : Duty) (x : ℕ) → ((found : ℕ) → use_of d found ≡ Takes x) → (locked : Option ℕ) (found : ℕ)
@@ -141,7 +141,7 @@ module _ (laws : ModelLaws) (layout : Layout) (v u : View) (d : Duty)
           let relied = relies laws.kept laws.within laws.guarded layout s.words (set s.views id u) id u d rest it in
           let same : k.layout ≡ m.layout = it.stands.layout_is ∙ sym holds.stands.layout_is in
           subst (λ (l : Layout). x < row_count l) same
-          (taken_there k.layout u.thread u.actor.head (row_count k.layout) (1 + k.layout.workers) d found x takes_it
+          (taken_there k.layout u.thread u.actor.head d found x takes_it
           relied.there)
 
       pub slot_home : HoldsHome m s.homes x
@@ -154,7 +154,7 @@ module _ (laws : ModelLaws) (layout : Layout) (v u : View) (d : Duty)
           (inl (is_home id v here))
 
       module _ (f : ℕ → ℕ)
-          (leaves : allowed.LeavesWord laws layout v u d rest index becomes next f)
+          (leaves : allowed.LeavesWord laws layout v u d rest index becomes next f) (small : slice_index s.words index < 2 ^ 64)
           (lock : (y : ℕ) → u.actor.locked ≡ Some y → locked_by u.actor.locked d found ≡ Some y)
           (locks : (y : ℕ) → locked_by u.actor.locked d found ≡ Some y
           → ((y ≡ x) × (m.memory (Slot x) ≡ u.in_slot)) ⊎ ((v.actor.locked ≡ Some y) × (u.in_slot ≡ v.in_slot))) where
@@ -164,14 +164,14 @@ module _ (laws : ModelLaws) (layout : Layout) (v u : View) (d : Duty)
             (set s.views id (view_by u (d ∷ rest) found))
         stands_now =
             let now =
-            allowed.now laws layout v u d rest index becomes next s holds id here f leaves
+            allowed.now laws layout v u d rest index becomes next s holds id here f leaves small
             in
             record {
               stands = now.stands;
               slots =
                   slots_taken m now.stands.machine s.homes s.views id v (view_by u (d ∷ rest) found) holds.slots here
                   (allowed.layout_stays laws layout v u d rest index becomes next s holds id
-                  here f leaves) x
+                  here f leaves small) x
                   (ap (taken_after u.taken) takes_it ∙ ap (λ (rows : List ℕ). x ∷ rows) (taken_same becomes)) is_home
                   (used_now u d rest found x takes_it)
                   (λ y uses.
@@ -197,7 +197,7 @@ module _ (laws : ModelLaws) (layout : Layout) (v u : View) (d : Duty)
       let w = view_by u (d ∷ rest) found_now in
       let leave_lock = takes_no_lock d x all u.actor.locked found_now in
       let now =
-      stands_now s holds id mine takes_it f leaves (λ y locks. leave_lock ∙ locks)
+      stands_now s holds id mine takes_it f leaves below (λ y locks. leave_lock ∙ locks)
       (λ y locks.
       let before : v.actor.locked ≡ Some y = sym (locked_same becomes) ∙ (sym leave_lock ∙ locks) in
       inr (before, becomes.in_slot y before)) in
@@ -216,7 +216,7 @@ module _ (laws : ModelLaws) (layout : Layout) (v u : View) (d : Duty)
               ap (λ (ds : List Duty). view_by u ds found_now) (sym next.agenda)
                   ∙ ap (λ (z : View). view_by z z.actor.agenda found_now) (sym is_u),
               allowed.rows_now laws layout v u d rest index becomes next s holds id mine f
-                  leaves,
+                  leaves below,
               λ follows.
                   ap (λ (rows : List ℕ). x ∷ rows) (follows ∙
                   (ap (λ (z : View). z.taken) is_me ∙ sym (taken_same becomes)))

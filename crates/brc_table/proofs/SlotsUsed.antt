@@ -6,7 +6,7 @@ use Rattle.std.proofs.lemmas.Bool.{cases_Bool, eq-eqb, eqb-true}
 use Rattle.std.proofs.lemmas.List.Folds.{list_any-append}
 use Rattle.brc_word.specs.Words.{free_word}
 use Rattle.brc_model.specs.declared.duty.Duty.{Duty}
-use Rattle.brc_model.specs.declared.duty.Duty.TheVariants.{LockGate, UnlockGate, BirthKind, BirthSlot, BirthLocal, Settle, SettleKind, SettleCell, TakeSlot, CloseResource, SettleEnd, Scan}
+use Rattle.brc_model.specs.declared.duty.Duty.TheVariants.{LockGate, UnlockGate, BirthKind, BirthSlot, BirthLocal, Settle, SettleKind, SettleCell, TakeSlot, CloseResource, SettleEnd, Scan, TakeFound}
 use Rattle.brc_model.specs.declared.layout.Layout.{Layout}
 use Rattle.brc_model.specs.Duties.{continuation, new_head, ready, has_resource, cells_of, cells_from, release_found}
 use Rattle.brc_model.specs.Machine.{is_running, locked_by}
@@ -27,9 +27,13 @@ needs_ready x (suc head) [] = refl
 needs_ready x zero (Settle ∷ rest) = needs_ready x zero rest
 needs_ready x zero (Scan i zero ∷ rest) = needs_ready x zero rest
 needs_ready x zero (Scan i (suc k) ∷ rest) = refl
+needs_ready x zero (TakeFound w zero ∷ rest) = needs_ready x zero rest
+needs_ready x zero (TakeFound w (suc k) ∷ rest) = refl
 needs_ready x zero (_ ∷ rest) = refl
 needs_ready x (suc head) (Scan i zero ∷ rest) = needs_ready x (suc head) rest
 needs_ready x (suc head) (Scan i (suc k) ∷ rest) = refl
+needs_ready x (suc head) (TakeFound w zero ∷ rest) = needs_ready x (suc head) rest
+needs_ready x (suc head) (TakeFound w (suc k) ∷ rest) = refl
 needs_ready x (suc head) (_ ∷ rest) = refl
 
 -- Emptying the cells of a row and closing it needs the row's slot.

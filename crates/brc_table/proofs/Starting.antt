@@ -137,7 +137,7 @@ module _ (accounts : AccountsAreThere) (chains : ChainsAreThere) (layout : Layou
       length_is = length-set words t 1;
       reads = λ b there_b.
           sym (unwritten m.memory (ThreadWord t) b 1 runs)
-          ∙ written_reads m.layout words m.memory (ThreadWord t) 1 1 s.plain.few_workers s.length_is refl has s.reads b
+          ∙ written_reads m.layout words m.memory (ThreadWord t) 1 1 s.plain s.length_is refl has s.reads b
           there_b;
       actors = sym (set_itself m.actors v.thread v.actor (s.acts id v here));
       thread_same = refl;

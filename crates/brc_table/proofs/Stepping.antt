@@ -1,5 +1,5 @@
 -- A hand does its first duty, which is one step on a word, and the rule holds again.
-use Rattle.std.proofs.Common.{◌≡◌, ◌≢◌, ℕ, ◌+◌, ◌≤◌, Bool, true, false, cond, Option, None, List, [], ◌∷◌, length, set, inl, inr, refl, sym, ap, ◌∙◌, subst, arith}
+use Rattle.std.proofs.Common.{◌≡◌, ◌≢◌, ℕ, ◌+◌, Bool, true, false, cond, Option, None, List, [], ◌∷◌, length, set, inl, inr, refl, sym, ap, ◌∙◌, subst, arith}
 use Rattle.std.specs.Prelude.{◌==◌, slice_index}
 use Rattle.std.proofs.lemmas.List.{length-set, get_or-set_same, get_or-set_other}
 use Rattle.std.proofs.lemmas.Bool.{eqb-true, cases_Bool}
@@ -9,10 +9,9 @@ use Rattle.brc_model.specs.declared.duty.Duty.{Duty}
 use Rattle.brc_model.specs.declared.duty.Duty.TheVariants.{LendSlot, ReturnSlot}
 use Rattle.brc_model.specs.declared.actor.Status.TheVariants.{Gone}
 use Rattle.brc_model.specs.declared.address.Address.{Address}
-use Rattle.brc_model.specs.declared.address.Address.TheVariants.{Local, Shared, Gate, KindOf, Mark, Cell, Slot, Resource, ThreadWord}
+use Rattle.brc_model.specs.declared.address.Address.TheVariants.{Local, Shared, Gate, KindOf, Marks, Cell, Slot, Resource, ThreadWord}
 use Rattle.brc_model.specs.declared.layout.Layout.{Layout}
-use Rattle.brc_model.specs.Layout.{row_count}
-use Rattle.brc_model.specs.Limits.{worker_limit}
+use Rattle.brc_model.specs.Counting.{IsPlainLayout}
 use Rattle.brc_model.specs.Duties.{address_of, new_word}
 use Rattle.brc_model.specs.Machine.{Machine, same_address, written, actor_by, machine_by_duty, locked_by, lent_by}
 use Rattle.brc_model.specs.Within.{IsThere}
@@ -31,17 +30,16 @@ use Rattle.brc_table.proofs.KnownKept.{kind_stays, IsStep, kind_here, lock_befor
 
 -- ---- words and addresses
 
-table_has : (layout : Layout) (threads : ℕ) (a : Address) → IsTableWord a → threads ≡ 1 + layout.workers
-    → IsThere (row_count layout) threads a → HasWord layout a
-table_has layout threads (Local x) word all there = there
-table_has layout threads (Shared x) word all there = there
-table_has layout threads (Gate x) word all there = there
-table_has layout threads (KindOf x) word all there = there
-table_has layout threads (Mark x) word all there = there
-table_has layout threads (Cell x i) word all there = there
-table_has layout threads (Slot x) word all there = absurd word
-table_has layout threads (Resource x) word all there = absurd word
-table_has layout threads (ThreadWord t) word all there = omega (arith, there, all)
+table_has : (layout : Layout) (a : Address) → IsTableWord a → IsThere layout a → HasWord layout a
+table_has layout (Slot x) word there = absurd word
+table_has layout (Resource x) word there = absurd word
+table_has layout (Local x) word there = there
+table_has layout (Shared x) word there = there
+table_has layout (Gate x) word there = there
+table_has layout (KindOf x) word there = there
+table_has layout (Marks t w) word there = there
+table_has layout (Cell x i) word there = there
+table_has layout (ThreadWord t) word there = there
 
 -- An object's word is a word of the table.
 pub object_in_table : (a : Address) → IsObjectWord a → IsTableWord a
@@ -49,7 +47,7 @@ object_in_table (Local x) object = tt
 object_in_table (Shared x) object = tt
 object_in_table (Gate x) object = tt
 object_in_table (KindOf x) object = tt
-object_in_table (Mark x) object = tt
+object_in_table (Marks t w) object = tt
 object_in_table (Cell x i) object = tt
 object_in_table (Slot x) object = absurd object
 object_in_table (Resource x) object = absurd object
@@ -60,7 +58,7 @@ object_reads (Local x) word object = refl
 object_reads (Shared x) word object = refl
 object_reads (Gate x) word object = refl
 object_reads (KindOf x) word object = refl
-object_reads (Mark x) word object = refl
+object_reads (Marks t w) word object = refl
 object_reads (Cell x i) word object = refl
 object_reads (Slot x) word object = absurd object
 object_reads (Resource x) word object = absurd object
@@ -71,7 +69,10 @@ same_is (Local x) (Local y) e = ap Local (eqb-true x y e)
 same_is (Shared x) (Shared y) e = ap Shared (eqb-true x y e)
 same_is (Gate x) (Gate y) e = ap Gate (eqb-true x y e)
 same_is (KindOf x) (KindOf y) e = ap KindOf (eqb-true x y e)
-same_is (Mark x) (Mark y) e = ap Mark (eqb-true x y e)
+same_is (Marks t w) (Marks u z) e =
+    let one = eqb-true t u (and_first (t == u) (w == z) e) in
+    let other = eqb-true w z (and_second (t == u) (w == z) e) in
+    ap (λ (y : ℕ). Marks y w) one ∙ ap (Marks u) other
 same_is (Cell x i) (Cell y j) e =
     let one = eqb-true x y (and_first (x == y) (i == j) e) in
     let other = eqb-true i j (and_second (x == y) (i == j) e) in
@@ -90,22 +91,22 @@ lends_none layout t head _ lent found table none = none
 
 -- Writing a word in the table is writing in the machine what it says.
 pub written_reads : (layout : Layout) (words : List ℕ) (memory : Address → ℕ) (a : Address) (left word : ℕ)
-    → layout.workers ≤ worker_limit → length words ≡ word_count layout → reading a left ≡ word → HasWord layout a
+    → IsPlainLayout layout → length words ≡ word_count layout → reading a left ≡ word → HasWord layout a
     → ((b : Address) → HasWord layout b → memory b ≡ reading b (slice_index words (place b)))
     → (b : Address) → HasWord layout b
     → written memory a word b ≡ reading b (slice_index (set words (place a) left) (place b))
-written_reads layout words memory a left word few long says has reads b there =
+written_reads layout words memory a left word plain long says has reads b there =
     elim (cases_Bool (same_address a b)) [
       | inl one ↦
           let here : slice_index (set words (place a) left) (place a) ≡ left =
-          get_or-set_same words (place a) left 0 (omega (arith, long, place_within layout a few has)) in
+          get_or-set_same words (place a) left 0 (omega (arith, long, place_within layout a plain has)) in
           let found : written memory a word b ≡ word = ap (λ (e : Bool). cond e word (memory b)) one in
           let there' : reading b (slice_index (set words (place a) left) (place b)) ≡ word =
           subst (λ (c : Address). reading c (slice_index (set words (place a) left) (place c)) ≡ word) (same_is a b one)
           (ap (reading a) here ∙ says) in
           found ∙ sym there'
       | inr other ↦
-          let apart : place b ≢ place a = λ e. place_apart layout a b few has there other (sym e) in
+          let apart : place b ≢ place a = λ e. place_apart layout a b plain has there other (sym e) in
           let same : slice_index (set words (place a) left) (place b) ≡ slice_index words (place b) =
           get_or-set_other words (place a) (place b) left 0 apart in
           ap (λ (e : Bool). cond e word (memory b)) other ∙ (reads b there ∙ ap (reading b) (sym same))
@@ -150,16 +151,15 @@ module _ (kept : DutiesAreKept) (within : DutiesAreWithin) (stay : GuardedCellsS
 
   pub has : HasWord m.layout (address_of v.layout v.thread v.actor.head d)
   has =
-      table_has m.layout (1 + m.layout.workers) (address_of v.layout v.thread v.actor.head d) does.word refl
-      (subst (λ (l : Layout). IsThere (row_count m.layout) (1 + m.layout.workers)
-      (address_of l v.thread v.actor.head d))
+      table_has m.layout (address_of v.layout v.thread v.actor.head d) does.word
+      (subst (λ (l : Layout). IsThere m.layout (address_of l v.thread v.actor.head d))
       (sym told) relies.there)
 
   -- The machine's step finds what the table's word says.
   pub finds : m.memory (address_of v.layout v.thread v.actor.head d) ≡ found
   finds = does.stands.reads (address_of v.layout v.thread v.actor.head d) has
 
-  module _ (left : ℕ) (leaves : read_of v d left ≡ new_word v.thread v.actor.head d found)
+  module _ (left : ℕ) (leaves : read_of v d left ≡ new_word v.layout v.thread v.actor.head d found)
       (keeps : KeepsThreads m.layout words (set words (place_of v d) left) v (view_by v (d ∷ rest) found)) where
     stays : LeavesGuarded m v.thread v.actor d rest
     stays = stay does.stands.accounts (1 + m.layout.workers) m v.thread v.actor d rest does.stands.counts comes
@@ -182,7 +182,9 @@ module _ (kept : DutiesAreKept) (within : DutiesAreWithin) (stay : GuardedCellsS
         subst (λ (l : Layout). m.memory (address_of l t v.actor.head d) ≡ found) told finds in
         let is_step : IsStep m.layout m.memory t v.actor.head d (event_of v d found) = record {
           address = ap (λ (l : Layout). address_of l t v.actor.head d) told;
-          left = ap (new_word t v.actor.head d) (sym seen);
+          left =
+              ap (λ (l : Layout). new_word l t v.actor.head d found) told
+              ∙ ap (new_word m.layout t v.actor.head d) (sym seen);
         } in
         record {
           accounts = old.accounts;
@@ -193,12 +195,12 @@ module _ (kept : DutiesAreKept) (within : DutiesAreWithin) (stay : GuardedCellsS
           reads = λ b there.
               let after =
               written_reads m.layout words m.memory (address_of v.layout t v.actor.head d) left
-              (new_word t v.actor.head d found)
-              old.plain.few_workers old.length_is leaves has old.reads b there in
-              subst (λ (k : ℕ). written m.memory (address_of m.layout t a.head d) (new_word t a.head d k) b
+              (new_word v.layout t v.actor.head d found)
+              old.plain old.length_is leaves has old.reads b there in
+              subst (λ (k : ℕ). written m.memory (address_of m.layout t a.head d) (new_word m.layout t a.head d k) b
               ≡ reading b (slice_index (set words (place_of v d) left) (place b))) (sym seen)
               (subst (λ (l : Layout). written m.memory (address_of l t v.actor.head d)
-              (new_word t v.actor.head d found) b
+              (new_word l t v.actor.head d found) b
               ≡ reading b (slice_index (set words (place_of v d) left) (place b))) told after);
           actors =
               ap (λ (k : ℕ). set m.actors t (actor_by m.layout t a d rest k)) seen
@@ -237,7 +239,7 @@ module _ (kept : DutiesAreKept) (within : DutiesAreWithin) (stay : GuardedCellsS
     no_slot (Shared y) word x table = refl
     no_slot (Gate y) word x table = refl
     no_slot (KindOf y) word x table = refl
-    no_slot (Mark y) word x table = refl
+    no_slot (Marks t w) word x table = refl
     no_slot (Cell y i) word x table = refl
     no_slot (Slot y) word x table = absurd table
     no_slot (Resource y) word x table = absurd table
@@ -253,5 +255,5 @@ module _ (kept : DutiesAreKept) (within : DutiesAreWithin) (stay : GuardedCellsS
         changes [] None (λ x which.
         let a = v.actor in
         let address = address_of m.layout v.thread a.head d in
-        no_slot address (new_word v.thread a.head d (m.memory address)) x
+        no_slot address (new_word m.layout v.thread a.head d (m.memory address)) x
         (subst (λ (l : Layout). IsTableWord (address_of l v.thread v.actor.head d)) told does.word))

@@ -64,7 +64,7 @@ is_storing layout memory t head x i (suc y) found = record { address = refl; lef
 -- So it leaves the word in the cell.
 stored_is : (layout : Layout) (memory : Address → ℕ) (t head x i word : ℕ) (b : Address)
     → written memory (address_of layout t head (storing x i word))
-    (new_word t head (storing x i word) (memory (address_of layout t head (storing x i word)))) b
+    (new_word layout t head (storing x i word) (memory (address_of layout t head (storing x i word)))) b
     ≡ written memory (Cell x i) word b
 stored_is layout memory t head x i zero b = refl
 stored_is layout memory t head x i (suc y) b =
@@ -243,7 +243,7 @@ module _ (put : WorkIsPutAside) (free : ImmortalsAreFree) (there : AccountsAreTh
       layout_same = refl;
       length_is = length-set words (cell_place x i) word;
       reads =
-          written_reads m.layout words m.memory (Cell x i) word word s.plain.few_workers s.length_is refl cell_has
+          written_reads m.layout words m.memory (Cell x i) word word s.plain s.length_is refl cell_has
           s.reads;
       actors = sym (set_itself m.actors v.thread (rested v).actor (s.acts id (rested v) here));
       thread_same = refl;
@@ -282,7 +282,7 @@ module _ (put : WorkIsPutAside) (free : ImmortalsAreFree) (there : AccountsAreTh
       threads = λ k there_k.
           threads_kept layout words (set words (cell_place x i) word) views k (rested v) after s there_k
           (object_step m.layout words (rested v) after (record { address = Cell x i; found = found; left = word }) word
-          s.plain.few_workers
+          s.plain
           (omega (
             arith,
             slice_get_within m.actors v.thread (rested v).actor (s.acts id (rested v) here),

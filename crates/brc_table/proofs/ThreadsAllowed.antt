@@ -1,6 +1,6 @@
 -- What a step on a thread's word leaves: a look leaves the word as it is, and a store is of the hand's own thread. Each
 -- goes on with what the word says.
-use Rattle.std.proofs.Common.{◌≡◌, ◌≢◌, ℕ, ◌+◌, ◌<◌, Bool, List, ◌∷◌, length, set, inl, inr, refl, sym, ap, ◌∙◌, subst, arith}
+use Rattle.std.proofs.Common.{◌≡◌, ◌≢◌, ℕ, ◌+◌, ◌<◌, ◌^◌, Bool, List, ◌∷◌, length, set, inl, inr, refl, sym, ap, ◌∙◌, subst, arith}
 use Rattle.std.specs.Prelude.{◌==◌, ◌&&◌, ◌⊎◌, slice_index}
 use Rattle.std.proofs.lemmas.Bool.{ne_eqb}
 use Rattle.std.proofs.lemmas.Option.{slice_get_within}
@@ -34,22 +34,22 @@ alive_word Gone alive e = alive refl
 pub record IsOnThread (layout : Layout) (t head : ℕ) (d : Duty) : Type 0 where
   pub thread : ℕ
   pub address : address_of layout t head d ≡ ThreadWord thread
-  pub says : (found : ℕ) → thread_reading (new_word t head d found) ≡ new_word t head d (thread_reading found)
-  pub kind : ((found : ℕ) → new_word t head d found ≡ found)
-      ⊎ ((thread ≡ t) × ((found : ℕ) → 0 < new_word t head d found))
+  pub says : (found : ℕ) → thread_reading (new_word layout t head d found) ≡ new_word layout t head d (thread_reading found)
+  pub kind : ((found : ℕ) → new_word layout t head d found ≡ found)
+      ⊎ ((thread ≡ t) × ((found : ℕ) → 0 < new_word layout t head d found))
 
 module _ (laws : ModelLaws) (layout : Layout) (v u : View)
     (d : Duty) (rest : List Duty) (index : ℕ) (becomes : Becomes layout v u) (next : IsNextAt u d rest index)
     (on : IsOnThread u.layout u.thread u.actor.head d) (f : ℕ → ℕ)
-    (leaves : (found : ℕ) → f found ≡ new_word u.thread u.actor.head d found) where
+    (leaves : (found : ℕ) → found < 2 ^ 64 → f found ≡ new_word u.layout u.thread u.actor.head d found) where
   thread_says : (k : ℕ) → read_of u d k ≡ thread_reading k
   thread_says k = ap (λ (a : Address). reading a k) on.address
 
   -- The word that is left says what the duty leaves of what was said.
-  left_says : (found : ℕ) → read_of u d (f found) ≡ new_word u.thread u.actor.head d (read_of u d found)
-  left_says found =
-      thread_says (f found) ∙ (ap thread_reading (leaves found)
-      ∙ (on.says found ∙ ap (new_word u.thread u.actor.head d) (sym (thread_says found))))
+  left_says : (found : ℕ) → found < 2 ^ 64 → read_of u d (f found) ≡ new_word u.layout u.thread u.actor.head d (read_of u d found)
+  left_says found small =
+      thread_says (f found) ∙ (ap thread_reading (leaves found small)
+      ∙ (on.says found ∙ ap (new_word u.layout u.thread u.actor.head d) (sym (thread_says found))))
 
   -- The word of a thread that isn't gone doesn't say so.
   not_gone : (words : List ℕ) (views : List View) (i : ℕ) → Does layout words views i u d rest → on.thread ≡ u.thread
@@ -70,13 +70,14 @@ module _ (laws : ModelLaws) (layout : Layout) (v u : View)
 
   -- The step keeps what the words of threads say.
   keeps_from : (words : List ℕ) (views : List View) (i : ℕ) (does : Does layout words views i u d rest)
+      → slice_index words (place_of u d) < 2 ^ 64
       → (on.thread ≡ u.thread) ⊎ (f (thread_word words on.thread) ≡ thread_word words on.thread)
       → (0 < thread_word words on.thread → 0 < f (thread_word words on.thread))
       → (thread_word words on.thread ≡ 3 → f (thread_word words on.thread) ≡ 3)
       → KeepsThreads does.stands.machine.layout words
       (set words (place_of u d) (f (slice_index words (place_of u d)))) u
       (view_by u (d ∷ rest) (read_of u d (slice_index words (place_of u d))))
-  keeps_from words views i does whose stays stays_gone =
+  keeps_from words views i does small whose stays stays_gone =
       let thread = on.thread in
       let raw = slice_index words (place_of u d) in
       let at : place_of u d ≡ thread = ap place on.address in
@@ -86,7 +87,7 @@ module _ (laws : ModelLaws) (layout : Layout) (v u : View)
       (omega (
         arith,
         place_within does.stands.machine.layout (address_of u.layout u.thread u.actor.head d)
-            does.stands.plain.few_workers
+            does.stands.plain
             (has laws.kept laws.within laws.guarded layout words views i u d rest does),
         does.stands.length_is,
       )) in
@@ -97,9 +98,9 @@ module _ (laws : ModelLaws) (layout : Layout) (v u : View)
       (record {
         address = on.address;
         quiet =
-            ap (λ (b : Bool). b && (new_word u.thread u.actor.head d (read_of u d raw) == 1))
+            ap (λ (b : Bool). b && (new_word u.layout u.thread u.actor.head d (read_of u d raw) == 1))
             (ne_eqb (read_of u d raw) 0 (λ none. omega (arith, none, thread_says raw, reading_some raw)));
-        gone = λ three. says_three (f raw) (sym (thread_says (f raw)) ∙ (left_says raw ∙ three));
+        gone = λ three. says_three (f raw) (sym (thread_says (f raw)) ∙ (left_says raw small ∙ three));
         whose = elim whose [
           | inl mine ↦ inl mine
           | inr kept_so ↦ inr (ap f same ∙ kept_so)
@@ -109,19 +110,22 @@ module _ (laws : ModelLaws) (layout : Layout) (v u : View)
       }))
 
   thread_keeps : (words : List ℕ) (views : List View) (i : ℕ) (does : Does layout words views i u d rest)
+      → slice_index words (place_of u d) < 2 ^ 64
       → KeepsThreads does.stands.machine.layout words
       (set words (place_of u d) (f (slice_index words (place_of u d)))) u
       (view_by u (d ∷ rest) (read_of u d (slice_index words (place_of u d))))
-  thread_keeps words views i does = elim on.kind [
-    | inl looks ↦
-        let same : (k : ℕ) → f k ≡ k = λ k. leaves k ∙ looks k in
-        let word = thread_word words on.thread in
-        keeps_from words views i does (inr (same word)) (λ pos. omega (arith, same word, pos)) (λ is. same word ∙ is)
-    | inr (own, some) ↦
-        let word = thread_word words on.thread in
-        keeps_from words views i does (inl own) (λ pos. omega (arith, leaves word, some word))
-        (λ is. absurd (not_gone words views i does own is))
-  ]
+  thread_keeps words views i does small =
+      let word = thread_word words on.thread in
+      let low : word < 2 ^ 64 =
+      subst (λ (k : ℕ). k < 2 ^ 64) (ap (slice_index words) (ap place on.address)) small in
+      elim on.kind [
+        | inl looks ↦
+            let same : f word ≡ word = leaves word low ∙ looks word in
+            keeps_from words views i does small (inr same) (λ pos. omega (arith, same, pos)) (λ is. same ∙ is)
+        | inr (own, some) ↦
+            keeps_from words views i does small (inl own) (λ pos. omega (arith, leaves word low, some word))
+            (λ is. absurd (not_gone words views i does own is))
+      ]
 
   pub thread_leaves : LeavesWord laws layout v u d rest index becomes next f
-  thread_leaves = ((λ found known. left_says found), thread_keeps)
+  thread_leaves = ((λ found small known. left_says found small), thread_keeps)

@@ -11,10 +11,10 @@ use mathlib.Core.Option.{some}
 use lib.ListN.{get_elem?}
 use Rattle.atomic_table.proofs.Lists.{at_set}
 use Rattle.brc_model.specs.declared.address.Address.{Address}
-use Rattle.brc_model.specs.declared.address.Address.TheVariants.{Local, Shared, Gate, KindOf, Mark, Cell, Slot, Resource, ThreadWord}
+use Rattle.brc_model.specs.declared.address.Address.TheVariants.{Local, Shared, Gate, KindOf, Marks, Cell, Slot, Resource, ThreadWord}
 use Rattle.brc_model.specs.declared.layout.Layout.{Layout}
-use Rattle.brc_model.specs.Limits.{worker_limit}
 use Rattle.brc_model.specs.Machine.{same_address}
+use Rattle.brc_model.specs.Counting.{IsPlainLayout}
 use Rattle.brc_table.specs.declared.view.View.{View}
 use Rattle.brc_model.specs.declared.event.WordEvent.{WordEvent}
 use Rattle.brc_table.specs.Places.{place, HasWord, IsObjectWord}
@@ -210,7 +210,7 @@ object_apart (Local x) t object = refl
 object_apart (Shared x) t object = refl
 object_apart (Gate x) t object = refl
 object_apart (KindOf x) t object = refl
-object_apart (Mark x) t object = refl
+object_apart (Marks u w) t object = refl
 object_apart (Cell x i) t object = refl
 object_apart (Slot x) t object = absurd object
 object_apart (Resource x) t object = absurd object
@@ -224,14 +224,14 @@ pub record Steps (v u : View) (e : WordEvent) : Type 0 where
 
 -- A step on an object's word leaves the words of threads.
 pub object_step : (layout : Layout) (words : List ℕ) (v u : View) (e : WordEvent) (left : ℕ)
-    → layout.workers ≤ worker_limit → v.thread ≤ layout.workers → Steps v u e → IsObjectWord e.address
+    → IsPlainLayout layout → v.thread ≤ layout.workers → Steps v u e → IsObjectWord e.address
     → HasWord layout e.address → KeepsThreads layout words (set words (place e.address) left) v u
-object_step layout words v u e left few known steps object has =
+object_step layout words v u e left plain known steps object has =
     let stays : (t : ℕ) → t ≤ layout.workers
     → thread_word (set words (place e.address) left) t ≡ thread_word words t =
     λ t low.
     get_or-set_other words (place e.address) (place (ThreadWord t)) left 0
-    (λ same. place_apart layout e.address (ThreadWord t) few has (omega (arith, low)) (object_apart e.address t object)
+    (λ same. place_apart layout e.address (ThreadWord t) plain has (omega (arith, low)) (object_apart e.address t object)
     (sym same)) in
     record {
       thread = steps.thread;

@@ -2,7 +2,7 @@
 use Rattle.std.specs.Prelude.{◌≡◌, ℕ, ◌+◌, ◌*◌, ◌<◌, ◌^◌, List, [], ◌∷◌, unwrap_or}
 use Rattle.brc_word.specs.Words.{marks_of_word, lowest_mark}
 use Rattle.brc_model.specs.declared.duty.Duty.{Duty}
-use Rattle.brc_model.specs.declared.duty.Duty.TheVariants.{RetainLoad, RetainStore, RetainAdd, ReleaseLoad, SharedLoad, SharedExchange, MergeSwap, MergeLoad, MergeExchange, Die, Settle, SettleCell, TakeSlot, CloseResource, Leave, Scan, TakeFound, BirthKind, BirthSlot, BirthLocal, LockGate, CellLoad, CellSwap, LendSlot, ReturnSlot}
+use Rattle.brc_model.specs.declared.duty.Duty.TheVariants.{RetainLoad, RetainStore, RetainAdd, ReleaseLoad, SharedLoad, SharedExchange, MergeSwap, MergeLoad, MergeExchange, Die, Settle, SettleCell, TakeSlot, CloseResource, Leave, Scan, TakeFound, MarksLoad, BirthKind, BirthSlot, BirthLocal, LockGate, CellLoad, CellSwap, LendSlot, ReturnSlot}
 use Rattle.brc_model.specs.declared.duty.Holding.TheVariants.{AsCaller}
 use Rattle.brc_model.specs.declared.duty.Reason.TheVariants.{Own}
 use Rattle.brc_model.specs.Duties.{duty_row}
@@ -32,10 +32,11 @@ abbrev pub HasChain : Duty → ℕ → Type 0
 HasChain Settle head = 0 < head
 HasChain _ head = Unit {0}
 
--- If the duty loads a mark word of an exit, the thread has used a row of that word. If it takes the lowest of the marks
+-- If the duty loads a mark word of the thread's block, the thread has used a row of that word. If it takes the lowest of the marks
 -- that were found, there is one, and the thread has used its row.
 abbrev pub HasUsedRow : Duty → ℕ → Type 0
 HasUsedRow (Scan w n) used = marks_of_word * w < used
+HasUsedRow (MarksLoad w) used = marks_of_word * w < used
 HasUsedRow (TakeFound w marks) used = (0 < marks) × (marks_of_word * w + lowest_mark marks < used)
 HasUsedRow _ used = Unit {0}
 

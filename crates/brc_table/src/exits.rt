@@ -42,7 +42,6 @@ impl<T: Drop> Words<T> {
         ensures view { hand.new.view ≡ view_after (loading_marks hand.old.view word) result }
     {
         mark_loads_begin();
-        self.layout_is_plain();
         hand.rows_are_there();
         self.step_from::<Brand>(hand, &Duty::MarksLoad { word })
     }
@@ -59,6 +58,7 @@ impl<T: Drop> Words<T> {
         ensures view { hand.new.view ≡ view_after (claiming hand.old.view row) result }
     {
         claims_begin();
+        self.layout_is_plain();
         self.step_from::<Brand>(hand, &Duty::ClaimMark { row })
     }
 

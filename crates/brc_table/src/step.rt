@@ -16,6 +16,7 @@ ghost use Rattle.brc_table.specs.Uses.{first_due, held_after};
 ghost use Rattle.brc_table.specs.Turns.{MayGoOn, turned_to};
 ghost use Rattle.brc_table.specs.DutySteps.{DueSlot, OverwritesFirst, StepsBy, said};
 ghost use Rattle.brc_effect.specs.Accesses.{IfStored, left_by};
+ghost use Rattle.brc_effect.specs.Effects.{IsIndexed};
 ghost use Rattle.brc_table.specs.Accesses.{HasAccess, HasCell, HasChain, HasUsedRow, IsNext, row_of};
 ghost use Rattle.brc_table.specs.Begins.{Becomes};
 ghost use Rattle.brc_table.specs.Hands.{IsOf};
@@ -134,6 +135,7 @@ impl<T: Drop> Words<T> {
         requires there { HasWord self.now.layout
             (address_of self.now.layout hand.old.view.thread hand.old.view.actor.head duty.now) }
         requires chain { HasChain duty.now hand.old.view.actor.head }
+        requires indexed { IsIndexed duty.now }
         requires next { IsNext duty.now (B.begins hand.old.view).actor.agenda }
         requires due { DueSlot (use_of duty.now 0) hand.old.slots (B.begins hand.old.view) }
         ensures table { hand.new.table ≡ hand.old.table }

@@ -18,7 +18,7 @@ invariant_of-result g c =
     let last = values.2 in
     let holds = last.1.0 in
     let key = c.self.inside.table.shared.key in
-    let is : c.self.inside.blocks ≡ key = c.self.invariant.0 in (
+    let is : c.layout.result ≡ key = c.layout.ensures ∙ c.self.invariant.0 in (
       values.0,
       values.1,
       c.close_with.ensures.counts.0 ∙ (c.self.invariant.1 ∙ ap word_count (sym is)),
@@ -33,11 +33,11 @@ invariant_of-result g c =
 pub returns-clause-ends : goal.returns-clause-ends
 returns-clause-ends g c =
     let last = c.close_with.ensures.values.2 in
-    let layout = c.self.inside.blocks in
+    let layout = c.layout.result in
     let words = slots_items c.close_with.result.words in
     let homes = last.0.homes in
     let views = last.0.views in
-    let is : layout ≡ c.self.inside.table.shared.key = c.self.invariant.0 in
+    let is : layout ≡ c.self.inside.table.shared.key = c.layout.ensures ∙ c.self.invariant.0 in
     let holds : TableStands layout words homes views =
     subst (λ (l : Layout). TableStands l words homes views) (sym is)
     (subst (λ (ws : List ℕ). TableStands c.self.inside.table.shared.key ws homes views) last.2 last.1.0) in

@@ -2,6 +2,7 @@ use Rattle.std.proofs.Common.{◌<◌, refl, subst}
 use Rattle.brc_model.specs.declared.layout.Layout.{Layout}
 use Rattle.brc_model.specs.Layout.{row_count}
 use Rattle.brc_table.proofs.Duties.{runs_on}
+use Rattle.brc_table.proofs.Places.{mark_has}
 use Rattle.brc_table.proofs.ExitDuties.{claiming_becomes}
 use Rattle.brc_table.proofs.words.Words.mark_claim.Goals as goal
 
@@ -18,4 +19,5 @@ step_from-requires-clause-next g c = refl
 
 pub step_from-requires-clause-there : goal.step_from-requires-clause-there
 step_from-requires-clause-there g c =
-    subst (λ (l : Layout). c.args.row < row_count l) c.requires.table.1 c.requires.there
+    mark_has c.args.self.now.layout c.args.row c.layout_is_plain.ensures
+    (subst (λ (l : Layout). c.args.row < row_count l) c.requires.table.1 c.requires.there)

@@ -5,7 +5,7 @@ use Rattle.brc_model.specs.Duties.{address_of}
 use Rattle.brc_table.specs.Places.{HasWord}
 use Rattle.brc_table.specs.Accesses.{row_of}
 use Rattle.brc_table.proofs.Becoming.{turned_becomes}
-use Rattle.brc_table.proofs.NextDuty.{word_there, work_row_there}
+use Rattle.brc_table.proofs.NextDuty.{index_small, word_there, work_row_there}
 use Rattle.brc_table.proofs.words.Words.resume.Goals as goal
 
 pub step_from-requires-clause-begins : goal.step_from-requires-clause-begins
@@ -21,3 +21,10 @@ step_from-requires-clause-there g c =
     (word_there v d (subst IsPlainLayout (sym c.requires.table.1) c.layout_is_plain.ensures) c.rows_are_there.ensures
     c.requires.known c.requires.cell c.requires.chain c.requires.row
     (λ this. work_row_there v (row_of d) d c.rows_are_there.ensures c.requires.next))
+
+pub step_from-requires-clause-indexed : goal.step_from-requires-clause-indexed
+step_from-requires-clause-indexed g c =
+    let v = c.args.hand.now.view in
+    index_small v.layout v.thread v.actor.used c.args.duty
+    (subst IsPlainLayout (sym c.requires.table.1) c.layout_is_plain.ensures) c.rows_are_there.ensures.used
+    c.requires.row

@@ -1,5 +1,5 @@
 use Rattle.std.specs.List.{list_any}
-use Rattle.std.specs.Prelude.{◌==◌, ◌-◌}
+use Rattle.std.specs.Prelude.{◌==◌}
 use Rattle.std.proofs.Common.{◌≡◌, ◌≢◌, ℕ, ◌<◌, ◌≤◌, Option, List, ◌^◌, Bool, [], ◌∷◌, refl, sym, ap, ◌∙◌, subst, arith}
 use Rattle.atomic_table.specs.Table.{Me}
 use Rattle.brc_model.specs.declared.duty.Duty.{Duty}
@@ -38,11 +38,6 @@ thread_here : (hand : HandState) (layout : Layout) → RowsAreThere hand.view �
 thread_here hand layout rows plain is =
     let workers = ap (λ (l : Layout). l.workers) is in omega (arith, workers, rows.thread, plain.few_workers)
 
-pub address_of-address-requires-clause-some_rows : goal.address_of-address-requires-clause-some_rows
-address_of-address-requires-clause-some_rows g c =
-    (subst IsPlainLayout (sym (c.self.invariant.0 ∙ ap (λ (w : TableState). w.layout) c.self.view_is))
-    c.layout_is_plain.ensures).some_rows
-
 -- The word is where the hand's own fields say.
 word_here : (d : Duty) (l k : Layout) (t u head n : ℕ) → l ≡ k → t ≡ u → head ≡ n → HasWord k (address_of k u n d)
     → HasWord l (address_of l t head d)
@@ -51,12 +46,6 @@ word_here d l k t u head n layout thread same there =
     (subst (λ (z : ℕ). HasWord k (address_of k z head d)) (sym thread)
     (subst (λ (z : ℕ). HasWord k (address_of k u z d)) (sym same) there))
 
-pub address_of-address-requires-clause-indexed : goal.address_of-address-requires-clause-indexed
-address_of-address-requires-clause-indexed g c =
-    let v = c.args.hand.now.view in
-    next.index_small c.args.self.now.layout v.thread v.actor.head c.args.duty.now c.layout_is_plain.ensures
-    c.requires.there
-
 pub access_of-access-requires : goal.access_of-access-requires
 access_of-access-requires g c =
     let thread = c.hand.invariant.1 ∙ ap (λ (h : HandState). h.view.thread) c.hand.view_is in
@@ -64,6 +53,7 @@ access_of-access-requires g c =
       thread = subst (λ (t : ℕ). t ≤ worker_limit) (sym thread)
           (thread_here c.args.hand.now c.args.self.now.layout c.rows_are_there.ensures c.layout_is_plain.ensures
           c.requires.table.1);
+      indexed = c.requires.indexed;
     }
 
 pub operate-word-requires-clause-table : goal.operate-word-requires-clause-table
@@ -79,7 +69,7 @@ operate-word-requires-clause-there g c =
     (sym (c.place_at-index.ensures ∙ ap place c.address_of-address.ensures))
     (subst (λ (n : ℕ). place address < n) (sym (c.words_are_there.ensures ∙ ap word_count (sym layout_is)))
     (place_within layout address
-    (subst (λ (l : Layout). l.workers ≤ worker_limit) (sym layout_is) c.layout_is_plain.ensures.few_workers)
+    (subst IsPlainLayout (sym layout_is) c.layout_is_plain.ensures)
     (word_here c.args.duty.now layout c.args.self.now.layout c.hand.inside.thread v.thread c.hand.inside.head
     v.actor.head
     layout_is (c.hand.invariant.1 ∙ ap (λ (h : HandState). h.view.thread) c.hand.view_is)
@@ -114,10 +104,12 @@ operate-word-requires-clause-allowed g c =
     c.requires.known (subst (λ (h : HandState). IsNext d (begins h.view).actor.agenda) (sym view_is) c.requires.next)
     (subst (λ (h : HandState). (begins h.view).actor.status ≢ Gone) (sym view_is) c.requires.alive) index
     (left_by access)
-    (subst (λ (t : ℕ). (running : Bool) (n found : ℕ) → Suits t running n d found
-    → left_by access found ≡ new_word t u.actor.head d found) thread
-    (subst (λ (k : ℕ). (running : Bool) (n found : ℕ) → Suits hand.thread running n d found
-    → left_by access found ≡ new_word hand.thread k d found) head c.access_of-access.ensures.word))
+    (subst (λ (t : ℕ). (running : Bool) (n found : ℕ) → found < 2 ^ 64 → Suits t running n d found
+    → left_by access found ≡ new_word u.layout t u.actor.head d found) thread
+    (subst (λ (k : ℕ). (running : Bool) (n found : ℕ) → found < 2 ^ 64 → Suits hand.thread running n d found
+    → left_by access found ≡ new_word u.layout hand.thread k d found) head
+    (subst (λ (l : Layout). (running : Bool) (n found : ℕ) → found < 2 ^ 64 → Suits hand.thread running n d found
+    → left_by access found ≡ new_word l hand.thread hand.head d found) layout c.access_of-access.ensures.word)))
     (subst (λ (h : HandState). DueSlot (use_of d 0) h.slots (begins h.view)) (sym view_is) c.requires.due)
 
 pub operate-word-requires-clause-before : goal.operate-word-requires-clause-before
@@ -189,7 +181,7 @@ used_after-used-requires g c =
     let v = c.args.hand.now.view in
     let used = c.hand.invariant.4 ∙ ap (λ (h : HandState). h.view.actor.used) c.hand.view_is in
     let few =
-    subst (λ (l : Layout). block_size l v.thread < 2 ^ 32 - 1) (sym c.requires.table.1)
+    subst (λ (l : Layout). block_size l v.thread < 2 ^ 31) (sym c.requires.table.1)
     (next.block_few c.args.self.now.layout v.thread c.layout_is_plain.ensures) in
     record { room = omega (arith, used, few, c.rows_are_there.ensures.used) }
 
