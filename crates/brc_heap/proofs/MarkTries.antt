@@ -5,6 +5,10 @@ use Rattle.std.proofs.lemmas.Bool.{eq-eqb}
 use Rattle.brc_model.specs.declared.duty.Duty.{Duty}
 use Rattle.brc_model.specs.declared.duty.Duty.TheVariants.{SetMark, Look, TakeMark, MergeSwap}
 use Rattle.brc_model.specs.declared.duty.Reason.TheVariants.{Handed}
+use Rattle.brc_word.specs.Words.{mark_at}
+use Rattle.brc_model.specs.Duties.{claimed}
+use Rattle.brc_model.specs.declared.layout.Layout.{Layout}
+use Rattle.brc_model.specs.Layout.{mark_bit}
 use Rattle.brc_table.specs.declared.view.View.{View}
 use Rattle.brc_table.specs.Views.{view_after}
 use Rattle.brc_effect.specs.declared.outcomes.Looked.{Looked}
@@ -29,6 +33,15 @@ taken_by : (x : ℕ) (set : Bool)
 taken_by x true = refl
 taken_by x false = refl
 
+-- The mark was taken back, or was gone.
+taken_on : (v : View) (x said found : ℕ) (rest : List Duty) → v.actor.agenda ≡ Look x ∷ rest → (said == 1) ≡ false
+    → HasStepped v (look_left x (taken_answer (mark_found v x found)) ++ rest) (view_after (view_after v said) found)
+taken_on v x said found rest next is =
+    let at : HasStepped v (TakeMark x ∷ rest) (view_after v said) = stopped said next is in
+    plain_on found at refl
+    (ap (λ (layout : Layout). claimed x (mark_at found (mark_bit layout x))) at.keeps.layout
+    ∙ taken_by x (mark_found v x found == 1))
+
 look_by : (v : View) (x said found : ℕ) (rest : List Duty) (runs : Bool) → (said == 1) ≡ runs
     → v.actor.agenda ≡ Look x ∷ rest
     → HasStepped v (look_left x
@@ -38,7 +51,7 @@ look_by : (v : View) (x said found : ℕ) (rest : List Duty) (runs : Bool) → (
 look_by v x said found rest true is next =
     plain_on said (plain_begins next refl) refl (ap (λ (b : Bool). if b then [] else TakeMark x ∷ []) is)
 look_by v x said found rest false is next =
-    plain_on found (stopped said next is) refl (taken_by x (mark_found v x found == 1))
+    taken_on v x said found rest next is
 
 pub look_stepped : {v : View} {x : ℕ} {rest : List Duty} (said found : ℕ) → v.actor.agenda ≡ Look x ∷ rest
     → HasStepped v (look_left x (look_answer said (mark_found v x found)) ++ rest) (looked_after v said found)
@@ -59,15 +72,18 @@ taken_back {v} {u} {w} {x} {rest} answer said found view after is one next =
     subst (λ (a : Looked). HasStepped v (look_left x a ++ rest) w) (sym one)
     (subst (HasStepped v (look_left x (taken_answer (mark_found v x found)) ++ rest))
     (sym (after ∙ ap (λ (z : View). view_after z found) view))
-    (plain_on found (stopped said next is) refl (taken_by x (mark_found v x found == 1))))
+    (taken_on v x said found rest next is))
 
 -- One after the other.
 pub posted_stepped : {v : View} {x : ℕ} {rest : List Duty} (before said found : ℕ) → v.actor.agenda ≡ SetMark x ∷ rest
     → HasStepped v (look_left x (look_answer said (mark_found v x found)) ++ rest) (posted v before said found)
 posted_stepped {v} {x} {rest} before said found next =
     let marked = mark_stepped next before in
-    stepped_then marked
-    (look_stepped said found (marked.agenda ∙ plain_first (view_after v before).actor.head (Look x) rest refl))
+    subst (λ (layout : Layout). HasStepped v
+    (look_left x (look_answer said (mark_at found (mark_bit layout x))) ++ rest) (posted v before said found))
+    marked.keeps.layout
+    (stepped_then marked
+    (look_stepped said found (marked.agenda ∙ plain_first (view_after v before).actor.head (Look x) rest refl)))
 
 pub look_piece : (x : ℕ) (answer : Looked) → IsPiece x (look_left x answer)
 look_piece x looks.Left = tt
