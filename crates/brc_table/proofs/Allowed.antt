@@ -179,7 +179,8 @@ module _ (laws : ModelLaws) (layout : Layout) (v u : View)
           first.stands.machine
       after =
           passes_after laws.kept laws.within laws.guarded layout s.words (set s.views id u) id u d rest does (f word)
-          (leaves.0 word small known ∙ ap (λ (k : ℕ). new_word u.layout u.thread u.actor.head d (read_of u d k)) (sym same))
+          (leaves.0 word small known
+          ∙ ap (λ (k : ℕ). new_word u.layout u.thread u.actor.head d (read_of u d k)) (sym same))
           (subst (λ (k : ℕ). KeepsThreads does.stands.machine.layout s.words (set s.words (place_of u d) (f k)) u
           (view_by u (d ∷ rest) (read_of u d (slice_index s.words (place_of u d))))) same
           (leaves.1 s.words (set s.views id u) id does (subst (λ (k : ℕ). k < 2 ^ 64) (sym same) small)))

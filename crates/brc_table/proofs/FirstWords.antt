@@ -19,7 +19,8 @@ use Rattle.brc_table.proofs.Places.{in_front, place_apart, place_within}
 -- ---- lines
 
 -- A place behind the thread words is in the line that its tile's number, line and column say.
-line_of : (q l c : ℕ) → l < header_lines + line → c < line → ((front + tile * q + line * l + c) - front) % tile / line ≡ l
+line_of : (q l c : ℕ) → l < header_lines + line → c < line
+    → ((front + tile * q + line * l + c) - front) % tile / line ≡ l
 line_of q l c low small =
     let n = (front + tile * q + line * l + c) - front in
     let one = div-add-mod n tile in let below = mod-lt n (let h : 0 < tile = omega arith in h) in
@@ -28,7 +29,8 @@ line_of q l c low small =
     omega (arith, one, below, other, under, low, small)
 
 -- So the first value of a blank word is that of its line.
-blank_behind : (q l c : ℕ) → l < header_lines + line → c < line → blank_word (front + tile * q + line * l + c) ≡ blank_line l
+blank_behind : (q l c : ℕ) → l < header_lines + line → c < line
+    → blank_word (front + tile * q + line * l + c) ≡ blank_line l
 blank_behind q l c low small =
     let index = front + tile * q + line * l + c in
     let behind : nat_lt index front ≡ false = le-ltb index front (omega arith) in

@@ -123,8 +123,8 @@ module _ (layout : Layout) (words : List ℕ) (views : List View) (v : View) (d 
       it.stands.reads a has ∙ plain (slice_index words (place a)) in
       let at : address_of now.layout v.thread v.actor.head d ≡ a =
       subst (λ (l : Layout). address_of l v.thread v.actor.head d ≡ a) (sym it.stands.layout_is) it.at in
-      let after : (machine_by_duty now v.thread v.actor d it.rest).memory a ≡ new_word now.layout v.thread v.actor.head d
-      (now.memory a) =
+      let after : (machine_by_duty now v.thread v.actor d it.rest).memory a
+      ≡ new_word now.layout v.thread v.actor.head d (now.memory a) =
       ap (λ (b : Address). written now.memory b (new_word now.layout v.thread v.actor.head d (now.memory b)) a) at
       ∙ written_here now.memory a (new_word now.layout v.thread v.actor.head d (now.memory a)) in
       it.other
@@ -139,7 +139,9 @@ marks_are_watched law layout words views x s there set =
     let there' : x < row_count s.machine.layout = subst (λ (l : Layout). x < row_count l) (sym same) there in
     subst (λ (l : Layout). IsWatched l words views x) same
     (watched_so layout words views s x (law s.accounts (1 + s.machine.layout.workers) s.machine x s.counts
-    (λ none. set (sym (ap (λ (l : Layout). row_mark l words x) same) ∙ (sym (mark_reads layout words views s x there') ∙ none)))))
+    (λ none.
+    set (sym (ap (λ (l : Layout). row_mark l words x) same)
+    ∙ (sym (mark_reads layout words views s x there') ∙ none)))))
 
 pub holders_change : guard.CellsAreGuarded → OnlyHoldersChangeCells
 holders_change law layout words views v d x i it =

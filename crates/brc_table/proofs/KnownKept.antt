@@ -34,7 +34,8 @@ load_leaves memory x y = elim (cases_Bool (y == x)) [
 -- A kind word above 0 is not stored again.
 pub kind_stays : (layout : Layout) (memory : Address → ℕ) (t head : ℕ) (d : Duty) (x word : ℕ)
     → Overwrites t d (memory (address_of layout t head d)) → 0 < word → memory (KindOf x) ≡ word
-    → written memory (address_of layout t head d) (new_word layout t head d (memory (address_of layout t head d))) (KindOf x)
+    → written memory (address_of layout t head d) (new_word layout t head d (memory (address_of layout t head d)))
+    (KindOf x)
     ≡ word
 kind_stays layout memory t head (SettleKind y) x word over more is = load_leaves memory x y ∙ is
 kind_stays layout memory t head (KindLoad y) x word over more is = load_leaves memory x y ∙ is

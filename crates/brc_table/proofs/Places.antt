@@ -45,14 +45,13 @@ header_line k j x y low low' e =
 
 header_cell : (k x y i : ℕ) → k < header_lines → i < line → in_tile k x ≢ cell_place y i
 header_cell k x y i low small e =
-    let same = same_coordinates (x / line) k (x % line) (y / line) (header_lines + y % line) i (omega (arith, low)) (rest_low x)
-    (omega (arith, rest_low y)) small e in absurd (omega (arith, same.1, low))
+    let same = same_coordinates (x / line) k (x % line) (y / line) (header_lines + y % line) i
+    (omega (arith, low)) (rest_low x) (omega (arith, rest_low y)) small e in absurd (omega (arith, same.1, low))
 
 cell_apart : (x i y j : ℕ) → i < line → j < line → cell_place x i ≡ cell_place y j → (x ≡ y) × (i ≡ j)
 cell_apart x i y j small small' e =
-    let same = same_coordinates (x / line) (header_lines + x % line) i (y / line) (header_lines + y % line) j (omega (arith, rest_low x))
-    small
-    (omega (arith, rest_low y)) small' e in
+    let same = same_coordinates (x / line) (header_lines + x % line) i (y / line) (header_lines + y % line) j
+    (omega (arith, rest_low x)) small (omega (arith, rest_low y)) small' e in
     (same_row x y same.0 (omega (arith, same.1)), same.2)
 
 -- ---- mark words
@@ -98,9 +97,11 @@ place_apart layout (Local x) (Gate y) plain one other apart e = absurd
 place_apart layout (Local x) (KindOf y) plain one other apart e = absurd
     (omega (arith, header_line 0 3 x y (omega arith) (omega arith) e))
 place_apart layout (Local x) (Cell y i) plain one other apart e = header_cell 0 x y i (omega arith) other.1 e
-place_apart layout (Local x) (ThreadWord u) plain one other apart e = absurd (omega (arith, plain.few_workers, other, e))
+place_apart layout (Local x) (ThreadWord u) plain one other apart e = absurd
+    (omega (arith, plain.few_workers, other, e))
 place_apart layout (Cell y i) (Local x) plain one other apart e = header_cell 0 x y i (omega arith) one.1 (sym e)
-place_apart layout (ThreadWord u) (Local x) plain one other apart e = absurd (omega (arith, plain.few_workers, one, e))
+place_apart layout (ThreadWord u) (Local x) plain one other apart e = absurd
+    (omega (arith, plain.few_workers, one, e))
 place_apart layout (Shared x) (Local y) plain one other apart e = absurd
     (omega (arith, header_line 1 0 x y (omega arith) (omega arith) e))
 place_apart layout (Shared x) (Shared y) plain one other apart e = not_same x y apart (header_row 1 x y (omega arith) e)
@@ -109,9 +110,11 @@ place_apart layout (Shared x) (Gate y) plain one other apart e = absurd
 place_apart layout (Shared x) (KindOf y) plain one other apart e = absurd
     (omega (arith, header_line 1 3 x y (omega arith) (omega arith) e))
 place_apart layout (Shared x) (Cell y i) plain one other apart e = header_cell 1 x y i (omega arith) other.1 e
-place_apart layout (Shared x) (ThreadWord u) plain one other apart e = absurd (omega (arith, plain.few_workers, other, e))
+place_apart layout (Shared x) (ThreadWord u) plain one other apart e = absurd
+    (omega (arith, plain.few_workers, other, e))
 place_apart layout (Cell y i) (Shared x) plain one other apart e = header_cell 1 x y i (omega arith) one.1 (sym e)
-place_apart layout (ThreadWord u) (Shared x) plain one other apart e = absurd (omega (arith, plain.few_workers, one, e))
+place_apart layout (ThreadWord u) (Shared x) plain one other apart e = absurd
+    (omega (arith, plain.few_workers, one, e))
 place_apart layout (Gate x) (Local y) plain one other apart e = absurd
     (omega (arith, header_line 2 0 x y (omega arith) (omega arith) e))
 place_apart layout (Gate x) (Shared y) plain one other apart e = absurd
@@ -120,9 +123,11 @@ place_apart layout (Gate x) (Gate y) plain one other apart e = not_same x y apar
 place_apart layout (Gate x) (KindOf y) plain one other apart e = absurd
     (omega (arith, header_line 2 3 x y (omega arith) (omega arith) e))
 place_apart layout (Gate x) (Cell y i) plain one other apart e = header_cell 2 x y i (omega arith) other.1 e
-place_apart layout (Gate x) (ThreadWord u) plain one other apart e = absurd (omega (arith, plain.few_workers, other, e))
+place_apart layout (Gate x) (ThreadWord u) plain one other apart e = absurd
+    (omega (arith, plain.few_workers, other, e))
 place_apart layout (Cell y i) (Gate x) plain one other apart e = header_cell 2 x y i (omega arith) one.1 (sym e)
-place_apart layout (ThreadWord u) (Gate x) plain one other apart e = absurd (omega (arith, plain.few_workers, one, e))
+place_apart layout (ThreadWord u) (Gate x) plain one other apart e = absurd
+    (omega (arith, plain.few_workers, one, e))
 place_apart layout (KindOf x) (Local y) plain one other apart e = absurd
     (omega (arith, header_line 3 0 x y (omega arith) (omega arith) e))
 place_apart layout (KindOf x) (Shared y) plain one other apart e = absurd
@@ -131,15 +136,19 @@ place_apart layout (KindOf x) (Gate y) plain one other apart e = absurd
     (omega (arith, header_line 3 2 x y (omega arith) (omega arith) e))
 place_apart layout (KindOf x) (KindOf y) plain one other apart e = not_same x y apart (header_row 3 x y (omega arith) e)
 place_apart layout (KindOf x) (Cell y i) plain one other apart e = header_cell 3 x y i (omega arith) other.1 e
-place_apart layout (KindOf x) (ThreadWord u) plain one other apart e = absurd (omega (arith, plain.few_workers, other, e))
+place_apart layout (KindOf x) (ThreadWord u) plain one other apart e = absurd
+    (omega (arith, plain.few_workers, other, e))
 place_apart layout (Cell y i) (KindOf x) plain one other apart e = header_cell 3 x y i (omega arith) one.1 (sym e)
-place_apart layout (ThreadWord u) (KindOf x) plain one other apart e = absurd (omega (arith, plain.few_workers, one, e))
+place_apart layout (ThreadWord u) (KindOf x) plain one other apart e = absurd
+    (omega (arith, plain.few_workers, one, e))
 place_apart layout (Cell x i) (Cell y j) plain one other apart e =
     let same = cell_apart x i y j one.1 other.1 e in
     absurd (let both : ((x == y) && (i == j)) ≡ true = rw (eq-eqb x y same.0, eq-eqb i j same.1) refl in let wrong :
     true ≡ false = sym both ∙ apart in cc)
-place_apart layout (Cell x i) (ThreadWord u) plain one other apart e = absurd (omega (arith, plain.few_workers, other, e))
-place_apart layout (ThreadWord u) (Cell x i) plain one other apart e = absurd (omega (arith, plain.few_workers, one, e))
+place_apart layout (Cell x i) (ThreadWord u) plain one other apart e = absurd
+    (omega (arith, plain.few_workers, other, e))
+place_apart layout (ThreadWord u) (Cell x i) plain one other apart e = absurd
+    (omega (arith, plain.few_workers, one, e))
 place_apart layout (Marks t w) (Marks u z) plain one other apart e =
     let same = marks_apart layout t w u z plain one other e in
     absurd (let both : ((t == u) && (w == z)) ≡ true = rw (eq-eqb t u same.0, eq-eqb w z same.1) refl in let wrong :
@@ -183,7 +192,8 @@ row_tile layout x low =
     let b = div-add-mod (n + 7) line in let s = rest_low (n + 7) in
     omega (arith, low, a, r, b, s)
 
-pub header_within : (layout : Layout) (k x : ℕ) → k < header_lines → x < row_count layout → in_tile k x < word_count layout
+pub header_within : (layout : Layout) (k x : ℕ) → k < header_lines → x < row_count layout
+    → in_tile k x < word_count layout
 header_within layout k x low there = omega (arith, low, row_tile layout x there, rest_low x)
 
 pub cell_within : (layout : Layout) (x i : ℕ) → i < line → x < row_count layout → cell_place x i < word_count layout

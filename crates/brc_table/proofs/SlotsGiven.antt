@@ -128,7 +128,8 @@ module _ (laws : ModelLaws)
         (λ y locks. first.slots y (inr locks) ∙ (holds.slots.locked id y v here locks).1) due
 
     module _ (f : ℕ → ℕ)
-        (leaves : allowed.LeavesWord laws layout v u d rest index becomes next f) (small : slice_index s.words index < 2 ^ 64) where
+        (leaves : allowed.LeavesWord laws layout v u d rest index becomes next f)
+        (small : slice_index s.words index < 2 ^ 64) where
       -- The rule holds after the step.
       pub stands_now : TableStands layout (set s.words index (f (slice_index s.words index)))
           (set s.homes x (home.some slot)) (set s.views id (view_by u (d ∷ rest) found))

@@ -154,7 +154,8 @@ module _ (laws : ModelLaws) (layout : Layout) (v u : View) (d : Duty)
           (inl (is_home id v here))
 
       module _ (f : ℕ → ℕ)
-          (leaves : allowed.LeavesWord laws layout v u d rest index becomes next f) (small : slice_index s.words index < 2 ^ 64)
+          (leaves : allowed.LeavesWord laws layout v u d rest index becomes next f)
+          (small : slice_index s.words index < 2 ^ 64)
           (lock : (y : ℕ) → u.actor.locked ≡ Some y → locked_by u.actor.locked d found ≡ Some y)
           (locks : (y : ℕ) → locked_by u.actor.locked d found ≡ Some y
           → ((y ≡ x) × (m.memory (Slot x) ≡ u.in_slot)) ⊎ ((v.actor.locked ≡ Some y) × (u.in_slot ≡ v.in_slot))) where

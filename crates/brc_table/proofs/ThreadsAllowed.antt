@@ -34,7 +34,8 @@ alive_word Gone alive e = alive refl
 pub record IsOnThread (layout : Layout) (t head : ℕ) (d : Duty) : Type 0 where
   pub thread : ℕ
   pub address : address_of layout t head d ≡ ThreadWord thread
-  pub says : (found : ℕ) → thread_reading (new_word layout t head d found) ≡ new_word layout t head d (thread_reading found)
+  pub says : (found : ℕ)
+      → thread_reading (new_word layout t head d found) ≡ new_word layout t head d (thread_reading found)
   pub kind : ((found : ℕ) → new_word layout t head d found ≡ found)
       ⊎ ((thread ≡ t) × ((found : ℕ) → 0 < new_word layout t head d found))
 
@@ -46,7 +47,8 @@ module _ (laws : ModelLaws) (layout : Layout) (v u : View)
   thread_says k = ap (λ (a : Address). reading a k) on.address
 
   -- The word that is left says what the duty leaves of what was said.
-  left_says : (found : ℕ) → found < 2 ^ 64 → read_of u d (f found) ≡ new_word u.layout u.thread u.actor.head d (read_of u d found)
+  left_says : (found : ℕ) → found < 2 ^ 64
+      → read_of u d (f found) ≡ new_word u.layout u.thread u.actor.head d (read_of u d found)
   left_says found small =
       thread_says (f found) ∙ (ap thread_reading (leaves found small)
       ∙ (on.says found ∙ ap (new_word u.layout u.thread u.actor.head d) (sym (thread_says found))))

@@ -231,8 +231,8 @@ object_step layout words v u e left plain known steps object has =
     → thread_word (set words (place e.address) left) t ≡ thread_word words t =
     λ t low.
     get_or-set_other words (place e.address) (place (ThreadWord t)) left 0
-    (λ same. place_apart layout e.address (ThreadWord t) plain has (omega (arith, low)) (object_apart e.address t object)
-    (sym same)) in
+    (λ same. place_apart layout e.address (ThreadWord t) plain has (omega (arith, low))
+    (object_apart e.address t object) (sym same)) in
     record {
       thread = steps.thread;
       given = λ t. ap (list_any (λ k. k == t)) steps.given;

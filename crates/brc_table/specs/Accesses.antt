@@ -32,8 +32,8 @@ abbrev pub HasChain : Duty → ℕ → Type 0
 HasChain Settle head = 0 < head
 HasChain _ head = Unit {0}
 
--- If the duty loads a mark word of the thread's block, the thread has used a row of that word. If it takes the lowest of the marks
--- that were found, there is one, and the thread has used its row.
+-- If the duty loads a mark word of the thread's block, the thread has used a row of that word. If it takes the lowest
+-- of the marks that were found, there is one, and the thread has used its row.
 abbrev pub HasUsedRow : Duty → ℕ → Type 0
 HasUsedRow (Scan w n) used = marks_of_word * w < used
 HasUsedRow (MarksLoad w) used = marks_of_word * w < used

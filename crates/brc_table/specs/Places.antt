@@ -18,7 +18,7 @@ line = 8
 abbrev pub marks_front : ℕ
 marks_front = 40
 
--- the words between the mark words of a block and those of the next one: three lines
+-- the words kept for the mark words of a block: three lines
 abbrev pub mark_room : ℕ
 mark_room = 24
 

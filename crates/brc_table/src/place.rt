@@ -12,8 +12,7 @@ pub(crate) const LINE: usize = 8;
 /// The words in front of the mark words: five lines of thread words.
 const MARKS_FRONT: usize = 40;
 
-/// The words between the mark words of a block and those of the next one: three lines. A block has at most 17 mark
-/// words.
+/// The words kept for the mark words of a block: three lines. A block has at most 17 mark words.
 const MARK_ROOM: usize = 24;
 
 /// The most threads: main and 32 workers.

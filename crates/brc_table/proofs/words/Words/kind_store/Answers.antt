@@ -28,5 +28,6 @@ step_from-requires-clause-next g c =
     c.row_at-row.ensures ∙ (ap (λ (t : ℕ). row_at c.layout.result t c.hand.inside.used) thread
     ∙ (ap (row_at c.layout.result v.thread) used
     ∙ ap (λ (l : Layout). row_at l v.thread v.actor.used)
-    (c.layout.ensures ∙ c.self.invariant.0 ∙ (ap (λ (w : TableState). w.layout) c.self.view_is ∙ sym c.requires.table.1)))) in
+    (c.layout.ensures
+    ∙ (c.self.invariant.0 ∙ (ap (λ (w : TableState). w.layout) c.self.view_is ∙ sym c.requires.table.1))))) in
     ap (λ (x : ℕ). BirthKind x AsCaller c.args.word) (sym row_is)
