@@ -51,6 +51,12 @@ emptied_all : (g : given.Over) (c : After-cells_of g) (w : View) (rest : List Du
     → HasWorked (to_settle rest c.args.hand.now.view) [] (SettleEnd (c.head-row.result - 1) ∷ Settle ∷ rest) w
 emptied_all g c w rest emptied comes = all_emptied _ _ w _ c.cells_of.result rest (cells g c rest comes) emptied
 
+pub step-kind-requires-clause-alive : goal.step-kind-requires-clause-alive
+step-kind-requires-clause-alive g c = λ gone.
+    let at = taken_off _ _ _ c.gate_load.result c.requires.duty.0 c.requires.chain
+    (ap (λ (n : ℕ). n - 1) c.head-row.ensures) c.requires.duty.1 c.gate_load.ensures.view c.rows_are_there.ensures in
+    comes_alive _ _ c.requires.duty.1 (sym at.keeps.status ∙ gone)
+
 pub step-kind-requires-clause-next : goal.step-kind-requires-clause-next
 step-kind-requires-clause-next g c =
     let at = taken_off _ _ _ c.gate_load.result c.requires.duty.0 c.requires.chain
