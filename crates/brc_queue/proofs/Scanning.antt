@@ -12,6 +12,9 @@ use Rattle.brc_table.specs.Views.{RowsAreThere}
 use Rattle.brc_model.specs.Duties.{found_row, ready, claimed}
 use Rattle.brc_table.specs.declared.view.View.{View}
 use Rattle.brc_table.specs.Views.{view_by, view_after, claiming, loading_marks}
+use Rattle.brc_table.specs.declared.work.Work.{Work}
+use Rattle.brc_table.specs.declared.work.Work.TheVariants as work
+use Rattle.brc_table.specs.Turns.{turned_to}
 use Rattle.brc_heap.specs.Steps.{Keeps}
 use Rattle.brc_free.specs.Works.{HasWorked, claimed_left}
 use Rattle.brc_queue.specs.Scans.{words_used, scans_from, takes_from}
@@ -55,6 +58,11 @@ pub load_idle : (v w : View) (word found : ℕ) → v.actor.head ≡ 0 → w ≡
     → w.actor.agenda ≡ []
 load_idle v w word found empty is =
     ap (λ (z : View). z.actor.agenda) is ∙ ap (λ (head : ℕ). ready head []) empty
+
+-- A hand that turns to other work stays in its layout.
+pub turned_layout : (work : Work) (v : View) (x : ℕ) → (turned_to work v x).layout ≡ v.layout
+turned_layout work.Next v x = refl
+turned_layout work.Aside v x = refl
 
 -- ---- rows of a block
 

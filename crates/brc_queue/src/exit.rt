@@ -1,6 +1,6 @@
 //! The exit of a thread.
 
-ghost use Rattle.std.specs.Prelude.{◌≡◌, ◌≢◌, ◌<◌, ◌+◌, ◌*◌, None, List, [], ◌∷◌};
+ghost use Rattle.std.specs.Prelude.{◌≡◌, ◌≢◌, ◌<◌, ◌+◌, ◌*◌, ◌^◌, None, List, [], ◌∷◌};
 ghost use Rattle.brc_host.specs.HostCounts.{raised};
 ghost use Rattle.brc_host.specs.HostCalls.{HostCall, HasAnswered, close_faults};
 ghost use Rattle.brc_model.specs.declared.actor.Status.TheVariants.{Gone};
@@ -130,6 +130,7 @@ impl<'h, T: Drop> Queue<'h, T> {
         requires settled { hand.old.view.actor.head ≡ 0 }
         requires some { 0 < marks }
         requires used { AreUsedMarks hand.old.view.actor.used word marks }
+        requires few { hand.old.view.actor.used < 2 ^ 32 }
         requires duty { hand.old.view.actor.agenda ≡ takes_from hand.old.view.actor.used word marks }
         ensures kept { KeepsButView hand.old hand.new }
         ensures settled { hand.new.view.actor.head ≡ 0 }

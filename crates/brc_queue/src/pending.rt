@@ -93,6 +93,7 @@ impl<'h, T: Drop> Queue<'h, T> {
             × (result ≡ raised (close_faults closes) 0)
             × HasAnswered H.answers H.counts host.old closes host.new }
     {
+        hand.rows_are_there();
         let rows = hand.used() - MARKS_OF_WORD * word;
         // `MarksLooked`: one load looks at the marks of 64 rows, of which mostly none is set.
         let found = heap.words().marks_load(hand, word);

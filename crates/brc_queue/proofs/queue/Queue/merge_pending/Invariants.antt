@@ -7,11 +7,11 @@ use Rattle.brc_heap.specs.Steps.{Keeps}
 use Rattle.brc_queue.specs.Scans.{HasScanned}
 use Rattle.brc_queue.proofs.queue.Queue.merge_pending.Given as goal
 
--- The marks of the rows before this one are taken, and the hand has nothing to do.
-abbrev pub invariant-loop-index : goal.invariant-loop-index
-invariant-loop-index g l =
+-- The hand has looked at the mark words before this one, and has nothing to do.
+abbrev pub invariant-loop-word : goal.invariant-loop-word
+invariant-loop-word g l =
     KeepsButView l.fn.hand l.hand
     × IsFree l.hand.view × (l.hand.view.actor.head ≡ 0) × Keeps l.fn.hand.view l.hand.view
-    × ((closes : List HostCall) × HasScanned l.fn.hand.view l.index closes l.hand.view
+    × ((closes : List HostCall) × HasScanned l.fn.hand.view l.word closes l.hand.view
     × (l.failed ≡ raised (close_faults closes) 0)
     × HasAnswered g.H.Host.answers g.H.Host.counts l.fn.host closes l.host)

@@ -1,15 +1,14 @@
 use Rattle.brc_table.proofs.Kept.{kept_on, kept_itself}
-use Rattle.std.proofs.Common.{◌≡◌, ℕ, ◌-◌, ◌<◌, [], ◌∷◌, refl, sym, ap, ◌∙◌, subst, arith, ◌++◌}
+use Rattle.std.proofs.Common.{◌≡◌, ℕ, ◌+◌, ◌-◌, [], ◌∷◌, refl, sym, ap, ◌∙◌, subst, arith, ◌++◌}
 use Rattle.brc_host.specs.HostCalls.{NoCall, close_faults}
 use Rattle.brc_host.proofs.Answering.{answered_then, close_faults_then}
 use Rattle.brc_host.specs.HostCounts.{raised}
 use Rattle.brc_model.specs.declared.duty.Duty.TheVariants.{Scan, Finish}
 use Rattle.brc_model.specs.Duties.{ready}
+use Rattle.brc_free.specs.Works.{HasWorked}
 use Rattle.brc_free.proofs.Working.{worked_first, worked_then}
 use Rattle.brc_free.proofs.Closes.{sums_both}
-use Rattle.brc_queue.specs.Scans.{words_used, scans_from}
-use Rattle.brc_queue.proofs.Scanning.{scans_next, word_used}
-use Rattle.brc_queue.proofs.queue.Queue.scan.Given as given
+use Rattle.brc_queue.specs.Scans.{scans_from}
 use Rattle.brc_queue.proofs.queue.Queue.scan.Goals as goal
 
 pub loop-word-init : goal.loop-word-init
@@ -41,7 +40,9 @@ loop-word-preserved g c =
       (
         before.0 ++ one.work.0,
         worked_then v u w before.0 one.work.0 (scans_from v.actor.used c.loop-word.word)
-            (scans_from v.actor.used (c.loop-word.word + 1)) before.1 one.work.1,
+            (scans_from v.actor.used (c.loop-word.word + 1)) before.1
+            (subst (λ (n : ℕ). HasWorked u one.work.0 (scans_from n (c.loop-word.word + 1)) w) before.1.keeps.used
+            one.work.1),
         c.saturating_add-failed.ensures
             ∙ (sums_both c.loop-word.failed c.scan_word.result (close_faults before.0) (close_faults one.work.0)
             before.2 one.work.2

@@ -1,5 +1,5 @@
 use Rattle.brc_table.specs.Hands.{KeepsButView}
-use Rattle.std.proofs.Common.{◌≡◌, [], List}
+use Rattle.std.proofs.Common.{◌≡◌, List}
 use Rattle.brc_host.specs.HostCalls.{HostCall, HasAnswered, close_faults}
 use Rattle.brc_host.specs.HostCounts.{raised}
 use Rattle.brc_free.specs.Works.{HasWorked}

@@ -8,8 +8,8 @@ use Rattle.brc_queue.specs.Scans.{takes_from}
 use Rattle.brc_queue.proofs.queue.Queue.scan_word.Given as goal
 
 -- These marks are left to take, and the hand has settled.
-abbrev pub invariant-loop : goal.invariant-loop
-invariant-loop g l =
+abbrev pub invariant-loop-marks : goal.invariant-loop-marks
+invariant-loop-marks g l =
     KeepsButView l.fn.hand l.hand
     × (l.hand.view.actor.head ≡ 0)
     × AreUsedMarks l.fn.hand.view.actor.used l.word l.marks
@@ -18,5 +18,5 @@ invariant-loop g l =
     × (l.failed ≡ raised (close_faults closes) 0)
     × HasAnswered g.H.Host.answers g.H.Host.counts l.fn.host closes l.host)
 
-abbrev pub decreases-loop : goal.decreases-loop
-decreases-loop g l = l.marks
+abbrev pub decreases-loop-marks : goal.decreases-loop-marks
+decreases-loop-marks g l = l.marks
