@@ -76,12 +76,12 @@ pub fn first_duty(functions: &[Function], layout: Layout, number: u8, thread: &m
     }
 }
 
-/// Dispatches the next instruction or the exit, once the agenda is empty, and writes the step's start. The dispatch of a
-/// call's first instruction also begins the call. That is no step of its own, because an idle thread's variables and
+/// Dispatches the next instruction or the exit, once the agenda is empty, and writes the step's start. The dispatch of
+/// a call's first instruction also begins the call. That is no step of its own, because an idle thread's variables and
 /// counts are no part of the world.
 // Each function here writes the start where its caller wants it. One that is returned by value is copied once for each
 // function on its way, with stores that the next copy waits for (docs/lists/PERFORMANCE.md).
-#[inline(never)]
+#[inline(always)]
 pub fn dispatch(
     functions: &[Function],
     layout: Layout,
