@@ -68,47 +68,59 @@ pub fn first_duty(functions: &[Function], layout: Layout, number: u8, thread: &m
 {
     match thread.agenda.pop() {
         Some(duty) => Start::Doing(duty),
-        None => dispatch(functions, layout, number, thread),
+        None => {
+            let mut start = Start::Stuck;
+            dispatch(functions, layout, number, thread, &mut start);
+            start
+        }
     }
 }
 
-/// Dispatches the next instruction or the exit, once the agenda is empty. The dispatch of a call's first instruction
-/// also begins the call. That is no step of its own, because an idle thread's variables and counts are no part of the
-/// world.
-// Inside the step its start would be put together once for each function on the way (docs/lists/PERFORMANCE.md).
-#[inline(never)]
-pub fn dispatch(functions: &[Function], layout: Layout, number: u8, thread: &mut Thread) -> Start
+/// Dispatches the next instruction or the exit, once the agenda is empty, and writes the step's start. The dispatch of
+/// a call's first instruction also begins the call. That is no step of its own, because an idle thread's variables and
+/// counts are no part of the world.
+// Each function here writes the start where its caller wants it. One that is returned by value is copied once for each
+// function on its way, with stores that the next copy waits for (docs/lists/PERFORMANCE.md).
+#[inline(always)]
+pub fn dispatch(
+    functions: &[Function],
+    layout: Layout,
+    number: u8,
+    thread: &mut Thread,
+    start: &mut Start,
+)
     requires empty { thread.old.agenda.items ≡ [] }
     requires room { 8 ≤ vec_capacity thread.old.agenda }
     ensures { HasDispatched thread.old (dispatch layout number thread.old.used (code_of (slice_get functions.now
-        thread.old.function)) (actor_of thread.old).place) result thread.new }
+        thread.old.function)) (actor_of thread.old).place) start.new thread.new }
 {
     match thread.mode {
-        Mode::Exiting => Start::Stuck,
-        Mode::Stopping { locked } => go_on_stopping(locked, thread),
+        Mode::Exiting => *start = Start::Stuck,
+        Mode::Stopping { locked } => go_on_stopping(locked, thread, start),
         Mode::InCall => {
             let left = thread.left;
-            next_instruction(functions, layout, number, thread, left)
+            next_instruction(functions, layout, number, thread, left, start);
         }
-        Mode::Inside(stage) => this_instruction(functions, layout, number, thread, stage),
+        Mode::Inside(stage) => this_instruction(functions, layout, number, thread, stage, start),
         Mode::Idle => {
             if thread.left == 0 {
-                return exit(thread);
+                exit(thread, start);
+                return;
             }
             thread.at = 0;
             thread.variables = entry_variables();
             thread.turns = [0; 256];
             let left = thread.left - 1;
-            next_instruction(functions, layout, number, thread, left)
+            next_instruction(functions, layout, number, thread, left, start);
         }
     }
 }
 
 /// Begins the exit: the thread releases its reference to the root, deallocates its dying chain, and then leaves.
-fn exit(thread: &mut Thread) -> Start
+fn exit(thread: &mut Thread, start: &mut Start)
     requires empty { thread.old.agenda.items ≡ [] }
     requires room { 8 ≤ vec_capacity thread.old.agenda }
-    ensures { HasDispatched thread.old (exit_action thread.old.used) result thread.new }
+    ensures { HasDispatched thread.old (exit_action thread.old.used) start.new thread.new }
 {
     thread.mode = Mode::Exiting;
     thread.agenda.push_reserved(Duty::Leave {
@@ -116,10 +128,10 @@ fn exit(thread: &mut Thread) -> Start
         rows: thread.used,
     });
     thread.agenda.push_reserved(Duty::Settle);
-    Start::Doing(Duty::ReleaseLoad {
+    *start = Start::Doing(Duty::ReleaseLoad {
         row: ROOT,
         holding: Holding::AsCaller,
-    })
+    });
 }
 
 /// Dispatches the instruction `thread.at` of a call after which `left` calls remain. Past the last instruction the
@@ -131,16 +143,17 @@ fn next_instruction(
     number: u8,
     thread: &mut Thread,
     left: u32,
-) -> Start
+    start: &mut Start,
+)
     requires empty { thread.old.agenda.items ≡ [] }
     requires room { 8 ≤ vec_capacity thread.old.agenda }
     ensures { HasDispatched thread.old (action_at layout number left
-        (slice_get (code_of (slice_get functions.now thread.old.function)) thread.old.at) thread.old) result
+        (slice_get (code_of (slice_get functions.now thread.old.function)) thread.old.at) thread.old) start.new
         thread.new }
 {
     match code_of(functions, thread.function).get(thread.at) {
-        Some(instr) => begin(*instr, layout, number, thread, left),
-        None => Start::Stuck,
+        Some(instr) => begin(*instr, layout, number, thread, left, start),
+        None => *start = Start::Stuck,
     }
 }
 
@@ -152,16 +165,17 @@ fn this_instruction(
     number: u8,
     thread: &mut Thread,
     stage: Stage,
-) -> Start
+    start: &mut Start,
+)
     requires empty { thread.old.agenda.items ≡ [] }
     requires room { 8 ≤ vec_capacity thread.old.agenda }
     ensures { HasDispatched thread.old (action_inside layout number stage
-        (slice_get (code_of (slice_get functions.now thread.old.function)) thread.old.at) thread.old) result
+        (slice_get (code_of (slice_get functions.now thread.old.function)) thread.old.at) thread.old) start.new
         thread.new }
 {
     match code_of(functions, thread.function).get(thread.at) {
-        Some(instr) => go_on_inside(*instr, stage, layout, number, thread),
-        None => Start::Stuck,
+        Some(instr) => go_on_inside(*instr, stage, layout, number, thread, start),
+        None => *start = Start::Stuck,
     }
 }
 
@@ -186,9 +200,16 @@ pub fn entry_variables() -> Variables
 
 /// Begins the instruction, in a call after which `left` calls remain.
 #[inline(always)]
-fn begin(instr: Instr, layout: Layout, number: u8, thread: &mut Thread, left: u32) -> Start
+fn begin(
+    instr: Instr,
+    layout: Layout,
+    number: u8,
+    thread: &mut Thread,
+    left: u32,
+    start: &mut Start,
+)
     requires { CanDispatch thread.old }
-    ensures { HasDispatched thread.old (action_at layout number left (Some instr) thread.old) result thread.new }
+    ensures { HasDispatched thread.old (action_at layout number left (Some instr) thread.old) start.new thread.new }
 {
     match instr {
         Instr::Num {
@@ -197,7 +218,7 @@ fn begin(instr: Instr, layout: Layout, number: u8, thread: &mut Thread, left: u3
             otherwise,
         } => {
             let word = kind_word(NUM, value);
-            birth(to, word, otherwise, layout, number, thread, left)
+            birth(to, word, otherwise, layout, number, thread, left, start);
         }
         Instr::List {
             to,
@@ -205,39 +226,41 @@ fn begin(instr: Instr, layout: Layout, number: u8, thread: &mut Thread, left: u3
             otherwise,
         } => {
             let word = kind_word(LIST, u32::from(cells));
-            birth(to, word, otherwise, layout, number, thread, left)
+            birth(to, word, otherwise, layout, number, thread, left, start);
         }
-        Instr::NoneObject { to } => name_none(to, thread, left),
-        Instr::Newref { to, from } => name_again(to, from, thread, left),
-        Instr::Move { to, from } => hand_on(to, from, thread, left),
-        Instr::Drop { from } => give_up(from, thread, left),
-        Instr::Lock { object } => lock(object, thread, left),
-        Instr::Unlock { object } => unlock(object, thread, left),
+        Instr::NoneObject { to } => name_none(to, thread, left, start),
+        Instr::Newref { to, from } => name_again(to, from, thread, left, start),
+        Instr::Move { to, from } => hand_on(to, from, thread, left, start),
+        Instr::Drop { from } => give_up(from, thread, left, start),
+        Instr::Lock { object } => lock(object, thread, left, start),
+        Instr::Unlock { object } => unlock(object, thread, left, start),
         Instr::Borrow { .. } | Instr::Fetch { .. } | Instr::Set { .. } | Instr::Put { .. } => {
-            ask_for_cell(instr, thread, left)
+            ask_for_cell(instr, thread, left, start);
         }
-        Instr::Open { to, otherwise, .. } => ask_host(to, otherwise, layout, number, thread, left),
+        Instr::Open { to, otherwise, .. } => ask_host(
+            to, otherwise, layout, number, thread, left, start,
+        ),
         Instr::Connect { to, otherwise, .. } => {
-            ask_host(to, otherwise, layout, number, thread, left)
+            ask_host(to, otherwise, layout, number, thread, left, start);
         }
         Instr::Read {
             to,
             file,
             otherwise,
             ..
-        } => read(to, file, otherwise, layout, number, thread, left),
-        Instr::Write { number: value, .. } => write(value, thread, left),
+        } => read(to, file, otherwise, layout, number, thread, left, start),
+        Instr::Write { number: value, .. } => write(value, thread, left, start),
         Instr::As {
             from,
             kind,
             otherwise,
-        } => ask_kind(from, kind, otherwise, thread, left),
-        Instr::Goto { target } => go(target, thread, left),
-        Instr::Again { target, times } => again(target, times, thread, left),
-        Instr::Ret { from } => return_object(from, thread, left),
+        } => ask_kind(from, kind, otherwise, thread, left, start),
+        Instr::Goto { target } => go(target, thread, left, start),
+        Instr::Again { target, times } => again(target, times, thread, left, start),
+        Instr::Ret { from } => return_object(from, thread, left, start),
         Instr::Fail => {
             thread.rest(left);
-            Start::Moved
+            *start = Start::Moved;
         }
     }
 }

@@ -272,8 +272,8 @@ fn act_by_dispatch(
     ensures as_many_rows { length memory.new.local ≡ length memory.old.local }
     ensures as_many_threads { length memory.new.thread ≡ length memory.old.thread }
 {
-    let start = dispatch(functions, layout, number, thread);
-    // By reference: in a copy, loads would wait for stores of another width (docs/lists/PERFORMANCE.md).
+    let mut start = Start::Stuck;
+    dispatch(functions, layout, number, thread, &mut start);
     match &start {
         Start::Stuck => Did::Same,
         Start::Moved => Did::Moved,

@@ -245,7 +245,7 @@ impl<'a> World<'a> {
     /// Takes one step of the thread, which accesses one word at most, and returns what the step did. Returns
     /// `NoMemory`, with nothing changed, if memory is refused; a step that changes nothing is never refused. The choice
     /// `Fault` means what `Ok` means, unless the step is a host call or a close.
-    #[inline]
+    #[inline(always)]
     pub fn step(&mut self, thread: usize, choice: Choice) -> Result<Did, NoMemory>
         requires { thread < length self.old.actors }
         ensures made { OnOk result (model_of self.new ≡ step (model_of self.old) thread choice) }

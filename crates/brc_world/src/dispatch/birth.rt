@@ -24,29 +24,30 @@ pub(super) fn birth(
     number: u8,
     thread: &mut Thread,
     left: u32,
-) -> Start
+    start: &mut Start,
+)
     requires { CanDispatch thread.old }
     ensures { HasDispatched thread.old (birth_action layout number thread.old.used (context_in left thread.old)
-        thread.old.at thread.old.variables to word otherwise) result thread.new }
+        thread.old.at thread.old.variables to word otherwise) start.new thread.new }
 {
     let next = thread.at + 1;
     match next_row(layout, number, thread.used) {
         Some(row) => {
             thread.set(to, Some(row));
             thread.go_to(left, next);
-            Start::Doing(Duty::BirthKind {
+            *start = Start::Doing(Duty::BirthKind {
                 row,
                 holding: Holding::ByVariable {
                     depth: 0,
                     variable: to,
                 },
                 word,
-            })
+            });
         }
         None => {
             thread.set(to, None);
             thread.go_to(left, usize::from(otherwise));
-            Start::Moved
+            *start = Start::Moved;
         }
     }
 }

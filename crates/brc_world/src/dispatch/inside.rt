@@ -18,18 +18,19 @@ pub(super) fn go_on_inside(
     layout: Layout,
     number: u8,
     thread: &mut Thread,
-) -> Start
+    start: &mut Start,
+)
     requires { CanDispatch thread.old }
-    ensures { HasDispatched thread.old (action_inside layout number stage (Some instr) thread.old) result thread.new }
+    ensures { HasDispatched thread.old (action_inside layout number stage (Some instr) thread.old) start.new thread.new }
 {
     match stage {
-        Stage::InRange => use_cell(instr, thread),
-        Stage::OutOfRange => give_up_item(instr, thread),
-        Stage::Found { row } => retain_found(instr, row, thread),
-        Stage::Retained => put_retained(instr, thread),
-        Stage::Loaded => lend_to_write(instr, thread),
-        Stage::Lent => use_lent(instr, thread),
-        Stage::Called { exit } => put_back(instr, exit, thread),
-        Stage::Granted => make_granted(instr, layout, number, thread),
+        Stage::InRange => use_cell(instr, thread, start),
+        Stage::OutOfRange => give_up_item(instr, thread, start),
+        Stage::Found { row } => retain_found(instr, row, thread, start),
+        Stage::Retained => put_retained(instr, thread, start),
+        Stage::Loaded => lend_to_write(instr, thread, start),
+        Stage::Lent => use_lent(instr, thread, start),
+        Stage::Called { exit } => put_back(instr, exit, thread, start),
+        Stage::Granted => make_granted(instr, layout, number, thread, start),
     }
 }

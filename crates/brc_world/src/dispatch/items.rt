@@ -23,11 +23,11 @@ use brc_model::{Duty, Holding, Stage};
 
 /// Begins an instruction that uses a cell.
 #[inline(always)]
-pub(super) fn ask_for_cell(instr: Instr, thread: &mut Thread, left: u32) -> Start
+pub(super) fn ask_for_cell(instr: Instr, thread: &mut Thread, left: u32, start: &mut Start)
     requires can { CanDispatch thread.old }
     requires item { uses_cell instr ≡ true }
     ensures { (layout : Layout) (t : ℕ) → HasDispatched thread.old (action_at layout t left (Some instr) thread.old)
-        result
+        start.new
         thread.new }
 {
     match instr {
@@ -42,6 +42,7 @@ pub(super) fn ask_for_cell(instr: Instr, thread: &mut Thread, left: u32) -> Star
             Outside::Empties { to, otherwise },
             thread,
             left,
+            start,
         ),
         Instr::Fetch {
             to,
@@ -54,46 +55,68 @@ pub(super) fn ask_for_cell(instr: Instr, thread: &mut Thread, left: u32) -> Star
             Outside::Empties { to, otherwise },
             thread,
             left,
+            start,
         ),
-        Instr::Set { list, index, .. } => ask_range(list, index, Outside::Releases, thread, left),
+        Instr::Set { list, index, .. } => ask_range(
+            list,
+            index,
+            Outside::Releases,
+            thread,
+            left,
+            start,
+        ),
         Instr::Put {
             list,
             index,
             otherwise,
             ..
-        } => ask_range(list, index, Outside::GoesOn { otherwise }, thread, left),
-        _ => Start::Stuck,
+        } => ask_range(
+            list,
+            index,
+            Outside::GoesOn { otherwise },
+            thread,
+            left,
+            start,
+        ),
+        _ => *start = Start::Stuck,
     }
 }
 
 /// Begins the load of the list's kind word, which decides whether the list has a cell with the index
 /// (`index_at_the_end_in_range`).
 #[inline(always)]
-fn ask_range(list: Variable, index: u8, outside: Outside, thread: &mut Thread, left: u32) -> Start
+fn ask_range(
+    list: Variable,
+    index: u8,
+    outside: Outside,
+    thread: &mut Thread,
+    left: u32,
+    start: &mut Start,
+)
     requires { CanDispatch thread.old }
     ensures { HasDispatched thread.old (with_row (row_of thread.old.variables list) (λ row. Does (KindLoad row) []
         (λ found. place_answered (questions.Range index outside) found (context_in left thread.old) thread.old.at
         thread.old.variables)))
-        result thread.new }
+        start.new thread.new }
 {
     match thread.row_of(list) {
         Some(row) => {
             thread.left = left;
-            Start::Asking {
+            *start = Start::Asking {
                 duty: Duty::KindLoad { row },
                 question: Question::Range { index, outside },
-            }
+            };
         }
-        None => Start::Stuck,
+        None => *start = Start::Stuck,
     }
 }
 
 /// Goes on with an instruction whose list has the cell.
 #[inline(always)]
-pub(super) fn use_cell(instr: Instr, thread: &mut Thread) -> Start
+pub(super) fn use_cell(instr: Instr, thread: &mut Thread, start: &mut Start)
     requires { CanDispatch thread.old }
     ensures { (layout : Layout) (t : ℕ) → HasDispatched thread.old (action_inside layout t stages.InRange (Some instr)
-        thread.old) result thread.new }
+        thread.old) start.new thread.new }
 {
     match instr {
         Instr::Borrow {
@@ -101,79 +124,93 @@ pub(super) fn use_cell(instr: Instr, thread: &mut Thread) -> Start
             list,
             index,
             otherwise,
-        } => borrow(to, list, index, otherwise, thread),
+        } => borrow(to, list, index, otherwise, thread, start),
         Instr::Fetch {
             to,
             list,
             index,
             otherwise,
-        } => fetch(to, list, index, otherwise, thread),
+        } => fetch(to, list, index, otherwise, thread, start),
         Instr::Set {
             list,
             index,
             from,
             otherwise,
-        } => set(list, index, from, otherwise, thread),
+        } => set(list, index, from, otherwise, thread, start),
         Instr::Put {
             list,
             index,
             from,
             otherwise,
-        } => retain_to_put(from, thread),
-        _ => Start::Stuck,
+        } => retain_to_put(from, thread, start),
+        _ => *start = Start::Stuck,
     }
 }
 
 /// Goes on with `borrow`: the load of the cell. (C API manual, `PyList_GetItem`: the list keeps its reference, and the
 /// thread makes none.)
-fn borrow(to: Variable, list: Variable, index: u8, otherwise: u8, thread: &mut Thread) -> Start
+fn borrow(
+    to: Variable,
+    list: Variable,
+    index: u8,
+    otherwise: u8,
+    thread: &mut Thread,
+    start: &mut Start,
+)
     requires { CanDispatch thread.old }
     ensures { (layout : Layout) (t : ℕ) → HasDispatched thread.old (action_inside layout t stages.InRange
-        (Some (instructions.Borrow to list index otherwise)) thread.old) result thread.new }
+        (Some (instructions.Borrow to list index otherwise)) thread.old) start.new thread.new }
 {
     let next = thread.at + 1;
     match thread.row_of(list) {
         Some(row) => {
             thread.at = next;
-            load_cell(row, index, Question::Borrow { to, otherwise })
+            load_cell(row, index, Question::Borrow { to, otherwise }, start);
         }
-        None => Start::Stuck,
+        None => *start = Start::Stuck,
     }
 }
 
 /// Goes on with `fetch`: the load of the cell.
-fn fetch(to: Variable, list: Variable, index: u8, otherwise: u8, thread: &mut Thread) -> Start
+fn fetch(
+    to: Variable,
+    list: Variable,
+    index: u8,
+    otherwise: u8,
+    thread: &mut Thread,
+    start: &mut Start,
+)
     requires { CanDispatch thread.old }
     ensures { (layout : Layout) (t : ℕ) → HasDispatched thread.old (action_inside layout t stages.InRange
-        (Some (instructions.Fetch to list index otherwise)) thread.old) result thread.new }
+        (Some (instructions.Fetch to list index otherwise)) thread.old) start.new thread.new }
 {
     match thread.row_of(list) {
-        Some(row) => load_cell(row, index, Question::Fetch { to, otherwise }),
-        None => Start::Stuck,
+        Some(row) => load_cell(row, index, Question::Fetch { to, otherwise }, start),
+        None => *start = Start::Stuck,
     }
 }
 
 /// Begins the load of the cell.
-fn load_cell(row: u32, index: u8, question: Question) -> Start
-    ensures { result ≡ Start.Asking (CellLoad row index) question }
+fn load_cell(row: u32, index: u8, question: Question, start: &mut Start)
+    ensures { start.new ≡ Start.Asking (CellLoad row index) question }
 {
-    Start::Asking {
+    *start = Start::Asking {
         duty: Duty::CellLoad {
             row,
             cell: u32::from(index),
         },
         question,
-    }
+    };
 }
 
 /// Ends `fetch`: the retain of the item that the thread found. (C API manual, `PyList_GetItemRef`: the caller owns the
 /// reference.) The list is locked until then, so the item lives (`fetch_without_retain`).
 #[inline(always)]
-pub(super) fn retain_found(instr: Instr, item: u32, thread: &mut Thread) -> Start
+pub(super) fn retain_found(instr: Instr, item: u32, thread: &mut Thread, start: &mut Start)
     requires { CanDispatch thread.old }
     ensures { (layout : Layout) (t : ℕ) → HasDispatched thread.old (action_inside layout t (stages.Found item)
         (Some instr)
-        thread.old) result thread.new }
+        thread.old) start.new thread.new }
 {
     let next = thread.at + 1;
     let left = thread.left;
@@ -181,24 +218,31 @@ pub(super) fn retain_found(instr: Instr, item: u32, thread: &mut Thread) -> Star
         Instr::Fetch { to, .. } => {
             thread.set(to, Some(item));
             thread.go_to(left, next);
-            Start::Doing(Duty::RetainLoad {
+            *start = Start::Doing(Duty::RetainLoad {
                 row: item,
                 holding: Holding::ByVariable {
                     depth: 0,
                     variable: to,
                 },
-            })
+            });
         }
-        _ => Start::Stuck,
+        _ => *start = Start::Stuck,
     }
 }
 
 /// Ends `set`: the list takes the variable's reference over, and what the cell held is released. (C API manual,
 /// `PyList_SetItem`.)
-fn set(list: Variable, index: u8, from: Variable, otherwise: u8, thread: &mut Thread) -> Start
+fn set(
+    list: Variable,
+    index: u8,
+    from: Variable,
+    otherwise: u8,
+    thread: &mut Thread,
+    start: &mut Start,
+)
     requires { CanDispatch thread.old }
     ensures { (layout : Layout) (t : ℕ) → HasDispatched thread.old (action_inside layout t stages.InRange
-        (Some (instructions.Set list index from otherwise)) thread.old) result thread.new }
+        (Some (instructions.Set list index from otherwise)) thread.old) start.new thread.new }
 {
     let next = thread.at + 1;
     let left = thread.left;
@@ -215,20 +259,21 @@ fn set(list: Variable, index: u8, from: Variable, otherwise: u8, thread: &mut Th
                     variable: from,
                 },
                 thread,
-            )
+                start,
+            );
         }
-        _ => Start::Stuck,
+        _ => *start = Start::Stuck,
     }
 }
 
 /// Ends `set` if the list has no such cell: the variable's reference is released. (C API manual, `PyList_SetItem`: the
 /// reference is stolen on an error too.)
 #[inline(always)]
-pub(super) fn give_up_item(instr: Instr, thread: &mut Thread) -> Start
+pub(super) fn give_up_item(instr: Instr, thread: &mut Thread, start: &mut Start)
     requires { CanDispatch thread.old }
     ensures { (layout : Layout) (t : ℕ) → HasDispatched thread.old (action_inside layout t stages.OutOfRange
         (Some instr)
-        thread.old) result thread.new }
+        thread.old) start.new thread.new }
 {
     let left = thread.left;
     match instr {
@@ -240,39 +285,39 @@ pub(super) fn give_up_item(instr: Instr, thread: &mut Thread) -> Start
             Some(item) => {
                 thread.set(from, None);
                 thread.go_to(left, usize::from(otherwise));
-                release(item, from, thread)
+                release(item, from, thread, start);
             }
-            None => Start::Stuck,
+            None => *start = Start::Stuck,
         },
-        _ => Start::Stuck,
+        _ => *start = Start::Stuck,
     }
 }
 
 /// Goes on with `put`: the retain of what is to be stored. The variable keeps its reference, and the list gets one of
 /// its own (`put_without_retain`).
-fn retain_to_put(from: Variable, thread: &mut Thread) -> Start
+fn retain_to_put(from: Variable, thread: &mut Thread, start: &mut Start)
     requires { CanDispatch thread.old }
     ensures { (layout : Layout) (t list index otherwise : ℕ) → HasDispatched thread.old (action_inside layout t
-        stages.InRange (Some (instructions.Put list index from otherwise)) thread.old) result thread.new }
+        stages.InRange (Some (instructions.Put list index from otherwise)) thread.old) start.new thread.new }
 {
     match thread.row_of(from) {
         Some(item) => {
             thread.mode = Mode::Inside(Stage::Retained);
-            Start::Doing(Duty::RetainLoad {
+            *start = Start::Doing(Duty::RetainLoad {
                 row: item,
                 holding: Holding::InFlight,
-            })
+            });
         }
-        None => Start::Stuck,
+        None => *start = Start::Stuck,
     }
 }
 
 /// Ends `put`: the list takes the new reference over, and what the cell held is released.
 #[inline(always)]
-pub(super) fn put_retained(instr: Instr, thread: &mut Thread) -> Start
+pub(super) fn put_retained(instr: Instr, thread: &mut Thread, start: &mut Start)
     requires { CanDispatch thread.old }
     ensures { (layout : Layout) (t : ℕ) → HasDispatched thread.old (action_inside layout t stages.Retained (Some instr)
-        thread.old) result thread.new }
+        thread.old) start.new thread.new }
 {
     let next = thread.at + 1;
     let left = thread.left;
@@ -285,28 +330,28 @@ pub(super) fn put_retained(instr: Instr, thread: &mut Thread) -> Start
         } => match (thread.row_of(list), thread.row_of(from)) {
             (Some(row), Some(item)) => {
                 thread.go_to(left, next);
-                swap(row, index, item, Holding::InFlight, thread)
+                swap(row, index, item, Holding::InFlight, thread, start);
             }
-            _ => Start::Stuck,
+            _ => *start = Start::Stuck,
         },
-        _ => Start::Stuck,
+        _ => *start = Start::Stuck,
     }
 }
 
 /// Begins the swap of a cell. The thread deallocates its dying chain after it, and after the release of what the cell
 /// held.
-fn swap(row: u32, index: u8, item: u32, holding: Holding, thread: &mut Thread) -> Start
+fn swap(row: u32, index: u8, item: u32, holding: Holding, thread: &mut Thread, start: &mut Start)
     requires empty { thread.old.agenda.items ≡ [] }
     requires room { 8 ≤ vec_capacity thread.old.agenda }
-    ensures starts { result ≡ Start.Doing (CellSwap row index item holding) }
+    ensures starts { start.new ≡ Start.Doing (CellSwap row index item holding) }
     ensures actor { actor_of thread.new ≡ with_agenda (actor_of thread.old) (Settle ∷ []) }
     ensures room { vec_len thread.new.agenda + 4 ≤ vec_capacity thread.new.agenda }
 {
     thread.agenda.push_reserved(Duty::Settle);
-    Start::Doing(Duty::CellSwap {
+    *start = Start::Doing(Duty::CellSwap {
         row,
         cell: u32::from(index),
         item,
         holding,
-    })
+    });
 }

@@ -19,20 +19,21 @@ pub(super) fn ask_kind(
     otherwise: u8,
     thread: &mut Thread,
     left: u32,
-) -> Start
+    start: &mut Start,
+)
     requires { CanDispatch thread.old }
     ensures { (layout : Layout) (t : ℕ) → HasDispatched thread.old (action_at layout t left
-        (Some (instructions.As from kind otherwise)) thread.old) result thread.new }
+        (Some (instructions.As from kind otherwise)) thread.old) start.new thread.new }
 {
     let next = thread.at + 1;
     match thread.row_of(from) {
         Some(row) => {
             thread.go_to(left, next);
-            Start::Asking {
+            *start = Start::Asking {
                 duty: Duty::KindLoad { row },
                 question: Question::Kind { kind, otherwise },
-            }
+            };
         }
-        None => Start::Stuck,
+        None => *start = Start::Stuck,
     }
 }

@@ -14,31 +14,31 @@ use brc_model::Duty;
 /// doesn't get the lock would block; a step of this world never does, so the thread stays where it is, and makes the
 /// same step again. A call that begins with a `lock` hasn't begun until then (`lost_lock_begins_the_call`).
 #[inline(always)]
-pub(super) fn lock(object: Variable, thread: &mut Thread, left: u32) -> Start
+pub(super) fn lock(object: Variable, thread: &mut Thread, left: u32, start: &mut Start)
     requires { CanDispatch thread.old }
     ensures { (layout : Layout) (t : ℕ) → HasDispatched thread.old (action_at layout t left
-        (Some (instructions.Lock object)) thread.old) result thread.new }
+        (Some (instructions.Lock object)) thread.old) start.new thread.new }
 {
     let next = thread.at + 1;
     match thread.row_of(object) {
-        Some(row) => Start::Locking { row, left, next },
-        None => Start::Stuck,
+        Some(row) => *start = Start::Locking { row, left, next },
+        None => *start = Start::Stuck,
     }
 }
 
 /// Begins `unlock`: the store that frees the object's gate.
 #[inline(always)]
-pub(super) fn unlock(object: Variable, thread: &mut Thread, left: u32) -> Start
+pub(super) fn unlock(object: Variable, thread: &mut Thread, left: u32, start: &mut Start)
     requires { CanDispatch thread.old }
     ensures { (layout : Layout) (t : ℕ) → HasDispatched thread.old (action_at layout t left
-        (Some (instructions.Unlock object)) thread.old) result thread.new }
+        (Some (instructions.Unlock object)) thread.old) start.new thread.new }
 {
     let next = thread.at + 1;
     match thread.row_of(object) {
         Some(row) => {
             thread.go_to(left, next);
-            Start::Doing(Duty::UnlockGate { row })
+            *start = Start::Doing(Duty::UnlockGate { row });
         }
-        None => Start::Stuck,
+        None => *start = Start::Stuck,
     }
 }

@@ -16,47 +16,59 @@ use brc_model::{Duty, Holding};
 
 /// Begins `none`: the variable names the object none.
 #[inline(always)]
-pub(super) fn name_none(to: Variable, thread: &mut Thread, left: u32) -> Start
+pub(super) fn name_none(to: Variable, thread: &mut Thread, left: u32, start: &mut Start)
     requires { CanDispatch thread.old }
     ensures { (layout : Layout) (t : ℕ) → HasDispatched thread.old (action_at layout t left
-        (Some (instructions.NoneObject to)) thread.old) result thread.new }
+        (Some (instructions.NoneObject to)) thread.old) start.new thread.new }
 {
     let next = thread.at + 1;
     thread.set(to, Some(NONE_ROW));
     thread.go_to(left, next);
-    Start::Moved
+    *start = Start::Moved;
 }
 
 /// Begins `newref`: a retain for the variable `to`, which names the object that `from` names.
 #[inline(always)]
-pub(super) fn name_again(to: Variable, from: Variable, thread: &mut Thread, left: u32) -> Start
+pub(super) fn name_again(
+    to: Variable,
+    from: Variable,
+    thread: &mut Thread,
+    left: u32,
+    start: &mut Start,
+)
     requires { CanDispatch thread.old }
     ensures { (layout : Layout) (t : ℕ) → HasDispatched thread.old (action_at layout t left
-        (Some (instructions.Newref to from)) thread.old) result thread.new }
+        (Some (instructions.Newref to from)) thread.old) start.new thread.new }
 {
     let next = thread.at + 1;
     match thread.row_of(from) {
         Some(row) => {
             thread.set(to, Some(row));
             thread.go_to(left, next);
-            Start::Doing(Duty::RetainLoad {
+            *start = Start::Doing(Duty::RetainLoad {
                 row,
                 holding: Holding::ByVariable {
                     depth: 0,
                     variable: to,
                 },
-            })
+            });
         }
-        None => Start::Stuck,
+        None => *start = Start::Stuck,
     }
 }
 
 /// Begins `move`: the reference of `from` is handed on to `to`.
 #[inline(always)]
-pub(super) fn hand_on(to: Variable, from: Variable, thread: &mut Thread, left: u32) -> Start
+pub(super) fn hand_on(
+    to: Variable,
+    from: Variable,
+    thread: &mut Thread,
+    left: u32,
+    start: &mut Start,
+)
     requires { CanDispatch thread.old }
     ensures { (layout : Layout) (t : ℕ) → HasDispatched thread.old (action_at layout t left
-        (Some (instructions.Move to from)) thread.old) result thread.new }
+        (Some (instructions.Move to from)) thread.old) start.new thread.new }
 {
     let next = thread.at + 1;
     match thread.row_of(from) {
@@ -64,60 +76,60 @@ pub(super) fn hand_on(to: Variable, from: Variable, thread: &mut Thread, left: u
             thread.set(from, None);
             thread.set(to, Some(row));
             thread.go_to(left, next);
-            Start::Moved
+            *start = Start::Moved;
         }
-        None => Start::Stuck,
+        None => *start = Start::Stuck,
     }
 }
 
 /// Begins `drop`: the release of the variable's reference.
 #[inline(always)]
-pub(super) fn give_up(from: Variable, thread: &mut Thread, left: u32) -> Start
+pub(super) fn give_up(from: Variable, thread: &mut Thread, left: u32, start: &mut Start)
     requires { CanDispatch thread.old }
     ensures { (layout : Layout) (t : ℕ) → HasDispatched thread.old (action_at layout t left
-        (Some (instructions.Drop from)) thread.old) result thread.new }
+        (Some (instructions.Drop from)) thread.old) start.new thread.new }
 {
     let next = thread.at + 1;
     match thread.row_of(from) {
         Some(row) => {
             thread.set(from, None);
             thread.go_to(left, next);
-            release(row, from, thread)
+            release(row, from, thread, start);
         }
-        None => Start::Stuck,
+        None => *start = Start::Stuck,
     }
 }
 
 /// Begins `ret`: the call ends, and the release of what it returns begins.
 #[inline(always)]
-pub(super) fn return_object(from: Variable, thread: &mut Thread, left: u32) -> Start
+pub(super) fn return_object(from: Variable, thread: &mut Thread, left: u32, start: &mut Start)
     requires { CanDispatch thread.old }
     ensures { (layout : Layout) (t : ℕ) → HasDispatched thread.old (action_at layout t left
-        (Some (instructions.Ret from)) thread.old) result thread.new }
+        (Some (instructions.Ret from)) thread.old) start.new thread.new }
 {
     match thread.row_of(from) {
         Some(row) => {
             thread.rest(left);
-            release(row, from, thread)
+            release(row, from, thread, start);
         }
-        None => Start::Stuck,
+        None => *start = Start::Stuck,
     }
 }
 
 /// Begins the release of the variable's reference to the row's object. The thread deallocates its dying chain next.
-pub(super) fn release(row: u32, from: Variable, thread: &mut Thread) -> Start
+pub(super) fn release(row: u32, from: Variable, thread: &mut Thread, start: &mut Start)
     requires empty { thread.old.agenda.items ≡ [] }
     requires room { 8 ≤ vec_capacity thread.old.agenda }
-    ensures starts { result ≡ Start.Doing (ReleaseLoad row (ByVariable 0 from)) }
+    ensures starts { start.new ≡ Start.Doing (ReleaseLoad row (ByVariable 0 from)) }
     ensures actor { actor_of thread.new ≡ with_agenda (actor_of thread.old) (Settle ∷ []) }
     ensures room { vec_len thread.new.agenda + 4 ≤ vec_capacity thread.new.agenda }
 {
     thread.agenda.push_reserved(Duty::Settle);
-    Start::Doing(Duty::ReleaseLoad {
+    *start = Start::Doing(Duty::ReleaseLoad {
         row,
         holding: Holding::ByVariable {
             depth: 0,
             variable: from,
         },
-    })
+    });
 }

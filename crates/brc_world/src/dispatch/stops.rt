@@ -13,28 +13,28 @@ use brc_model::{Duty, Holding};
 /// Goes on after a stop: the thread unlocks the row, if there is one, and else gives up its next reference. It unlocks
 /// first, because another thread may wait for the lock.
 #[inline(never)]
-pub(super) fn go_on_stopping(locked: Option<u32>, thread: &mut Thread) -> Start
+pub(super) fn go_on_stopping(locked: Option<u32>, thread: &mut Thread, start: &mut Start)
     requires empty { thread.old.agenda.items ≡ [] }
     requires room { 8 ≤ vec_capacity thread.old.agenda }
-    ensures { HasDispatched thread.old (stopped_action locked thread.old.variables) result thread.new }
+    ensures { HasDispatched thread.old (stopped_action locked thread.old.variables) start.new thread.new }
 {
     match locked {
         Some(row) => {
             thread.stop(None);
-            Start::Doing(Duty::UnlockGate { row })
+            *start = Start::Doing(Duty::UnlockGate { row });
         }
-        None if names_some(&thread.variables) => give_up_first(thread),
-        None => Start::Stuck,
+        None if names_some(&thread.variables) => give_up_first(thread, start),
+        None => *start = Start::Stuck,
     }
 }
 
 /// Gives up the reference of the first variable that names a row. Behind its last release the thread settles, once for
 /// all of them.
-fn give_up_first(thread: &mut Thread) -> Start
+fn give_up_first(thread: &mut Thread, start: &mut Start)
     requires empty { thread.old.agenda.items ≡ [] }
     requires room { 8 ≤ vec_capacity thread.old.agenda }
     requires some { list_any is_some thread.old.variables ≡ true }
-    ensures { HasDispatched thread.old (give_up_first thread.old.variables []) result thread.new }
+    ensures { HasDispatched thread.old (give_up_first thread.old.variables []) start.new thread.new }
 {
     let first = first_named(&thread.variables);
     let variable = Variable::new(first as u8);
@@ -45,11 +45,11 @@ fn give_up_first(thread: &mut Thread) -> Start
                 thread.agenda.push_reserved(Duty::Settle);
             }
             thread.stop(None);
-            Start::Doing(Duty::ReleaseLoad {
+            *start = Start::Doing(Duty::ReleaseLoad {
                 row,
                 holding: Holding::ByVariable { depth: 0, variable },
-            })
+            });
         }
-        None => Start::Stuck,
+        None => *start = Start::Stuck,
     }
 }

@@ -10,23 +10,23 @@ use crate::thread::Thread;
 
 /// Begins `goto`: the thread goes on at the target.
 #[inline(always)]
-pub(super) fn go(target: u8, thread: &mut Thread, left: u32) -> Start
+pub(super) fn go(target: u8, thread: &mut Thread, left: u32, start: &mut Start)
     requires { CanDispatch thread.old }
     ensures { (layout : Layout) (t : ℕ) → HasDispatched thread.old (action_at layout t left
-        (Some (instructions.Goto target)) thread.old) result thread.new }
+        (Some (instructions.Goto target)) thread.old) start.new thread.new }
 {
     thread.go_to(left, usize::from(target));
-    Start::Moved
+    *start = Start::Moved;
 }
 
 /// Begins `again`: the thread goes back to the target, if the instruction has gone back less than `times` times in this
 /// call (`again_once_more`), and otherwise passes on. The count is of the whole call: an outer loop that comes to the
 /// instruction once more finds it used up. So each call ends after a number of instructions that its text bounds.
 #[inline(always)]
-pub(super) fn again(target: u8, times: u16, thread: &mut Thread, left: u32) -> Start
+pub(super) fn again(target: u8, times: u16, thread: &mut Thread, left: u32, start: &mut Start)
     requires { CanDispatch thread.old }
     ensures { (layout : Layout) (t : ℕ) → HasDispatched thread.old (action_at layout t left
-        (Some (instructions.Again target times)) thread.old) result thread.new }
+        (Some (instructions.Again target times)) thread.old) start.new thread.new }
 {
     let next = thread.at + 1;
     let turns = thread.turns_here();
@@ -36,5 +36,5 @@ pub(super) fn again(target: u8, times: u16, thread: &mut Thread, left: u32) -> S
     } else {
         thread.go_to(left, next);
     }
-    Start::Moved
+    *start = Start::Moved;
 }

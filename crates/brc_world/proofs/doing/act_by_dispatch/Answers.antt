@@ -9,27 +9,27 @@ use Rattle.brc_model.specs.StepMachine.{at_place}
 use Rattle.brc_world.specs.Storage.{word_in}
 use Rattle.brc_world.specs.Actors.{actor_of, actor_after, CanDo}
 use Rattle.brc_world.specs.Starts.{place_after}
-use Rattle.brc_world.proofs.doing.act_by_dispatch.Goals.{After-dispatch-start}
+use Rattle.brc_world.proofs.doing.act_by_dispatch.Goals.{After-dispatch}
 use Rattle.brc_world.proofs.doing.act_by_dispatch.Goals as goal
 
 -- The thread has started its step so.
-begun : (c : After-dispatch-start) (start : Start) → c.dispatch-start.result ≡ start
+begun : (c : After-dispatch) (start : Start) → c.dispatch.new.start ≡ start
     → HasStarted c.args.functions.now c.args.layout c.args.number (actor_of c.args.thread.now)
-    c.dispatch-start.new.thread start
+    c.dispatch.new.thread start
 begun c start is =
     subst (HasStarted c.args.functions.now c.args.layout c.args.number (actor_of c.args.thread.now)
-    c.dispatch-start.new.thread) is
-    (dispatched c.args.functions.now c.args.layout c.args.number c.args.thread.now c.dispatch-start.new.thread
-    c.dispatch-start.result c.requires.alive c.requires.empty c.dispatch-start.ensures)
+    c.dispatch.new.thread) is
+    (dispatched c.args.functions.now c.args.layout c.args.number c.args.thread.now c.dispatch.new.thread
+    c.dispatch.new.start c.requires.alive c.requires.empty c.dispatch.ensures)
 
 -- The thread can do the duty with which its step has started.
-able : (c : After-dispatch-start) (start : Start) (d : Duty) → c.dispatch-start.result ≡ start
+able : (c : After-dispatch) (start : Start) (d : Duty) → c.dispatch.new.start ≡ start
     → duty_of start ≡ Some d
     → CanDo c.args.layout c.args.number (length c.args.memory.now.local) (length c.args.memory.now.thread)
-    (word_in c.args.memory.now) (actor_of c.dispatch-start.new.thread) d
+    (word_in c.args.memory.now) (actor_of c.dispatch.new.thread) d
 able c start d is does =
     can_do c.args.functions.now c.args.layout c.args.number (word_in c.args.memory.now) (actor_of c.args.thread.now)
-    c.args.exit c.dispatch-start.new.thread _ _ start d (begun c start is) does c.requires.can
+    c.args.exit c.dispatch.new.thread _ _ start d (begun c start is) does c.requires.can
 
 -- ---- no duty
 
@@ -37,8 +37,8 @@ pub returns-in-Stuck : goal.returns-in-Stuck
 returns-in-Stuck c =
     let step =
     stuck_step c.args.functions.now c.args.layout c.args.number (word_in c.args.memory.now)
-    (actor_of c.args.thread.now) c.args.exit c.dispatch-start.new.thread
-    (begun (goal.at.returns-in-Stuck c).After-dispatch-start starts.Stuck c.in-Stuck.is) in
+    (actor_of c.args.thread.now) c.args.exit c.dispatch.new.thread
+    (begun (goal.at.returns-in-Stuck c).After-dispatch starts.Stuck c.in-Stuck.is) in
     record {
       did = step.answer;
       words = step.memory_is;
@@ -52,8 +52,8 @@ pub returns-in-Moved : goal.returns-in-Moved
 returns-in-Moved c =
     let step =
     moved_step c.args.functions.now c.args.layout c.args.number (word_in c.args.memory.now)
-    (actor_of c.args.thread.now) c.args.exit c.dispatch-start.new.thread
-    (begun (goal.at.returns-in-Moved c).After-dispatch-start starts.Moved c.in-Moved.is) in
+    (actor_of c.args.thread.now) c.args.exit c.dispatch.new.thread
+    (begun (goal.at.returns-in-Moved c).After-dispatch starts.Moved c.in-Moved.is) in
     record {
       did = step.answer;
       words = step.memory_is;
@@ -67,8 +67,8 @@ pub returns-in-Calling : goal.returns-in-Calling
 returns-in-Calling c =
     let step =
     called_step c.args.functions.now c.args.layout c.args.number (word_in c.args.memory.now)
-    (actor_of c.args.thread.now) c.args.exit c.dispatch-start.new.thread c.in-Calling.call
-    (begun (goal.at.returns-in-Calling c).After-dispatch-start (starts.Calling c.in-Calling.call) c.in-Calling.is) in
+    (actor_of c.args.thread.now) c.args.exit c.dispatch.new.thread c.in-Calling.call
+    (begun (goal.at.returns-in-Calling c).After-dispatch (starts.Calling c.in-Calling.call) c.in-Calling.is) in
     record {
       did = step.answer;
       words = step.memory_is;
@@ -82,7 +82,7 @@ returns-in-Calling c =
 
 pub do_duty-requires : goal.do_duty-requires
 do_duty-requires c =
-    let can = able (goal.at.do_duty-requires c).After-dispatch-start (starts.Doing c.in-Doing.duty) c.in-Doing.duty
+    let can = able (goal.at.do_duty-requires c).After-dispatch (starts.Doing c.in-Doing.duty) c.in-Doing.duty
     c.in-Doing.is refl in
     record {
       some_rows = c.requires.some_rows;
@@ -91,18 +91,18 @@ do_duty-requires c =
       there = can.there;
       suits = can.suits;
       uses = can.uses;
-      room = c.dispatch-start.ensures.room;
+      room = c.dispatch.ensures.room;
     }
 
 pub returns-in-Doing : goal.returns-in-Doing
 returns-in-Doing c =
     let start = starts.Doing c.in-Doing.duty in
-    let before = c.dispatch-start.new.thread in
+    let before = c.dispatch.new.thread in
     let duty = c.do_duty.ensures in
     let step =
     duty_step c.args.functions.now c.args.layout c.args.number (word_in c.args.memory.now)
     (actor_of c.args.thread.now) c.args.exit before start c.in-Doing.duty
-    (begun (goal.at.returns-in-Doing c).After-dispatch-start start c.in-Doing.is) refl in
+    (begun (goal.at.returns-in-Doing c).After-dispatch start c.in-Doing.is) refl in
     record {
       did = step.answer;
       words = duty.word.words ∙ step.memory_is;
@@ -120,7 +120,7 @@ returns-in-Doing c =
 
 pub do_duty-found-requires : goal.do_duty-found-requires
 do_duty-found-requires c =
-    let can = able (goal.at.do_duty-found-requires c).After-dispatch-start
+    let can = able (goal.at.do_duty-found-requires c).After-dispatch
     (starts.Asking c.in-Asking.duty c.in-Asking.question) c.in-Asking.duty c.in-Asking.is refl in
     record {
       some_rows = c.requires.some_rows;
@@ -129,28 +129,28 @@ do_duty-found-requires c =
       there = can.there;
       suits = can.suits;
       uses = can.uses;
-      room = c.dispatch-start.ensures.room;
+      room = c.dispatch.ensures.room;
     }
 
 pub answer-requires : goal.answer-requires
 answer-requires c =
-    let can = able (goal.at.answer-requires c).After-dispatch-start
+    let can = able (goal.at.answer-requires c).After-dispatch
     (starts.Asking c.in-Asking.duty c.in-Asking.question) c.in-Asking.duty c.in-Asking.is refl in
     rw c.do_duty-found.ensures.found
     (answerable c.in-Asking.question c.in-Asking.duty _ _ _ _ c.requires.small
-    (rw c.in-Asking.is at c.dispatch-start.ensures.question) can.suits)
+    (rw c.in-Asking.is at c.dispatch.ensures.question) can.suits)
 
 pub returns-in-Asking : goal.returns-in-Asking
 returns-in-Asking c =
     let start = starts.Asking c.in-Asking.duty c.in-Asking.question in
-    let before = c.dispatch-start.new.thread in
+    let before = c.dispatch.new.thread in
     let duty = c.do_duty-found.ensures in
     let done =
     actor_after c.args.layout c.args.number (word_in c.args.memory.now) (actor_of before) c.in-Asking.duty in
     let step =
     duty_step c.args.functions.now c.args.layout c.args.number (word_in c.args.memory.now)
     (actor_of c.args.thread.now) c.args.exit before start c.in-Asking.duty
-    (begun (goal.at.returns-in-Asking c).After-dispatch-start start c.in-Asking.is) refl in
+    (begun (goal.at.returns-in-Asking c).After-dispatch start c.in-Asking.is) refl in
     record {
       did = step.answer;
       words = duty.word.words ∙ step.memory_is;
@@ -168,7 +168,7 @@ returns-in-Asking c =
 
 pub do_duty-found-requires-in-Locking : goal.do_duty-found-requires-in-Locking
 do_duty-found-requires-in-Locking c =
-    let can = able (goal.at.do_duty-found-requires-in-Locking c).After-dispatch-start
+    let can = able (goal.at.do_duty-found-requires-in-Locking c).After-dispatch
     (starts.Locking c.in-Locking.row c.in-Locking.left c.in-Locking.next) (LockGate c.in-Locking.row)
     c.in-Locking.is refl in
     record {
@@ -178,13 +178,13 @@ do_duty-found-requires-in-Locking c =
       there = can.there;
       suits = can.suits;
       uses = can.uses;
-      room = c.dispatch-start.ensures.room;
+      room = c.dispatch.ensures.room;
     }
 
 pub returns-in-Locking : goal.returns-in-Locking
 returns-in-Locking c =
     let start = starts.Locking c.in-Locking.row c.in-Locking.left c.in-Locking.next in
-    let before = c.dispatch-start.new.thread in
+    let before = c.dispatch.new.thread in
     let duty = c.do_duty-found-in-Locking.ensures in
     let done =
     actor_after c.args.layout c.args.number (word_in c.args.memory.now) (actor_of before)
@@ -192,7 +192,7 @@ returns-in-Locking c =
     let step =
     duty_step c.args.functions.now c.args.layout c.args.number (word_in c.args.memory.now)
     (actor_of c.args.thread.now) c.args.exit before start (LockGate c.in-Locking.row)
-    (begun (goal.at.returns-in-Locking c).After-dispatch-start start c.in-Locking.is) refl in
+    (begun (goal.at.returns-in-Locking c).After-dispatch start c.in-Locking.is) refl in
     record {
       did = c.enter.ensures.did ∙ ap entering duty.found ∙ step.answer;
       words = duty.word.words ∙ step.memory_is;
