@@ -1,6 +1,6 @@
 -- The words and the thread after a step of the code are those of the model's world after its step.
 use Rattle.std.proofs.Common.{◌≡◌, ◌≢◌, ℕ, Bool, true, false, cond, List, [], Option, Some, inl, inr, refl, sym, ap, ◌∙◌}
-use Rattle.std.specs.Prelude.{◌==◌, not, length, slice_get, slice_set}
+use Rattle.std.specs.Prelude.{◌==◌, not, slice_get, slice_set}
 use Rattle.std.proofs.lemmas.Bool.{cases_Bool, and_parts, eqb-true}
 use Rattle.std.proofs.lemmas.Bool.Decides.{eqb_tells}
 use Rattle.std.proofs.lemmas.List.{set-get_or, nil_from_length}
