@@ -1,5 +1,7 @@
 mod Gone
 mod Lines
+mod MarkChanges
+mod MarkRows
 mod Naming
 mod Showing
 mod Traces

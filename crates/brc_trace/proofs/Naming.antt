@@ -10,6 +10,9 @@ use Rattle.brc_model.specs.declared.layout.Layout.{Layout}
 use Rattle.brc_model.specs.declared.duty.Reason.{Reason}
 use Rattle.brc_model.specs.declared.duty.Reason.TheVariants.{Own, Handed}
 use Rattle.brc_model.specs.AbstractState.{Move}
+use Rattle.brc_model.specs.Duties.{found_row}
+use Rattle.brc_model.specs.Layout.{mark_bit}
+use Rattle.brc_trace.proofs.MarkChanges.{set_taken, clear_taken}
 use Rattle.brc_model.specs.Rules.{Goes}
 use Rattle.brc_model.specs.Rules as steps
 use Rattle.brc_trace.specs.Naming.{named}
@@ -25,10 +28,10 @@ by_test a b P if_same if_other =
       | inr other ↦ subst P (sym other.0) (if_other other.1)
     ]
 
-same_test : (a b : ℕ) → a ≡ b → (a == b) ≡ true
+pub same_test : (a b : ℕ) → a ≡ b → (a == b) ≡ true
 same_test a b e = by_test a b (λ t. t ≡ true) (λ _. refl) (λ other. absurd (other e))
 
-other_test : (a b : ℕ) → a ≢ b → (a == b) ≡ false
+pub other_test : (a b : ℕ) → a ≢ b → (a == b) ≡ false
 other_test a b ne = by_test a b (λ t. t ≡ false) (λ e. absurd (ne e)) (λ _. refl)
 
 itself : (a : ℕ) → (a == a) ≡ true
@@ -94,10 +97,15 @@ module _ (memory : Address → ℕ) (layout : Layout) (t : ℕ) (running : Bool)
   is_named d found left next moves (steps.Marked x f) = refl
   is_named d found left next moves (steps.OwnerRuns x f one) = rw (same_test f 1 one) refl
   is_named d found left next moves (steps.OwnerExits x f one) = rw (other_test f 1 one) refl
-  is_named d found left next moves (steps.MarkTakenBack x f one) = rw (same_test f 1 one) refl
-  is_named d found left next moves (steps.MarkGone x f one) = rw (other_test f 1 one) refl
-  is_named d found left next moves (steps.MarkClaimed x f one) = rw (same_test f 1 one) refl
-  is_named d found left next moves (steps.NothingToClaim x f one) = rw (other_test f 1 one) refl
+  is_named d found left next moves (steps.MarkTakenBack x f one) =
+      rw (other_test _ f (set_taken f (mark_bit layout x) one)) refl
+  is_named d found left next moves (steps.MarkGone x f one) =
+      rw (same_test _ f (clear_taken f (mark_bit layout x) one)) refl
+  is_named d found left next moves (steps.MarksLooked word f) = refl
+  is_named d found left next moves (steps.MarkClaimed x f one) =
+      rw (other_test _ f (set_taken f (mark_bit layout x) one)) refl
+  is_named d found left next moves (steps.NothingToClaim x f one) =
+      rw (same_test _ f (clear_taken f (mark_bit layout x) one)) refl
   is_named d found left next moves (steps.NobodysCount x reason f one) = rw (same_test f 0 one) refl
   is_named d found left next moves (steps.LocalTakenOut x reason f one) = rw (other_test f 0 one) refl
   is_named d found left next moves (steps.MergeRead x carried reason f) = refl
@@ -115,7 +123,10 @@ module _ (memory : Address → ℕ) (layout : Layout) (t : ℕ) (running : Bool)
   is_named d found left next moves (steps.SlotEmptied x f) = refl
   is_named d found left next moves (steps.ResourceClosed x f) = refl
   is_named d found left next moves (steps.Closes x f) = refl
-  is_named d found left next moves (steps.SaysLeaving first rows f) = refl
-  is_named d found left next moves (steps.ScanFindsMark index rows f one) = rw (same_test f 1 one) refl
-  is_named d found left next moves (steps.ScanFindsNone index rows f one) = rw (other_test f 1 one) refl
+  is_named d found left next moves (steps.SaysLeaving word rows f) = refl
+  is_named d found left next moves (steps.MarksRead word rows f) = refl
+  is_named d found left next moves (steps.FoundMarkTaken word marks f one) =
+      rw (other_test _ f (set_taken f (mark_bit layout (found_row layout t word marks)) one)) refl
+  is_named d found left next moves (steps.FoundMarkGone word marks f one) =
+      rw (same_test _ f (clear_taken f (mark_bit layout (found_row layout t word marks)) one)) refl
   is_named d found left next moves (steps.SaysGone f) = refl

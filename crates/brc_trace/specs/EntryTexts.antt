@@ -8,6 +8,7 @@ use Rattle.brc_report.specs.declared.paint.Role.TheVariants as roles
 use Rattle.brc_report.specs.Paint.{mark_text, reset_text}
 use Rattle.brc_model.specs.declared.address.Address.{Address}
 use Rattle.brc_model.specs.declared.duty.Duty.{Duty}
+use Rattle.brc_model.specs.declared.layout.Layout.{Layout}
 use Rattle.brc_model.specs.declared.state.Exit.{Exit}
 use Rattle.brc_model.specs.Trace.{is_word}
 use Rattle.brc_world.specs.declared.event.Event.{Event}
@@ -26,9 +27,9 @@ abbrev pub painted : Paint → Role → List ℕ → List ℕ
 painted paint part text = mark_text paint part ++ text ++ reset_text paint
 
 -- the word of the step; slots and resources are none
-abbrev pub found_text : Paint → Address → ℕ → ℕ → List ℕ
-found_text paint address found left =
-    if is_word address then gap ++ painted paint roles.Word (word_text address found left) else []
+abbrev pub found_text : Paint → Layout → Duty → Address → ℕ → ℕ → List ℕ
+found_text paint layout d address found left =
+    if is_word address then gap ++ painted paint roles.Word (word_text layout d address found left) else []
 
 -- what the duty brings about: of a reference, of a lock, of a state, of a life
 abbrev pub duty_text : Paint → Exit → Duty → Address → ℕ → ℕ → List ℕ
@@ -41,11 +42,11 @@ duty_text paint exit d address found left =
     outcome_text paint gap reference ++ outcome_text paint second lock ++ outcome_text paint third phase
     ++ outcome_text paint (before_next third phase) (life_outcome exit d found left)
 
-abbrev pub event_text : Paint → Exit → Event → List ℕ
-event_text paint exit Silent = []
-event_text paint exit (Calls _) = []
-event_text paint exit (Does d address found left) =
-    found_text paint address found left ++ duty_text paint exit d address found left
+abbrev pub event_text : Paint → Layout → Exit → Event → List ℕ
+event_text paint layout exit Silent = []
+event_text paint layout exit (Calls _) = []
+event_text paint layout exit (Does d address found left) =
+    found_text paint layout d address found left ++ duty_text paint exit d address found left
 
 -- the number of the step, and its thread
 abbrev pub opening_text : Paint → ℕ → ℕ → List ℕ
@@ -61,4 +62,4 @@ naming_text paint functions e =
 unfoldable pub entry_text : Paint → List Function → Entry → List ℕ
 entry_text paint functions e =
     opening_text paint e.number e.thread ++ naming_text paint functions e
-    ++ line (event_text paint e.sight.exit e.sight.event)
+    ++ line (event_text paint e.sight.layout e.sight.exit e.sight.event)

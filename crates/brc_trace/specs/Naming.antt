@@ -47,6 +47,7 @@ module _ (memory : Address → ℕ) (layout : Layout) (t : ℕ) (running : Bool)
   named d found left next moves (steps.OwnerExits _ _ _) = names.OwnerExits
   named d found left next moves (steps.MarkTakenBack _ _ _) = names.MarkTakenBack
   named d found left next moves (steps.MarkGone _ _ _) = names.MarkGone
+  named d found left next moves (steps.MarksLooked _ _) = names.MarksLooked
   named d found left next moves (steps.MarkClaimed _ _ _) = names.MarkClaimed
   named d found left next moves (steps.NothingToClaim _ _ _) = names.NothingToClaim
   named d found left next moves (steps.NobodysCount _ _ _ _) = names.NobodysCount
@@ -65,6 +66,7 @@ module _ (memory : Address → ℕ) (layout : Layout) (t : ℕ) (running : Bool)
   named d found left next moves (steps.ResourceClosed _ _) = names.ResourceClosed
   named d found left next moves (steps.Closes _ _) = names.Closes
   named d found left next moves (steps.SaysLeaving _ _ _) = names.SaysLeaving
-  named d found left next moves (steps.ScanFindsMark _ _ _ _) = names.ScanFindsMark
-  named d found left next moves (steps.ScanFindsNone _ _ _ _) = names.ScanFindsNone
+  named d found left next moves (steps.MarksRead _ _ _) = names.MarksRead
+  named d found left next moves (steps.FoundMarkTaken _ _ _ _) = names.FoundMarkTaken
+  named d found left next moves (steps.FoundMarkGone _ _ _ _) = names.FoundMarkGone
   named d found left next moves (steps.SaysGone _) = names.SaysGone

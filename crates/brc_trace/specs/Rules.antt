@@ -1,12 +1,13 @@
 -- The names of the rules of the step relation (`Rules` of the model), and the rule that a step goes by. A rule is found
--- from the duty, the word found and the word left alone.
+-- from the duty, the word found and the word left alone. A mark was set if the step that takes it has changed the
+-- word.
 use Rattle.std.specs.Prelude.{ℕ, Bool, ◌==◌, nat_lt, if◌then◌else◌, List, codes}
-use Rattle.brc_word.specs.declared.values.TheConstants.{RUNNING, SET, NOBODY}
+use Rattle.brc_word.specs.declared.values.TheConstants.{RUNNING, NOBODY}
 use Rattle.brc_word.specs.Words.{most_local, local_part, is_immortal_word, fresh_word, dead_word, free_word}
 use Rattle.brc_model.specs.declared.duty.Reason.{Reason}
 use Rattle.brc_model.specs.declared.duty.Reason.TheVariants.{Own, Handed}
 use Rattle.brc_model.specs.declared.duty.Duty.{Duty}
-use Rattle.brc_model.specs.declared.duty.Duty.TheVariants.{RetainLoad, RetainStore, RetainAdd, ReleaseLoad, ReleaseStore, DecideAtZero, SharedLoad, SharedExchange, SetMark, Look, TakeMark, MergeSwap, MergeLoad, MergeExchange, Die, Settle, SettleKind, SettleCell, TakeSlot, CloseResource, SettleEnd, Leave, Scan, Finish, ClaimMark, BirthKind, BirthSlot, BirthLocal, KindLoad, LockGate, UnlockGate, CellLoad, CellSwap, LendSlot, ReturnSlot}
+use Rattle.brc_model.specs.declared.duty.Duty.TheVariants.{RetainLoad, RetainStore, RetainAdd, ReleaseLoad, ReleaseStore, DecideAtZero, SharedLoad, SharedExchange, SetMark, Look, TakeMark, MergeSwap, MergeLoad, MergeExchange, Die, Settle, SettleKind, SettleCell, TakeSlot, CloseResource, SettleEnd, Leave, Scan, TakeFound, Finish, ClaimMark, MarksLoad, BirthKind, BirthSlot, BirthLocal, KindLoad, LockGate, UnlockGate, CellLoad, CellSwap, LendSlot, ReturnSlot}
 use Rattle.brc_model.specs.declared.state.Exit.TheVariants.{Success, Fault}
 use Rattle.brc_model.specs.Duties.{counts_locally, has_resource}
 use Rattle.brc_world.specs.declared.event.Event.{Event}
@@ -16,9 +17,9 @@ use Rattle.brc_trace.specs.declared.rule.Rule.TheVariants.{KindOfResource, KindO
 use Rattle.brc_trace.specs.declared.rule.Rule.TheVariants.{CellRead, ItemStored, ResourceLent, ResourceReturned, RetainsImmortal, OwnerRetains, FullOwnerRetains, OtherRetains}
 use Rattle.brc_trace.specs.declared.rule.Rule.TheVariants.{LocalRaised, SharedRaised, ReleasesImmortal, OwnerReleases, OtherReleases, LocalLowered, LocalReachesZero, NothingShared}
 use Rattle.brc_trace.specs.declared.rule.Rule.TheVariants.{WasShared, SharedRead, Queues, Decrements, DecrementsToZero, ExchangeLost, Marked, OwnerRuns}
-use Rattle.brc_trace.specs.declared.rule.Rule.TheVariants.{OwnerExits, MarkTakenBack, MarkGone, MarkClaimed, NothingToClaim, NobodysCount, LocalTakenOut, MergeRead}
+use Rattle.brc_trace.specs.declared.rule.Rule.TheVariants.{OwnerExits, MarkTakenBack, MarkGone, MarksLooked, MarkClaimed, NothingToClaim, NobodysCount, LocalTakenOut, MergeRead}
 use Rattle.brc_trace.specs.declared.rule.Rule.TheVariants.{Merges, MergesToZero, MergesForHanded, MergeLost, Chained, ChainRead, DyingResource, DyingCells}
-use Rattle.brc_trace.specs.declared.rule.Rule.TheVariants.{CellEmptied, SlotEmptied, ResourceClosed, Closes, SaysLeaving, ScanFindsMark, ScanFindsNone, SaysGone}
+use Rattle.brc_trace.specs.declared.rule.Rule.TheVariants.{CellEmptied, SlotEmptied, ResourceClosed, Closes, SaysLeaving, MarksRead, FoundMarkTaken, FoundMarkGone, SaysGone}
 use Rattle.brc_trace.specs.declared.rule.Rule.TheVariants.{Silent, HostAnswers, HostFaults}
 
 -- ---- names
@@ -59,6 +60,7 @@ rule_name OwnerRuns = codes "OwnerRuns"
 rule_name OwnerExits = codes "OwnerExits"
 rule_name MarkTakenBack = codes "MarkTakenBack"
 rule_name MarkGone = codes "MarkGone"
+rule_name MarksLooked = codes "MarksLooked"
 rule_name MarkClaimed = codes "MarkClaimed"
 rule_name NothingToClaim = codes "NothingToClaim"
 rule_name NobodysCount = codes "NobodysCount"
@@ -77,8 +79,9 @@ rule_name SlotEmptied = codes "SlotEmptied"
 rule_name ResourceClosed = codes "ResourceClosed"
 rule_name Closes = codes "Closes"
 rule_name SaysLeaving = codes "SaysLeaving"
-rule_name ScanFindsMark = codes "ScanFindsMark"
-rule_name ScanFindsNone = codes "ScanFindsNone"
+rule_name MarksRead = codes "MarksRead"
+rule_name FoundMarkTaken = codes "FoundMarkTaken"
+rule_name FoundMarkGone = codes "FoundMarkGone"
 rule_name SaysGone = codes "SaysGone"
 rule_name Silent = codes "Silent"
 rule_name HostAnswers = codes "HostAnswers"
@@ -132,8 +135,9 @@ rule_of t running (SharedLoad x r) found left = SharedRead
 rule_of t running (SharedExchange x r w) found left = shared_rule w found left
 rule_of t running (SetMark x) found left = Marked
 rule_of t running (Look x) found left = if found == RUNNING then OwnerRuns else OwnerExits
-rule_of t running (TakeMark x) found left = if found == SET then MarkTakenBack else MarkGone
-rule_of t running (ClaimMark x) found left = if found == SET then MarkClaimed else NothingToClaim
+rule_of t running (TakeMark x) found left = if left == found then MarkGone else MarkTakenBack
+rule_of t running (MarksLoad w) found left = MarksLooked
+rule_of t running (ClaimMark x) found left = if left == found then NothingToClaim else MarkClaimed
 rule_of t running (MergeSwap x r) found left = if found == NOBODY then NobodysCount else LocalTakenOut
 rule_of t running (MergeLoad x c r) found left = MergeRead
 rule_of t running (MergeExchange x c w r) found left = merge_rule r w found left
@@ -144,8 +148,9 @@ rule_of t running (SettleCell x i n) found left = CellEmptied
 rule_of t running (TakeSlot x) found left = SlotEmptied
 rule_of t running (CloseResource x) found left = ResourceClosed
 rule_of t running (SettleEnd x) found left = Closes
-rule_of t running (Leave i n) found left = SaysLeaving
-rule_of t running (Scan i n) found left = if found == SET then ScanFindsMark else ScanFindsNone
+rule_of t running (Leave w n) found left = SaysLeaving
+rule_of t running (Scan w n) found left = MarksRead
+rule_of t running (TakeFound w marks) found left = if left == found then FoundMarkGone else FoundMarkTaken
 rule_of t running Finish found left = SaysGone
 
 -- Returns the rule of a step with this event: a silent step and a host call have names of their own.

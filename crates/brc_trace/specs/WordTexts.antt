@@ -1,9 +1,15 @@
 -- What the words of objects and threads say, as a reader of a trace sees it.
-use Rattle.std.specs.Prelude.{ℕ, ◌-◌, ◌/◌, ◌==◌, nat_lt, if◌then◌else◌, List, [], ◌++◌, codes, decimal}
+use Rattle.std.specs.Prelude.{ℕ, ◌+◌, ◌-◌, ◌*◌, ◌/◌, ◌==◌, nat_lt, if◌then◌else◌, List, [], ◌∷◌, ◌++◌, map, filter, codes, decimal}
+use Rattle.std.specs.List.{flat_map, range_with_len}
 use Rattle.brc_word.specs.declared.values.TheConstants.{RUNNING, LEAVING, SET, DEFAULT, QUEUED, MERGED, EMPTY, NONE, NUM, LIST, FILE, SOCK}
-use Rattle.brc_word.specs.Words.{half, owner_part, local_part, is_immortal_word, biased_part, phase_part, bias, free_word, next_part, closed_word, kind_part, argument_part}
+use Rattle.brc_word.specs.Words.{half, owner_part, local_part, is_immortal_word, biased_part, phase_part, bias, free_word, next_part, closed_word, kind_part, argument_part, marks_of_word, mark_at}
 use Rattle.brc_model.specs.declared.address.Address.{Address}
-use Rattle.brc_model.specs.declared.address.Address.TheVariants.{Local, Shared, Gate, KindOf, Mark, Cell, Slot, Resource, ThreadWord}
+use Rattle.brc_model.specs.declared.address.Address.TheVariants.{Local, Shared, Gate, KindOf, Marks, Cell, Slot, Resource, ThreadWord}
+use Rattle.brc_model.specs.declared.duty.Duty.{Duty}
+use Rattle.brc_model.specs.declared.duty.Duty.TheVariants.{SetMark, TakeMark, TakeFound, ClaimMark}
+use Rattle.brc_model.specs.declared.layout.Layout.{Layout}
+use Rattle.brc_model.specs.Duties.{found_row}
+use Rattle.brc_model.specs.Layout.{row_at}
 
 -- ---- single words
 
@@ -58,9 +64,6 @@ kind_text word =
     else if kind_part word == SOCK then codes "sock"
     else codes "unborn"
 
-abbrev pub mark_text : ℕ → List ℕ
-mark_text word = if word == SET then codes "set" else codes "clear"
-
 abbrev pub cell_text : ℕ → List ℕ
 cell_text word = if word == EMPTY then codes "empty" else row_text (word - 1)
 
@@ -70,15 +73,57 @@ status_text word =
     else if word == LEAVING then codes "leaving"
     else codes "gone"
 
+-- ---- marks
+
+-- a row's mark before and after a step that sets it: it was set if the step has left the word as it was
+abbrev pub marked_text : ℕ → ℕ → ℕ → List ℕ
+marked_text row found left =
+    row_text row ++ (if left == found then codes " mark: set -> set" else codes " mark: clear -> set")
+
+-- a row's mark before and after a step that takes it: it was set if the step has changed the word
+abbrev pub taken_text : ℕ → ℕ → ℕ → List ℕ
+taken_text row found left =
+    row_text row ++ (if left == found then codes " mark: clear -> clear" else codes " mark: set -> clear")
+
+-- the rows whose marks are set among the first n of thread t's mark word w, by rising row
+unfoldable pub rows_set : Layout → ℕ → ℕ → ℕ → ℕ → List ℕ
+rows_set layout t w word n =
+    map (λ bit. row_at layout t (marks_of_word * w + bit))
+    (filter (λ bit. mark_at word bit == SET) (range_with_len 0 n))
+
+-- the rows, with a comma between two of them
+abbrev pub rows_text : List ℕ → List ℕ
+rows_text [] = []
+rows_text (row ∷ rest) = row_text row ++ flat_map (λ next. codes ", " ++ row_text next) rest
+
+abbrev pub rows_or_none : List ℕ → List ℕ
+rows_or_none [] = codes "none"
+rows_or_none (row ∷ rest) = rows_text (row ∷ rest)
+
+-- thread t's mark word w, by the rows whose marks it has set
+unfoldable pub marks_text : Layout → ℕ → ℕ → ℕ → List ℕ
+marks_text layout t w word =
+    codes "thread " ++ decimal t ++ codes " marks " ++ decimal w ++ codes ": "
+    ++ rows_or_none (rows_set layout t w word marks_of_word)
+
+-- What the step of the duty found and left in thread t's mark word w: a step that sets or takes one mark shows this
+-- mark, and a load the whole word.
+abbrev pub on_marks : Layout → Duty → ℕ → ℕ → ℕ → ℕ → List ℕ
+on_marks layout (SetMark x) t w found left = marked_text x found left
+on_marks layout (TakeMark x) t w found left = taken_text x found left
+on_marks layout (ClaimMark x) t w found left = taken_text x found left
+on_marks layout (TakeFound v marks) t w found left = taken_text (found_row layout t v marks) found left
+on_marks layout _ t w found left = marks_text layout t w found
+
 -- ---- a word of a step
 
--- what the word at the address says; slots and resources are none
+-- what the word at the address says; slots and resources are none, and a mark word is shown by the step's duty
 abbrev pub value_text : Address → ℕ → List ℕ
 value_text (Local row) word = local_text word
 value_text (Shared row) word = shared_text word
 value_text (Gate row) word = gate_text word
 value_text (KindOf row) word = kind_text word
-value_text (Mark row) word = mark_text word
+value_text (Marks thread word) _ = []
 value_text (Cell row cell) word = cell_text word
 value_text (Slot row) word = []
 value_text (Resource row) word = []
@@ -90,7 +135,7 @@ subject_text (Local row) = row_text row ++ codes " local: "
 subject_text (Shared row) = row_text row ++ codes " shared: "
 subject_text (Gate row) = row_text row ++ codes " gate: "
 subject_text (KindOf row) = row_text row ++ codes " kind: "
-subject_text (Mark row) = row_text row ++ codes " mark: "
+subject_text (Marks thread word) = []
 subject_text (Cell row cell) = row_text row ++ codes " cell " ++ decimal cell ++ codes ": "
 subject_text (Slot row) = []
 subject_text (Resource row) = []
@@ -105,6 +150,8 @@ left_text address found left = value_text address left
 abbrev pub change_text : Address → ℕ → ℕ → List ℕ
 change_text address found left = if left == found then [] else codes " -> " ++ left_text address found left
 
--- the word at the address: what the step found, and what it left if that is another
-abbrev pub word_text : Address → ℕ → ℕ → List ℕ
-word_text address found left = subject_text address ++ value_text address found ++ change_text address found left
+-- the word at the address: what the step of the duty found, and what it left if that is another
+abbrev pub word_text : Layout → Duty → Address → ℕ → ℕ → List ℕ
+word_text layout d (Marks t w) found left = on_marks layout d t w found left
+word_text layout d address found left =
+    subject_text address ++ value_text address found ++ change_text address found left

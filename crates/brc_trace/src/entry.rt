@@ -9,7 +9,7 @@ use crate::part::show_part;
 use crate::rule::rule_at;
 use crate::word::show_word;
 use brc_lang::Function;
-use brc_model::{Address, Duty, Exit};
+use brc_model::{Address, Duty, Exit, Layout};
 use brc_report::{Paint, Role};
 use brc_world::{Event, Part, Sight};
 use std::alloc::AllocError;
@@ -37,7 +37,13 @@ pub fn show_entry(
 {
     show_opening(paint, entry.number, entry.thread, line)?;
     show_naming(paint, functions, entry, line)?;
-    show_event(paint, entry.sight.exit, entry.sight.event, line)?;
+    show_event(
+        paint,
+        entry.sight.layout,
+        entry.sight.exit,
+        entry.sight.event,
+        line,
+    )?;
     line.text("\n")
 }
 
@@ -73,8 +79,14 @@ fn show_naming(
 }
 
 /// Adds the word of the step, and what the step brings about. `exit` is the exit by which a close ends.
-fn show_event(paint: Paint, exit: Exit, event: Event, line: &mut Line) -> Result<(), AllocError>
-    ensures { OnOk result (line.new ≡ line.old ++ event_text paint exit event) }
+fn show_event(
+    paint: Paint,
+    layout: Layout,
+    exit: Exit,
+    event: Event,
+    line: &mut Line,
+) -> Result<(), AllocError>
+    ensures { OnOk result (line.new ≡ line.old ++ event_text paint layout exit event) }
 {
     match event {
         Event::Silent | Event::Calls(_) => Ok(()),
@@ -84,7 +96,7 @@ fn show_event(paint: Paint, exit: Exit, event: Event, line: &mut Line) -> Result
             found,
             left,
         } => {
-            show_found(paint, address, found, left, line)?;
+            show_found(paint, layout, &duty, address, found, left, line)?;
             show_duty(paint, exit, &duty, address, found, left, line)
         }
     }
@@ -92,19 +104,21 @@ fn show_event(paint: Paint, exit: Exit, event: Event, line: &mut Line) -> Result
 
 fn show_found(
     paint: Paint,
+    layout: Layout,
+    duty: &Duty,
     address: Address,
     found: u64,
     left: u64,
     line: &mut Line,
 ) -> Result<(), AllocError>
-    ensures { OnOk result (line.new ≡ line.old ++ found_text paint address found left) }
+    ensures { OnOk result (line.new ≡ line.old ++ found_text paint layout duty.now address found left) }
 {
     match address {
         Address::Slot { .. } | Address::Resource { .. } => Ok(()),
         _ => {
             line.text("  ")?;
             line.text(paint.on(Role::Word))?;
-            show_word(address, found, left, line)?;
+            show_word(layout, duty, address, found, left, line)?;
             line.text(paint.off())
         }
     }

@@ -1,6 +1,8 @@
 //! Laws of all traces.
 
-ghost use Rattle.std.specs.Prelude.{◌≡◌, ℕ, Bool, List};
+ghost use Rattle.std.specs.Prelude.{◌≡◌, ◌≢◌, ℕ, Bool, List};
+ghost use Rattle.brc_word.specs.declared.values.TheConstants.{SET};
+ghost use Rattle.brc_word.specs.Words.{mark_at, marked_word, unmarked_word};
 ghost use Rattle.brc_model.specs.declared.address.Address.{Address};
 ghost use Rattle.brc_model.specs.declared.duty.Duty.{Duty};
 ghost use Rattle.brc_model.specs.declared.layout.Layout.{Layout};
@@ -33,4 +35,13 @@ pub fn rules_are_named()
         (found left : ℕ) (next : List Duty) (moves : List Move)
         (goes : Goes memory layout t running head d found left next moves)
         → rule_of t running d found left ≡ named memory layout t running head d found left next moves goes }
+{}
+
+/// States that a step that takes a mark changes its word just if the mark was set, and a step that sets a mark just if
+/// it was clear. So the trace reads off the words what the mark was.
+pub fn changes_show_marks()
+    ensures set_taken { (word bit : ℕ) → mark_at word bit ≡ SET → unmarked_word word bit ≢ word }
+    ensures clear_taken { (word bit : ℕ) → mark_at word bit ≢ SET → unmarked_word word bit ≡ word }
+    ensures set_again { (word bit : ℕ) → mark_at word bit ≡ SET → marked_word word bit ≡ word }
+    ensures clear_set { (word bit : ℕ) → mark_at word bit ≢ SET → marked_word word bit ≢ word }
 {}

@@ -6,6 +6,7 @@ mod entry;
 mod fault;
 mod laws;
 mod line;
+mod marks;
 mod outcome;
 mod part;
 mod past;
@@ -15,7 +16,7 @@ mod word;
 
 pub use entry::Entry;
 pub use fault::TraceFault;
-pub use laws::{rules_are_named, traces_show_words};
+pub use laws::{changes_show_marks, rules_are_named, traces_show_words};
 pub use outcome::{Fate, Outcome};
 pub use rule::Rule;
 pub use tracing::trace;

@@ -160,7 +160,7 @@ pub fn show_outcome(
     };
     line.text(before)?;
     line.text(paint.on(Role::Life))?;
-    show_of_row(outcome.row, outcome.fate.text(), line)?;
+    show_of_row(u64::from(outcome.row), outcome.fate.text(), line)?;
     line.text(paint.off())?;
     Ok(", ")
 }

@@ -6,7 +6,7 @@ ghost use Rattle.brc_trace.specs.Rules.{rule_name, rule_of, rule_at, retain_rule
 
 use crate::word::owner_part;
 use brc_model::{Duty, Exit, Reason};
-use brc_word::values::{FILE, FREE, NOBODY, RUNNING, SET, SOCK};
+use brc_word::values::{FILE, FREE, NOBODY, RUNNING, SOCK};
 use brc_word::{is_dead, is_fresh, is_immortal, kind_number, local_count};
 use brc_world::Event;
 
@@ -55,6 +55,7 @@ pub enum Rule {
     OwnerExits,
     MarkTakenBack,
     MarkGone,
+    MarksLooked,
     MarkClaimed,
     NothingToClaim,
     // a merge
@@ -76,8 +77,9 @@ pub enum Rule {
     Closes,
     // a thread's exit
     SaysLeaving,
-    ScanFindsMark,
-    ScanFindsNone,
+    MarksRead,
+    FoundMarkTaken,
+    FoundMarkGone,
     SaysGone,
     // a step on no word
     /// The step changes the thread alone.
@@ -129,6 +131,7 @@ impl Rule {
             Rule::OwnerExits => "OwnerExits",
             Rule::MarkTakenBack => "MarkTakenBack",
             Rule::MarkGone => "MarkGone",
+            Rule::MarksLooked => "MarksLooked",
             Rule::MarkClaimed => "MarkClaimed",
             Rule::NothingToClaim => "NothingToClaim",
             Rule::NobodysCount => "NobodysCount",
@@ -147,8 +150,9 @@ impl Rule {
             Rule::ResourceClosed => "ResourceClosed",
             Rule::Closes => "Closes",
             Rule::SaysLeaving => "SaysLeaving",
-            Rule::ScanFindsMark => "ScanFindsMark",
-            Rule::ScanFindsNone => "ScanFindsNone",
+            Rule::MarksRead => "MarksRead",
+            Rule::FoundMarkTaken => "FoundMarkTaken",
+            Rule::FoundMarkGone => "FoundMarkGone",
             Rule::SaysGone => "SaysGone",
             Rule::Silent => "Silent",
             Rule::HostAnswers => "HostAnswers",
@@ -174,7 +178,8 @@ pub fn rule_at(thread: u8, running: bool, event: Event) -> Rule
     }
 }
 
-/// Returns the rule by which the thread does the duty, whose step found one word and left the other.
+/// Returns the rule by which the thread does the duty, whose step found one word and left the other. A mark was set if
+/// the step that takes it has changed the word.
 pub fn rule_of(thread: u8, running: bool, duty: Duty, found: u64, left: u64) -> Rule
     ensures { result ≡ rule_of thread running duty found left }
 {
@@ -209,8 +214,9 @@ pub fn rule_of(thread: u8, running: bool, duty: Duty, found: u64, left: u64) -> 
         Duty::SharedExchange { word, .. } => shared_rule(word, found, left),
         Duty::SetMark { .. } => Rule::Marked,
         Duty::Look { .. } => either(found == RUNNING, Rule::OwnerRuns, Rule::OwnerExits),
-        Duty::TakeMark { .. } => either(found == SET, Rule::MarkTakenBack, Rule::MarkGone),
-        Duty::ClaimMark { .. } => either(found == SET, Rule::MarkClaimed, Rule::NothingToClaim),
+        Duty::TakeMark { .. } => either(left == found, Rule::MarkGone, Rule::MarkTakenBack),
+        Duty::MarksLoad { .. } => Rule::MarksLooked,
+        Duty::ClaimMark { .. } => either(left == found, Rule::NothingToClaim, Rule::MarkClaimed),
         Duty::MergeSwap { .. } => either(found == NOBODY, Rule::NobodysCount, Rule::LocalTakenOut),
         Duty::MergeLoad { .. } => Rule::MergeRead,
         Duty::MergeExchange { word, reason, .. } => merge_rule(reason, word, found, left),
@@ -224,7 +230,8 @@ pub fn rule_of(thread: u8, running: bool, duty: Duty, found: u64, left: u64) -> 
         Duty::CloseResource { .. } => Rule::ResourceClosed,
         Duty::SettleEnd { .. } => Rule::Closes,
         Duty::Leave { .. } => Rule::SaysLeaving,
-        Duty::Scan { .. } => either(found == SET, Rule::ScanFindsMark, Rule::ScanFindsNone),
+        Duty::Scan { .. } => Rule::MarksRead,
+        Duty::TakeFound { .. } => either(left == found, Rule::FoundMarkGone, Rule::FoundMarkTaken),
         Duty::Finish => Rule::SaysGone,
     }
 }

@@ -3,14 +3,15 @@
 ghost use Rattle.std.specs.Prelude.{◌≡◌, ◌≤◌, ◌++◌, OnOk};
 ghost use Rattle.brc_word.specs.Words.{half, owner_part, local_part, next_part};
 ghost use Rattle.brc_trace.specs.WordTexts.{row_text, local_text, count_text, phase_text, shared_text, next_text, dying_text};
-ghost use Rattle.brc_trace.specs.WordTexts.{gate_text, kind_text, mark_text, cell_text, status_text};
+ghost use Rattle.brc_trace.specs.WordTexts.{gate_text, kind_text, cell_text, status_text};
 ghost use Rattle.brc_trace.specs.WordTexts.{value_text, subject_text, left_text, change_text, word_text};
 
 use crate::line::Line;
-use brc_model::Address;
+use crate::marks::show_on_marks;
+use brc_model::{Address, Duty, Layout};
 use brc_word::values::{
     DEFAULT, EMPTY, FILE, FREE, LEAVING, LIST, MERGED, NONE, NUM, ONE_REFERENCE, QUEUED, RUNNING,
-    SET, SOCK,
+    SOCK,
 };
 use brc_word::{is_closed, is_immortal, kind_argument, kind_number, local_count, next_of_dying};
 use std::alloc::AllocError;
@@ -21,30 +22,43 @@ const HALF: u64 = 1 << 32;
 /// The biased count of the shared count 0.
 const BIAS: u64 = 1 << 40;
 
-/// Adds the word at the address: what the step found there, and what it left if that is another.
-pub fn show_word(address: Address, found: u64, left: u64, line: &mut Line) -> Result<(), AllocError>
-    ensures { OnOk result (line.new ≡ line.old ++ word_text address found left) }
+/// Adds the word at the address: what the step of the duty found there, and what it left if that is another.
+pub fn show_word(
+    layout: Layout,
+    duty: &Duty,
+    address: Address,
+    found: u64,
+    left: u64,
+    line: &mut Line,
+) -> Result<(), AllocError>
+    ensures { OnOk result (line.new ≡ line.old ++ word_text layout duty.now address found left) }
 {
-    show_subject(address, line)?;
-    show_value(address, found, line)?;
-    show_change(address, found, left, line)
+    match address {
+        Address::Marks { thread, word } => {
+            show_on_marks(layout, duty, thread, word, found, left, line)
+        }
+        _ => {
+            show_subject(address, line)?;
+            show_value(address, found, line)?;
+            show_change(address, found, left, line)
+        }
+    }
 }
 
 fn show_subject(address: Address, line: &mut Line) -> Result<(), AllocError>
     ensures { OnOk result (line.new ≡ line.old ++ subject_text address) }
 {
     match address {
-        Address::Local { row } => show_of_row(row, " local: ", line),
-        Address::Shared { row } => show_of_row(row, " shared: ", line),
-        Address::Gate { row } => show_of_row(row, " gate: ", line),
-        Address::KindOf { row } => show_of_row(row, " kind: ", line),
-        Address::Mark { row } => show_of_row(row, " mark: ", line),
+        Address::Local { row } => show_of_row(u64::from(row), " local: ", line),
+        Address::Shared { row } => show_of_row(u64::from(row), " shared: ", line),
+        Address::Gate { row } => show_of_row(u64::from(row), " gate: ", line),
+        Address::KindOf { row } => show_of_row(u64::from(row), " kind: ", line),
         Address::Cell { row, cell } => {
-            show_of_row(row, " cell ", line)?;
+            show_of_row(u64::from(row), " cell ", line)?;
             line.number(u64::from(cell))?;
             line.text(": ")
         }
-        Address::Slot { .. } | Address::Resource { .. } => Ok(()),
+        Address::Marks { .. } | Address::Slot { .. } | Address::Resource { .. } => Ok(()),
         Address::ThreadWord { thread } => {
             line.text("thread ")?;
             line.number(u64::from(thread))?;
@@ -61,9 +75,8 @@ fn show_value(address: Address, word: u64, line: &mut Line) -> Result<(), AllocE
         Address::Shared { .. } => show_shared(word, line),
         Address::Gate { .. } => show_gate(word, line),
         Address::KindOf { .. } => show_kind(word, line),
-        Address::Mark { .. } => show_mark(word, line),
         Address::Cell { .. } => show_cell(word, line),
-        Address::Slot { .. } | Address::Resource { .. } => Ok(()),
+        Address::Marks { .. } | Address::Slot { .. } | Address::Resource { .. } => Ok(()),
         Address::ThreadWord { .. } => show_status(word, line),
     }
 }
@@ -95,15 +108,15 @@ fn show_left(address: Address, found: u64, left: u64, line: &mut Line) -> Result
 }
 
 /// Adds the row's number, as in `row 5`.
-pub fn show_row(row: u32, line: &mut Line) -> Result<(), AllocError>
+pub fn show_row(row: u64, line: &mut Line) -> Result<(), AllocError>
     ensures { OnOk result (line.new ≡ line.old ++ row_text row) }
 {
     line.text("row ")?;
-    line.number(u64::from(row))
+    line.number(row)
 }
 
 /// Adds the row's number, and then the text.
-pub fn show_of_row(row: u32, text: &str, line: &mut Line) -> Result<(), AllocError>
+pub fn show_of_row(row: u64, text: &str, line: &mut Line) -> Result<(), AllocError>
     ensures { OnOk result (line.new ≡ line.old ++ (row_text row ++ text.now)) }
 {
     show_row(row, line)?;
@@ -221,12 +234,6 @@ fn show_kind(word: u64, line: &mut Line) -> Result<(), AllocError>
     } else {
         line.text("unborn")
     }
-}
-
-fn show_mark(word: u64, line: &mut Line) -> Result<(), AllocError>
-    ensures { OnOk result (line.new ≡ line.old ++ mark_text word) }
-{
-    line.text(if word == SET { "set" } else { "clear" })
 }
 
 fn show_cell(word: u64, line: &mut Line) -> Result<(), AllocError>

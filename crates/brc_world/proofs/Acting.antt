@@ -80,8 +80,7 @@ record DoneBy (layout : Layout) (t : ℕ) (memory : Address → ℕ) (a : StepAc
   step : IsStep layout t memory a agenda exit x did
       (words_after layout t memory (started a x exit (found_by layout t memory a d)) d)
       (actor_after layout t memory (started a x exit (found_by layout t memory a d)) d) (duty_counted exit d)
-  can : (n threads found : ℕ) → CanAct layout t n threads memory a x
-      → CanDo layout t n threads memory (started a x exit found) d
+  can : (n found : ℕ) → CanAct layout t n memory a x → CanDo layout t n memory (started a x exit found) d
 
 enters : (b : Bool) → cond b answers.Moved answers.Same ≡ cond (not b) answers.Same answers.Moved
 enters true = refl
@@ -131,7 +130,7 @@ module _ (layout : Layout) (t : ℕ) (memory : Address → ℕ) (a : StepActor) 
       subst (λ (e : Duty). DoneBy layout t memory a agenda exit (Does c rest place) e did) same
       (record {
         step = record { answer = answer; memory_is = refl; actor = refl; faults = λ f. refl };
-        can = λ n threads found can. record { there = can.there; suits = can.suits; uses = can.uses };
+        can = λ n found can. record { there = can.there; suits = can.suits; uses = can.uses };
       })
 
   -- A duty that isn't a lock waits for nothing.
@@ -337,15 +336,15 @@ module _ (functions : List Function) (layout : Layout) (t : ℕ) (memory : Addre
       (start_does functions layout t memory a exit a.actor.agenda start d does begun.starts).step))
 
   -- The thread can do the duty that its step has started with.
-  pub can_do : (n threads : ℕ) (start : Start) (d : Duty)
+  pub can_do : (n : ℕ) (start : Start) (d : Duty)
       → HasStarted functions layout t a b start → duty_of start ≡ Some d
-      → CanAct layout t n threads memory a (status_action functions layout t a a.actor.status)
-      → CanDo layout t n threads memory (actor_of b) d
-  can_do n threads start d begun does can =
+      → CanAct layout t n memory a (status_action functions layout t a a.actor.status)
+      → CanDo layout t n memory (actor_of b) d
+  can_do n start d begun does can =
       let done = start_does functions layout t memory a exit a.actor.agenda start d does begun.starts in
-      let able : CanDo layout t n threads memory (answered start exit 0 b) d =
-      subst (λ (c : StepActor). CanDo layout t n threads memory c d) (sym (begun.actor exit 0))
-      (done.can n threads 0 (subst (CanAct layout t n threads memory a)
+      let able : CanDo layout t n memory (answered start exit 0 b) d =
+      subst (λ (c : StepActor). CanDo layout t n memory c d) (sym (begun.actor exit 0))
+      (done.can n 0 (subst (CanAct layout t n memory a)
       (sym (alive_action functions layout t a a.actor.status begun.alive)) can)) in
       record { there = able.there; suits = able.suits; uses = able.uses }
 

@@ -1,5 +1,5 @@
 -- The world after a step of the code: it is the model's next world or, if memory was refused, the same world.
-use Rattle.std.proofs.Common.{◌≡◌, ℕ, ◌+◌, ◌<◌, List, ◌∷◌, Some, Result, Ok, Err, OnOk, OnErr, IfOk, IfErr, length, map, refl, sym, ap, ◌∙◌, subst, arith}
+use Rattle.std.proofs.Common.{◌≡◌, ℕ, ◌+◌, ◌<◌, ◌≤◌, List, ◌∷◌, Some, Result, Ok, Err, OnOk, OnErr, IfOk, IfErr, length, map, refl, sym, ap, ◌∙◌, subst, arith}
 use Rattle.std.specs.Prelude.{slice_get, slice_set}
 use Rattle.std.specs.List.{slice_index_or}
 use Rattle.std.proofs.Math.Seq.{map-set_same}
@@ -20,15 +20,27 @@ use Rattle.brc_world.specs.declared.no_memory.NoMemory.{NoMemory}
 use Rattle.brc_world.specs.declared.thread.Thread.{Thread}
 use Rattle.brc_world.specs.Answers.{IsAnswer}
 use Rattle.brc_world.specs.Actors.{actor_of}
-use Rattle.brc_world.specs.Storage.{Columns, word_in}
+use Rattle.brc_world.specs.Storage.{Columns, word_in, AreOf}
 use Rattle.brc_world.specs.Worlds.{Contents, model_of, IsWorld}
 use Rattle.brc_world.proofs.Stepping.{with_words}
 use Rattle.brc_model.specs.declared.layout.Layout.{Layout}
 use Rattle.brc_model.specs.Layout.{row_count}
+use Rattle.brc_model.specs.Limits.{row_limit}
+use Rattle.brc_lang.specs.declared.module.Module.{Module}
 
 abbrev pub contents : Accepted → Layout → Columns → List Thread → Faults → Contents
 contents accepted layout words threads faults =
     record { accepted = accepted; layout = layout; words = words; actors = map actor_of threads; faults = faults }
+
+-- The columns of a world are those of its layout.
+pub are_of : (p : Module) (c : Contents) → IsWorld p c → c.layout.rows ≤ row_limit
+    → length c.actors ≡ 1 + c.layout.workers → AreOf c.layout c.words
+are_of p c world few workers = record {
+  rows = world.rows;
+  threads = world.threads ∙ workers;
+  few_rows = few;
+  few_lists = world.few_lists;
+}
 
 -- the contract of one step: the words, the thread and the counts of faults after it, or the same ones if memory was
 -- refused
@@ -96,6 +108,7 @@ sized p layout old new threads t after f g world same_rows same_threads reachabl
       reachable = reachable;
       rows = same_rows ∙ world.rows;
       threads = same_threads ∙ world.threads ∙ sym many;
+      few_lists = world.few_lists;
     }
 
 goes : (p : Accepted) (layout : Layout) (old new : Columns) (threads : List Thread) (t : ℕ) (choice : Choice)
@@ -212,4 +225,5 @@ first_is p rows layout calls words threads so word actors same_rows same_threads
       reachable = subst (IsReachable p.module) (sym now) reachable;
       rows = same_rows;
       threads = same_threads ∙ sym count;
+      few_lists = rw so (omega arith);
     }

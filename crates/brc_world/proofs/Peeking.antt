@@ -30,13 +30,13 @@ any_reversed test duties =
 module _ (layout : Layout) (t : ℕ) (memory : Address → ℕ) (a : StepActor) (choice : Choice) where
   -- the sight of a step that does the duty
   abbrev pub duty_seen : Duty → Option Sight
-  duty_seen d = Some (sight_of a choice (duty_event layout t memory a d) (kind_born memory d))
+  duty_seen d = Some (sight_of layout a choice (duty_event layout t memory a d) (kind_born memory d))
 
   -- the sight of a step with the start
   abbrev pub seen_by : Start → Option Sight
   seen_by starts.Stuck = None
-  seen_by starts.Moved = Some (sight_of a choice events.Silent None)
-  seen_by (starts.Calling call) = Some (sight_of a choice (events.Calls (exit_of choice)) None)
+  seen_by starts.Moved = Some (sight_of layout a choice events.Silent None)
+  seen_by (starts.Calling call) = Some (sight_of layout a choice (events.Calls (exit_of choice)) None)
   seen_by (starts.Doing d) = duty_seen d
   seen_by (starts.Asking d question) = duty_seen d
   seen_by (starts.Locking row left next) = duty_seen (LockGate row)
@@ -71,15 +71,15 @@ module _ (layout : Layout) (t : ℕ) (memory : Address → ℕ) (a : StepActor) 
       unasked_seen start ∙ ap seen_by starts ∙ agenda_seen functions a.actor.agenda
       ∙ ap (sight_by layout t memory a choice) (alive_action functions layout t a a.actor.status alive)
 
-module _ (layout : Layout) (t n threads : ℕ) (memory : Address → ℕ) (a : StepActor) where
+module _ (layout : Layout) (t n : ℕ) (memory : Address → ℕ) (a : StepActor) where
   -- the thread can do the duty of the start, if it has one
   abbrev pub CanStart : Start → Type 0
-  CanStart (starts.Doing d) = CanDo layout t n threads memory a d
-  CanStart (starts.Asking d question) = CanDo layout t n threads memory a d
-  CanStart (starts.Locking row left next) = CanDo layout t n threads memory a (LockGate row)
+  CanStart (starts.Doing d) = CanDo layout t n memory a d
+  CanStart (starts.Asking d question) = CanDo layout t n memory a d
+  CanStart (starts.Locking row left next) = CanDo layout t n memory a (LockGate row)
   CanStart start = Unit {0}
 
-  action_starts : (x : Action) → CanAct layout t n threads memory a x → CanStart (start_by x)
+  action_starts : (x : Action) → CanAct layout t n memory a x → CanStart (start_by x)
   action_starts Skip can = tt
   action_starts Stuck can = tt
   action_starts (Silent moves place) can = tt
@@ -96,7 +96,7 @@ module _ (layout : Layout) (t n threads : ℕ) (memory : Address → ℕ) (a : S
   asks_too (starts.Locking row left next) can = can
 
   agenda_starts : (functions : List Function) (agenda : List Duty)
-      → CanAct layout t n threads memory a (agenda_action functions layout t a agenda)
+      → CanAct layout t n memory a (agenda_action functions layout t a agenda)
       → CanStart (first_start functions layout t a agenda)
   agenda_starts functions [] can = action_starts (agenda_action functions layout t a []) can
   agenda_starts functions (d ∷ rest) can = can
@@ -104,10 +104,10 @@ module _ (layout : Layout) (t n threads : ℕ) (memory : Address → ℕ) (a : S
   -- The thread can do the duty of its step's start.
   pub start_can : (functions : List Function) (start : Start) → a.actor.status ≢ Gone
       → unasking start ≡ first_start functions layout t a a.actor.agenda
-      → CanAct layout t n threads memory a (status_action functions layout t a a.actor.status) → CanStart start
+      → CanAct layout t n memory a (status_action functions layout t a a.actor.status) → CanStart start
   start_can functions start alive starts can =
       asks_too start
       (subst CanStart (sym starts)
       (agenda_starts functions a.actor.agenda
-      (subst (CanAct layout t n threads memory a)
+      (subst (CanAct layout t n memory a)
       (sym (alive_action functions layout t a a.actor.status alive)) can)))

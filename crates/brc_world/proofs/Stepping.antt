@@ -1,6 +1,6 @@
 -- The words and the thread after a step of the code are those of the model's world after its step.
 use Rattle.std.proofs.Common.{◌≡◌, ◌≢◌, ℕ, Bool, true, false, cond, List, [], Option, Some, inl, inr, refl, sym, ap, ◌∙◌}
-use Rattle.std.specs.Prelude.{◌==◌, not, length, slice_get, slice_set}
+use Rattle.std.specs.Prelude.{◌==◌, not, slice_get, slice_set}
 use Rattle.std.proofs.lemmas.Bool.{cases_Bool, and_parts, eqb-true}
 use Rattle.std.proofs.lemmas.Bool.Decides.{eqb_tells}
 use Rattle.std.proofs.lemmas.List.{set-get_or, nil_from_length}
@@ -8,7 +8,6 @@ use Rattle.std.proofs.lemmas.Option.{get_or_from_slice_get}
 use Rattle.brc_lang.specs.declared.module.Module.{Module}
 use Rattle.brc_model.specs.declared.actor.Place.{Place}
 use Rattle.brc_model.specs.declared.address.Address.{Address}
-use Rattle.brc_model.specs.declared.address.Address.TheVariants.{Mark}
 use Rattle.brc_model.specs.declared.duty.Duty.{Duty}
 use Rattle.brc_model.specs.declared.duty.Duty.TheVariants.{ClaimMark}
 use Rattle.brc_model.specs.declared.thread.Choice.{Choice}
@@ -17,6 +16,7 @@ use Rattle.brc_model.specs.World.{IsReachable, World, world_of, machine_of, step
 use Rattle.brc_model.specs.declared.state.Exit.{Exit}
 use Rattle.brc_model.specs.declared.state.Exit.TheVariants as exits
 use Rattle.brc_model.specs.Actions.{StepActor, Action, Skip, Stuck, Silent, Calls, Does, always, may_claim, may_stop, stop_action, status_action, exit_of, action_of}
+use Rattle.brc_model.specs.Machine.{mark_of}
 use Rattle.brc_model.specs.StepMachine.{of_thread, machine_by}
 use Rattle.brc_model.specs.Within.{IsWithin, StepsWithin}
 use Rattle.brc_world.specs.declared.faults.Faults.{Faults}
@@ -138,16 +138,16 @@ pub finds_as : (w : World) (t : ℕ) (a : StepActor) (row : ℕ) → slice_get w
     (actor_claimed w.layout t w.memory a row) (faults_of w)
 finds_as w t a row found may marked =
     let rests = claims_at_rest w.layout t a row may in
-    let set : not (w.memory (Mark row) == 0) ≡ true = (and_parts _ _ marked).1 in
+    let set : not (mark_of w.layout w.memory row == 0) ≡ true = (and_parts _ _ marked).1 in
     ap (after w t (Claim row)) found ∙ (rw (may, set, rests) refl)
 
 -- A claim that finds no mark, or that the thread may not make, leaves the world as it is.
 pub claim_stays : (w : World) (t : ℕ) (a : StepActor) (row : ℕ) → finds_mark w.layout t w.memory a row ≡ false
-    → (may_claim w.layout t a row ≡ true → w.memory (Mark row) ≡ 0 → step w t (Claim row) ≡ w)
+    → (may_claim w.layout t a row ≡ true → mark_of w.layout w.memory row ≡ 0 → step w t (Claim row) ≡ w)
     → (may_claim w.layout t a row ≡ false → step w t (Claim row) ≡ w) → step w t (Claim row) ≡ w
 claim_stays w t a row missed unmarked unplaced =
     elim (cases_Bool (may_claim w.layout t a row)) [
-      | inl may ↦ elim (eqb_tells (w.memory (Mark row)) 0) [
+      | inl may ↦ elim (eqb_tells (mark_of w.layout w.memory row) 0) [
         | inl none ↦ unmarked may none.1
         | inr some ↦ let wrong : true ≡ false = rw (may, some.0) at missed in absurd cc
       ]
@@ -156,11 +156,11 @@ claim_stays w t a row missed unmarked unplaced =
 
 -- A claim that finds a mark changes the world.
 pub claim_moves : (w : World) (t : ℕ) (a : StepActor) (row : ℕ) → finds_mark w.layout t w.memory a row ≡ true
-    → (may_claim w.layout t a row ≡ true → w.memory (Mark row) ≢ 0 → step w t (Claim row) ≢ w)
+    → (may_claim w.layout t a row ≡ true → mark_of w.layout w.memory row ≢ 0 → step w t (Claim row) ≢ w)
     → step w t (Claim row) ≢ w
 claim_moves w t a row marked moves =
-    let parts = and_parts (may_claim w.layout t a row) (not (w.memory (Mark row) == 0)) marked in
-    elim (eqb_tells (w.memory (Mark row)) 0) [
+    let parts = and_parts (may_claim w.layout t a row) (not (mark_of w.layout w.memory row == 0)) marked in
+    elim (eqb_tells (mark_of w.layout w.memory row) 0) [
       | inl none ↦ let wrong : false ≡ true = rw none.0 at parts.1 in absurd cc
       | inr some ↦ moves parts.0 some.1
     ]
@@ -168,15 +168,15 @@ claim_moves w t a row marked moves =
 -- The world after any claim has the words and the thread that `memory_claimed` and `actor_claimed` give.
 pub claim_is : (p : Module) (w : World) (t : ℕ) (a : StepActor) (row : ℕ) → IsReachable p w
     → slice_get w.actors t ≡ Some a
-    → (may_claim w.layout t a row ≡ true → w.memory (Mark row) ≡ 0 → step w t (Claim row) ≡ w)
+    → (may_claim w.layout t a row ≡ true → mark_of w.layout w.memory row ≡ 0 → step w t (Claim row) ≡ w)
     → (may_claim w.layout t a row ≡ false → step w t (Claim row) ≡ w)
     → step w t (Claim row) ≡ with_words w t (memory_claimed w.layout t w.memory a row)
     (actor_claimed w.layout t w.memory a row) (faults_of w)
 claim_is p w t a row reachable found unmarked unplaced =
     elim (cases_Bool (finds_mark w.layout t w.memory a row)) [
       | inl marked ↦
-          finds_as w t a row found (and_parts (may_claim w.layout t a row) (not (w.memory (Mark row) == 0)) marked).0
-          marked
+          finds_as w t a row found
+          (and_parts (may_claim w.layout t a row) (not (mark_of w.layout w.memory row == 0)) marked).0 marked
       | inr missed ↦ misses_as w t a row found missed (claim_stays w t a row missed unmarked unplaced)
     ]
 
@@ -210,13 +210,13 @@ stop_is w t a found =
 
 -- The thread can do a duty that is within all bounds.
 pub able : (w : World) (t : ℕ) (a : StepActor) (d : Duty) → IsWithin w t a.actor d
-    → CanDo w.layout t (row_count w.layout) (length w.actors) w.memory a d
+    → CanDo w.layout t (row_count w.layout) w.memory a d
 able w t a d within = record { there = within.there; suits = within.suits; uses = within.used }
 
 -- The thread can do its action, if each duty that the action may be is within all bounds.
 pub can_act : (w : World) (t : ℕ) (a : StepActor) (x : Action)
     → ((d : Duty) (rest : List Duty) (place : ℕ → Place) → x ≡ Does d rest place → IsWithin w t a.actor d)
-    → CanAct w.layout t (row_count w.layout) (length w.actors) w.memory a x
+    → CanAct w.layout t (row_count w.layout) w.memory a x
 can_act w t a Skip within = tt
 can_act w t a Stuck within = tt
 can_act w t a (Silent moves place) within = tt
@@ -225,13 +225,13 @@ can_act w t a (Does d rest place) within = able w t a d (within d rest place ref
 
 -- The thread can take its next step, if its steps are within all bounds.
 pub can_go_on : (w : World) (t : ℕ) (a : StepActor) → StepsWithin w t a
-    → CanAct w.layout t (row_count w.layout) (length w.actors) w.memory a
+    → CanAct w.layout t (row_count w.layout) w.memory a
     (status_action w.functions w.layout t a a.actor.status)
 can_go_on w t a steps = can_act w t a (status_action w.functions w.layout t a a.actor.status) (steps Ok)
 
 -- The thread can claim a row, if its steps are within all bounds.
 pub can_claim : (w : World) (t : ℕ) (a : StepActor) (row : ℕ) → StepsWithin w t a
-    → CanClaim w.layout t (row_count w.layout) (length w.actors) w.memory a row
+    → CanClaim w.layout t (row_count w.layout) w.memory a row
 can_claim w t a row steps may =
     able w t a (ClaimMark row) (steps (Claim row) (ClaimMark row) [] (always a.place)
     (ap (λ (b : Bool). cond b (Does (ClaimMark row) [] (always a.place)) Skip) may))

@@ -1,20 +1,75 @@
--- A word that is stored in a column is the word written at its address, and the first columns have the first words.
-use Rattle.std.proofs.Common.{◌≡◌, ℕ, zero, suc, ◌+◌, ◌*◌, ◌<◌, Bool, true, false, List, ◌∷◌, length, inl, inr, refl, sym, arith, get_or, get_or-set_same, replicate}
-use Rattle.std.specs.Prelude.{pos, nat_lt, nat_le, if◌then◌else◌}
-use Rattle.std.specs.List.{slice_set}
+-- The columns have each word of their layout, a word that is stored in a column is the word written at its address, and
+-- the first columns have the first words.
+use Rattle.std.proofs.Common.{◌≡◌, ℕ, zero, suc, ◌+◌, ◌*◌, ◌<◌, ◌≤◌, Bool, true, false, List, ◌∷◌, length, inl, inr, refl, sym, arith, get_or, get_or-set_same, replicate}
+use Rattle.std.specs.Prelude.{pos, nat_lt, nat_le, ◌==◌, ◌&&◌, if◌then◌else◌}
+use Rattle.std.specs.List.{slice_set, slice_index_or}
 use Rattle.std.proofs.Math.Path.{fun_ext}
 use Rattle.std.proofs.lemmas.Bool.Decides.{eqb_tells, leb_tells}
 use Rattle.std.proofs.lemmas.List.{get_or-replicate, get_or-set_other, get_or_past, length-replicate}
 use Rattle.brc_word.specs.declared.shared.Phase.TheVariants.{Default}
 use Rattle.brc_word.specs.Header.{IsSharedWord}
 use Rattle.brc_word.specs.Words.{half, immortal_local, fresh_word, local_word}
-use Rattle.brc_model.specs.declared.address.Address.TheVariants.{Local, Shared, Gate, KindOf, Mark, Cell, Slot, Resource, ThreadWord}
-use Rattle.brc_model.specs.Limits.{cell_limit}
+use Rattle.brc_model.specs.declared.address.Address.{Address}
+use Rattle.brc_model.specs.declared.address.Address.TheVariants.{Local, Shared, Gate, KindOf, Marks, Cell, Slot, Resource, ThreadWord}
+use Rattle.brc_model.specs.declared.layout.Layout.{Layout}
+use Rattle.brc_model.specs.Layout.{mark_words_of}
+use Rattle.brc_model.specs.Limits.{cell_limit, row_limit, immortal_limit}
+use Rattle.brc_model.specs.Within.{IsThere}
 use Rattle.brc_model.specs.Machine.{written}
 use Rattle.brc_model.specs.StepMachine.{first_memory}
-use Rattle.brc_world.specs.Storage.{Columns, word_in, AreColumns, IsStored}
+use Rattle.brc_world.specs.Storage.{mark_room, Columns, word_in, AreColumns, HasWord, AreOf, IsStored}
 
--- ---- a cell
+-- ---- the words of a layout
+
+-- There is room for the mark words of each block.
+few_words : (layout : Layout) (t : ℕ) → layout.rows ≤ row_limit → layout.immortal_lists ≤ immortal_limit
+    → mark_words_of layout t ≤ mark_room
+few_words layout zero rows lists = omega (arith, lists)
+few_words layout (suc t) rows lists = omega (arith, rows)
+
+-- The columns of a world have each word that its layout has.
+pub has_word : (layout : Layout) (c : Columns) (a : Address) → AreOf layout c → IsThere layout a → HasWord c a
+has_word layout c (Local x) of there = omega (arith, of.rows, there)
+has_word layout c (Shared x) of there = omega (arith, of.rows, there)
+has_word layout c (Gate x) of there = omega (arith, of.rows, there)
+has_word layout c (KindOf x) of there = omega (arith, of.rows, there)
+has_word layout c (Marks t w) of there =
+    (omega (arith, of.threads, there.0), omega (arith, few_words layout t of.few_rows of.few_lists, there.1))
+has_word layout c (Cell x i) of there = (omega (arith, of.rows, there.0), there.1)
+has_word layout c (Slot x) of there = omega (arith, of.rows, there)
+has_word layout c (Resource x) of there = omega (arith, of.rows, there)
+has_word layout c (ThreadWord t) of there = omega (arith, of.threads, there)
+
+-- ---- a cell or a mark word
+
+-- A column has groups of words, `size` each: word i of group x is stored there and nowhere else.
+group_word : (size : ℕ) (words : List ℕ) (x i y j word : ℕ) → size * x + i < length words → i < size
+    → (j < size → size * x + i ≡ size * y + j → (x ≡ y) × (i ≡ j))
+    → (if nat_lt j size then slice_index_or (slice_set words (size * x + i) word) (size * y + j) 0 else 0)
+    ≡ (if (x == y) && (i == j) then word else if nat_lt j size then slice_index_or words (size * y + j) 0 else 0)
+group_word size words x i y j word there low one =
+    elim (leb_tells (suc j) size) [
+      | inl inside ↦ elim (eqb_tells x y) [
+        | inl same ↦ elim (eqb_tells i j) [
+          | inl here ↦
+              rw (inside.0, same.0, here.0, sym same.1, sym here.1)
+              (get_or-set_same words (size * x + i) word 0 there)
+          | inr other ↦
+              rw (inside.0, same.0, other.0)
+              (get_or-set_other words (size * x + i) (size * y + j) word 0 (λ e. other.1 (one inside.1 (sym e)).1))
+        ]
+        | inr apart ↦
+            rw (inside.0, apart.0)
+            (get_or-set_other words (size * x + i) (size * y + j) word 0 (λ e. apart.1 (one inside.1 (sym e)).0))
+      ]
+      | inr outside ↦ elim (eqb_tells i j) [
+        | inl here ↦ absurd (omega (arith, here.1, low, outside.1))
+        | inr other ↦ elim (eqb_tells x y) [
+          | inl same ↦ rw (outside.0, other.0, same.0) refl
+          | inr apart ↦ rw (outside.0, apart.0) refl
+        ]
+      ]
+    ]
 
 abbrev pub with_cells : Columns → List ℕ → Columns
 with_cells c cells =
@@ -31,34 +86,20 @@ with_cells c cells =
       thread = c.thread;
     }
 
-cell_word : (c : Columns) (x i y j word : ℕ) → length c.cell ≡ cell_limit * length c.local → x < length c.local
-    → i < cell_limit
-    → word_in (with_cells c (slice_set c.cell (cell_limit * x + i) word)) (Cell y j)
-    ≡ written (word_in c) (Cell x i) word (Cell y j)
-cell_word c x i y j word lengths there low =
-    elim (leb_tells (suc j) cell_limit) [
-      | inl inside ↦ elim (eqb_tells x y) [
-        | inl same ↦ elim (eqb_tells i j) [
-          | inl here ↦
-              rw (inside.0, same.0, here.0, sym same.1, sym here.1)
-              (get_or-set_same c.cell (cell_limit * x + i) word 0 (omega (arith, lengths, there, low)))
-          | inr other ↦
-              rw (inside.0, same.0, other.0)
-              (get_or-set_other c.cell (cell_limit * x + i) (cell_limit * y + j) word 0
-              (λ e. other.1 (omega (arith, e, same.1))))
-        ]
-        | inr apart ↦
-            rw (inside.0, apart.0) (get_or-set_other c.cell (cell_limit * x + i) (cell_limit * y + j) word 0
-            (λ e. apart.1 (omega (arith, e, inside.1, low))))
-      ]
-      | inr outside ↦ elim (eqb_tells i j) [
-        | inl here ↦ absurd (omega (arith, here.1, low, outside.1))
-        | inr other ↦ elim (eqb_tells x y) [
-          | inl same ↦ rw (outside.0, other.0, same.0) refl
-          | inr apart ↦ rw (outside.0, apart.0) refl
-        ]
-      ]
-    ]
+abbrev pub with_marks : Columns → List ℕ → Columns
+with_marks c marks =
+    record {
+      local = c.local;
+      shared = c.shared;
+      gate = c.gate;
+      kind = c.kind;
+      mark = marks;
+      cell = c.cell;
+      slot =
+          c.slot;
+      resource = c.resource;
+      thread = c.thread;
+    }
 
 -- A word stored in the column of cells is written at its cell's address, and nowhere else.
 pub stored_cell : (c : Columns) (x i word : ℕ) → AreColumns c → x < length c.local → i < cell_limit
@@ -73,11 +114,34 @@ stored_cell c x i word columns there low = record {
         | Shared y ↦ refl
         | Gate y ↦ refl
         | KindOf y ↦ refl
-        | Mark y ↦ refl
-        | Cell y j ↦ cell_word c x i y j word columns.cell there low
+        | Marks t w ↦ refl
+        | Cell y j ↦ group_word cell_limit c.cell x i y j word (omega (arith, columns.cell, there, low)) low
+            (λ inside e. (omega (arith, e, low, inside), omega (arith, e, low, inside)))
         | Slot y ↦ refl
         | Resource y ↦ refl
         | ThreadWord t ↦ refl
+      ]);
+}
+
+-- A word stored in the column of mark words is written at its address, and nowhere else.
+pub stored_marks : (c : Columns) (t w word : ℕ) → AreColumns c → t < length c.thread → w < mark_room
+    → IsStored c (Marks t w) word (with_marks c (slice_set c.mark (mark_room * t + w) word))
+stored_marks c t w word columns there low = record {
+  rows = refl;
+  threads = refl;
+  words =
+      fun_ext (λ a. elim a as (λ b. word_in (with_marks c (slice_set c.mark (mark_room * t + w) word)) b
+      ≡ written (word_in c) (Marks t w) word b) [
+        | Local y ↦ refl
+        | Shared y ↦ refl
+        | Gate y ↦ refl
+        | KindOf y ↦ refl
+        | Marks u v ↦ group_word mark_room c.mark t w u v word (omega (arith, columns.mark, there, low)) low
+            (λ inside e. (omega (arith, e, low, inside), omega (arith, e, low, inside)))
+        | Cell y j ↦ refl
+        | Slot y ↦ refl
+        | Resource y ↦ refl
+        | ThreadWord u ↦ refl
       ]);
 }
 
@@ -105,16 +169,16 @@ first_columns workers n more = record {
   shared = replicate n fresh_word;
   gate = replicate n 1;
   kind = half ∷ (3 * half + cell_limit) ∷ replicate more 0;
-  mark = replicate n 0;
+  mark = replicate (mark_room * (1 + workers)) 0;
   cell = replicate (cell_limit * n) 0;
   slot = replicate n 0;
   resource = replicate n 0;
   thread = replicate (1 + workers) 1;
 }
 
-no_cell : (n i : ℕ) (b : Bool) → ◌≡◌ {A = ℕ} (if b then get_or (replicate n 0) i 0 else 0) 0
-no_cell n i true = all_alike n i 0
-no_cell n i false = refl
+no_word : (n i : ℕ) (b : Bool) → ◌≡◌ {A = ℕ} (if b then get_or (replicate n 0) i 0 else 0) 0
+no_word n i true = all_alike n i 0
+no_word n i false = refl
 
 -- The first columns have the model's first words.
 first_words : (workers n more : ℕ) → word_in (first_columns workers n more) ≡ first_memory workers
@@ -128,8 +192,8 @@ first_words workers n more =
       | KindOf zero ↦ refl
       | KindOf (suc zero) ↦ refl
       | KindOf (suc (suc x)) ↦ all_alike more x 0
-      | Mark x ↦ all_alike n x 0
-      | Cell x i ↦ no_cell (cell_limit * n) (cell_limit * x + i) (nat_lt i cell_limit)
+      | Marks t w ↦ no_word (mark_room * (1 + workers)) (mark_room * t + w) (nat_lt w mark_room)
+      | Cell x i ↦ no_word (cell_limit * n) (cell_limit * x + i) (nat_lt i cell_limit)
       | Slot x ↦ all_alike n x 0
       | Resource x ↦ all_alike n x 0
       | ThreadWord t ↦ running_word workers t
@@ -147,7 +211,7 @@ pub words_as : (workers n more : ℕ) (local kind shared gate mark cell slot res
     → local ≡ replicate n 0 → none ≡ local_word 0 immortal_local → root ≡ local_word 0 (1 + workers)
     → kind ≡ replicate n 0
     → none_kind ≡ half → root_kind ≡ 3 * half + cell_limit
-    → shared ≡ replicate n fresh_word → gate ≡ replicate n 1 → mark ≡ replicate n 0
+    → shared ≡ replicate n fresh_word → gate ≡ replicate n 1 → mark ≡ replicate (mark_room * (1 + workers)) 0
     → cell ≡ replicate (cell_limit * n) 0
     → slot ≡ replicate n 0 → resource ≡ replicate n 0 → thread ≡ replicate (1 + workers) 1
     → word_in (record {

@@ -6,7 +6,7 @@ use Rattle.std.proofs.lemmas.Option.{get_or_from_slice_get, slice_get_within}
 use Rattle.brc_model.specs.declared.actor.Status.TheVariants.{Gone}
 use Rattle.brc_model.specs.declared.address.Address.{Address}
 use Rattle.brc_model.specs.declared.duty.Duty.{Duty}
-use Rattle.brc_model.specs.declared.duty.Duty.TheVariants.{Settle, Scan, LockGate}
+use Rattle.brc_model.specs.declared.duty.Duty.TheVariants.{Settle, Scan, TakeFound, LockGate}
 use Rattle.brc_model.specs.declared.layout.Layout.{Layout}
 use Rattle.brc_model.specs.declared.state.Exit.{Exit}
 use Rattle.brc_model.specs.Actions.{StepActor, Action, Does, always, agenda_action, status_action}
@@ -22,8 +22,10 @@ ready_length : (head : ℕ) (agenda : List Duty) → length (ready head agenda) 
 ready_length zero [] = omega arith
 ready_length (suc head) [] = omega arith
 ready_length zero (Settle ∷ rest) = omega (arith, ready_length zero rest)
-ready_length zero (Scan x zero ∷ rest) = omega (arith, ready_length zero rest)
-ready_length (suc head) (Scan x zero ∷ rest) = omega (arith, ready_length (suc head) rest)
+ready_length zero (Scan w zero ∷ rest) = omega (arith, ready_length zero rest)
+ready_length (suc head) (Scan w zero ∷ rest) = omega (arith, ready_length (suc head) rest)
+ready_length zero (TakeFound w zero ∷ rest) = omega (arith, ready_length zero rest)
+ready_length (suc head) (TakeFound w zero ∷ rest) = omega (arith, ready_length (suc head) rest)
 ready_length zero (_ ∷ rest) = omega arith
 ready_length (suc head) (_ ∷ rest) = omega arith
 

@@ -4,9 +4,8 @@ use Rattle.brc_word.specs.declared.values.TheConstants.{UNSET}
 use Rattle.brc_model.specs.declared.actor.Status.{Status}
 use Rattle.brc_model.specs.declared.actor.Status.TheVariants.{Running, Leaving, Gone}
 use Rattle.brc_model.specs.declared.address.Address.{Address}
-use Rattle.brc_model.specs.declared.address.Address.TheVariants.{Mark}
 use Rattle.brc_model.specs.declared.duty.Duty.{Duty}
-use Rattle.brc_model.specs.declared.duty.Duty.TheVariants.{Settle, Scan, ClaimMark}
+use Rattle.brc_model.specs.declared.duty.Duty.TheVariants.{Settle, Scan, TakeFound, ClaimMark}
 use Rattle.brc_model.specs.declared.actor.Context.{Context}
 use Rattle.brc_model.specs.declared.actor.Place.{Place}
 use Rattle.brc_model.specs.declared.actor.Place.TheVariants.{Idle, InCall, Inside, Stopping, Exiting}
@@ -71,10 +70,11 @@ with_agenda a agenda =
       };
     }
 
--- a duty that needs no step: to settle an empty chain, or to scan no rows
+-- a duty that needs no step: to settle an empty chain, to scan no rows, or to take no marks
 abbrev pub is_idle : ℕ → Duty → Bool
 is_idle head Settle = head == 0
-is_idle head (Scan x n) = n == 0
+is_idle head (Scan w n) = n == 0
+is_idle head (TakeFound w marks) = marks == 0
 is_idle head _ = false
 
 -- ---- a step of one thread
@@ -86,7 +86,8 @@ found_by layout t memory a d = memory (address_of layout t a.actor.head d)
 -- the words after a duty
 abbrev pub words_after : Layout → ℕ → (Address → ℕ) → StepActor → Duty → Address → ℕ
 words_after layout t memory a d =
-    model.written memory (address_of layout t a.actor.head d) (new_word t a.actor.head d (found_by layout t memory a d))
+    model.written memory (address_of layout t a.actor.head d)
+    (new_word layout t a.actor.head d (found_by layout t memory a d))
 
 -- the thread after a duty that was no longer in its agenda
 abbrev pub actor_after : Layout → ℕ → (Address → ℕ) → StepActor → Duty → StepActor
@@ -133,24 +134,24 @@ answer_by memory agenda (Does d rest place) =
 
 -- the thread can do the duty, in a world of n rows: the duty's word is there, its value suits the duty, and the thread
 -- uses no more than n rows afterwards
-pub record CanDo (layout : Layout) (t n threads : ℕ) (memory : Address → ℕ) (a : StepActor) (d : Duty) : Type 0 where
-  pub there : IsThere n threads (address_of layout t a.actor.head d)
+pub record CanDo (layout : Layout) (t n : ℕ) (memory : Address → ℕ) (a : StepActor) (d : Duty) : Type 0 where
+  pub there : IsThere layout (address_of layout t a.actor.head d)
   pub suits : Suits t (model.is_running a.actor.status) n d (found_by layout t memory a d)
   pub uses : model.used_by a.actor.used d ≤ n
 
 -- the thread can do its action's duty, if the action has one
-abbrev pub CanAct : Layout → ℕ → ℕ → ℕ → (Address → ℕ) → StepActor → Action → Type 0
-CanAct layout t n threads memory a Skip = Unit {0}
-CanAct layout t n threads memory a Stuck = Unit {0}
-CanAct layout t n threads memory a (Silent moves place) = Unit {0}
-CanAct layout t n threads memory a (Calls row place) = Unit {0}
-CanAct layout t n threads memory a (Does d rest place) = CanDo layout t n threads memory a d
+abbrev pub CanAct : Layout → ℕ → ℕ → (Address → ℕ) → StepActor → Action → Type 0
+CanAct layout t n memory a Skip = Unit {0}
+CanAct layout t n memory a Stuck = Unit {0}
+CanAct layout t n memory a (Silent moves place) = Unit {0}
+CanAct layout t n memory a (Calls row place) = Unit {0}
+CanAct layout t n memory a (Does d rest place) = CanDo layout t n memory a d
 
 -- ---- a claim
 
 -- the thread may claim the row, and finds its mark set
 abbrev pub finds_mark : Layout → ℕ → (Address → ℕ) → StepActor → ℕ → Bool
-finds_mark layout t memory a row = may_claim layout t a row && not (memory (Mark row) == UNSET)
+finds_mark layout t memory a row = may_claim layout t a row && not (model.mark_of layout memory row == UNSET)
 
 -- the words after the thread claims the row
 abbrev pub memory_claimed : Layout → ℕ → (Address → ℕ) → StepActor → ℕ → Address → ℕ
@@ -169,9 +170,8 @@ did_claim layout t memory a row Running = if finds_mark layout t memory a row th
 did_claim layout t memory a row Leaving = if finds_mark layout t memory a row then answers.Moved else answers.Same
 
 -- the thread can claim the row, if it may
-abbrev pub CanClaim : Layout → ℕ → ℕ → ℕ → (Address → ℕ) → StepActor → ℕ → Type 0
-CanClaim layout t n threads memory a row =
-    may_claim layout t a row ≡ true → CanDo layout t n threads memory a (ClaimMark row)
+abbrev pub CanClaim : Layout → ℕ → ℕ → (Address → ℕ) → StepActor → ℕ → Type 0
+CanClaim layout t n memory a row = may_claim layout t a row ≡ true → CanDo layout t n memory a (ClaimMark row)
 
 -- ---- a stop
 

@@ -77,7 +77,7 @@ begins_at a Stop = Some parts.Stop
 abbrev pub duty_event : Layout → ℕ → (Address → ℕ) → StepActor → Duty → Event
 duty_event layout t memory a d =
     events.Does d (address_of layout t a.actor.head d) (found_by layout t memory a d)
-    (new_word t a.actor.head d (found_by layout t memory a d))
+    (new_word layout t a.actor.head d (found_by layout t memory a d))
 
 -- Returns the kind of the object that the duty makes: with its last duty a birth is done.
 abbrev pub kind_born : (Address → ℕ) → Duty → Option Kind
@@ -87,8 +87,9 @@ kind_born memory _ = None
 -- ---- the sight
 
 -- the sight of the thread's step with the event
-abbrev pub sight_of : StepActor → Choice → Event → Option Kind → Sight
-sight_of a choice event born = record {
+abbrev pub sight_of : Layout → StepActor → Choice → Event → Option Kind → Sight
+sight_of layout a choice event born = record {
+  layout = layout;
   begins = begins_at a choice;
   event = event;
   function = a.function;
@@ -103,10 +104,11 @@ sight_of a choice event born = record {
 abbrev pub sight_by : Layout → ℕ → (Address → ℕ) → StepActor → Choice → Action → Option Sight
 sight_by layout t memory a choice Skip = None
 sight_by layout t memory a choice Stuck = None
-sight_by layout t memory a choice (Silent moves place) = Some (sight_of a choice events.Silent None)
-sight_by layout t memory a choice (Calls row place) = Some (sight_of a choice (events.Calls (exit_of choice)) None)
+sight_by layout t memory a choice (Silent moves place) = Some (sight_of layout a choice events.Silent None)
+sight_by layout t memory a choice (Calls row place) =
+    Some (sight_of layout a choice (events.Calls (exit_of choice)) None)
 sight_by layout t memory a choice (Does d rest place) =
-    Some (sight_of a choice (duty_event layout t memory a d) (kind_born memory d))
+    Some (sight_of layout a choice (duty_event layout t memory a d) (kind_born memory d))
 
 -- Returns the sight of thread t's step by the choice, if there is such a thread and it takes a step.
 abbrev pub sight_at : World → ℕ → Choice → Option Sight

@@ -1,13 +1,19 @@
 -- The words of a world in columns, and the word at each address.
-use Rattle.std.specs.Prelude.{◌≡◌, ℕ, ◌+◌, ◌*◌, nat_lt, if◌then◌else◌, List, length}
+use Rattle.std.specs.Prelude.{◌≡◌, ℕ, ◌+◌, ◌*◌, ◌<◌, ◌≤◌, nat_lt, if◌then◌else◌, List, length}
 use Rattle.std.specs.List.{slice_index_or}
 use Rattle.brc_word.specs.Words.{fresh_word}
-use Rattle.brc_model.specs.Limits.{cell_limit}
+use Rattle.brc_model.specs.Limits.{cell_limit, row_limit, immortal_limit}
 use Rattle.brc_model.specs.Machine.{written}
 use Rattle.brc_model.specs.declared.address.Address.{Address}
-use Rattle.brc_model.specs.declared.address.Address.TheVariants.{Local, Shared, Gate, KindOf, Mark, Cell, Slot, Resource, ThreadWord}
+use Rattle.brc_model.specs.declared.address.Address.TheVariants.{Local, Shared, Gate, KindOf, Marks, Cell, Slot, Resource, ThreadWord}
+use Rattle.brc_model.specs.declared.layout.Layout.{Layout}
+use Rattle.brc_model.specs.Layout.{row_count}
 
--- one list for each sort of word; the cells of a row are side by side
+-- the number of mark words of each thread: no block has more rows than they have marks
+abbrev pub mark_room : ℕ
+mark_room = 17
+
+-- one list for each sort of word; the cells of a row are side by side, and so are the mark words of a thread
 pub record Columns : Type 0 where
   pub local : List ℕ
   pub shared : List ℕ
@@ -25,21 +31,40 @@ word_in c (Local x) = slice_index_or c.local x 0
 word_in c (Shared x) = slice_index_or c.shared x fresh_word
 word_in c (Gate x) = slice_index_or c.gate x 1
 word_in c (KindOf x) = slice_index_or c.kind x 0
-word_in c (Mark x) = slice_index_or c.mark x 0
+word_in c (Marks t w) = if nat_lt w mark_room then slice_index_or c.mark (mark_room * t + w) 0 else 0
 word_in c (Cell x i) = if nat_lt i cell_limit then slice_index_or c.cell (cell_limit * x + i) 0 else 0
 word_in c (Slot x) = slice_index_or c.slot x 0
 word_in c (Resource x) = slice_index_or c.resource x 0
 word_in c (ThreadWord t) = slice_index_or c.thread t 0
 
--- each row has its words of each sort
+-- each row has its words of each sort, and each thread its mark words
 pub record AreColumns (c : Columns) : Type 0 where
   pub shared : length c.shared ≡ length c.local
   pub gate : length c.gate ≡ length c.local
   pub kind : length c.kind ≡ length c.local
-  pub mark : length c.mark ≡ length c.local
+  pub mark : length c.mark ≡ mark_room * length c.thread
   pub cell : length c.cell ≡ cell_limit * length c.local
   pub slot : length c.slot ≡ length c.local
   pub resource : length c.resource ≡ length c.local
+
+-- the columns have a word at the address
+abbrev pub HasWord : Columns → Address → Type 0
+HasWord c (Local x) = x < length c.local
+HasWord c (Shared x) = x < length c.local
+HasWord c (Gate x) = x < length c.local
+HasWord c (KindOf x) = x < length c.local
+HasWord c (Marks t w) = (t < length c.thread) × (w < mark_room)
+HasWord c (Cell x i) = (x < length c.local) × (i < cell_limit)
+HasWord c (Slot x) = x < length c.local
+HasWord c (Resource x) = x < length c.local
+HasWord c (ThreadWord t) = t < length c.thread
+
+-- the columns are those of a world with the layout, which is within the limits
+pub record AreOf (layout : Layout) (c : Columns) : Type 0 where
+  pub rows : length c.local ≡ row_count layout
+  pub threads : length c.thread ≡ 1 + layout.workers
+  pub few_rows : layout.rows ≤ row_limit
+  pub few_lists : layout.immortal_lists ≤ immortal_limit
 
 -- the columns after one word is written; the numbers of rows and threads stay
 pub record IsStored (old : Columns) (address : Address) (word : ℕ) (new : Columns) : Type 0 where

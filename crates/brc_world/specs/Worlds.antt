@@ -1,5 +1,5 @@
 -- The contents of a world in the code, and the model's view of them: a word at each address.
-use Rattle.std.specs.Prelude.{◌≡◌, List, length}
+use Rattle.std.specs.Prelude.{◌≡◌, ◌≤◌, List, length}
 use Rattle.brc_lang.specs.declared.module.Module.{Module}
 use Rattle.brc_model.specs.declared.layout.Layout.{Layout}
 use Rattle.brc_model.specs.declared.state.Exit.{Exit}
@@ -13,6 +13,7 @@ use Rattle.brc_check.specs.Tables.{states_of}
 use Rattle.brc_world.specs.declared.faults.Faults.{Faults}
 use Rattle.brc_world.specs.Storage.{Columns, word_in}
 use Rattle.brc_model.specs.Layout.{row_count}
+use Rattle.brc_model.specs.Limits.{immortal_limit}
 
 pub record Contents : Type 0 where
   pub accepted : Accepted
@@ -39,6 +40,7 @@ pub record IsWorld (p : Module) (c : Contents) : Type 0 where
   pub reachable : IsReachable p (model_of c)
   pub rows : length c.words.local ≡ row_count c.layout
   pub threads : length c.words.thread ≡ length c.actors
+  pub few_lists : c.layout.immortal_lists ≤ immortal_limit
 
 -- the choice by which the thread's next step ends by the exit
 abbrev pub choice_of : Exit → Choice

@@ -37,7 +37,8 @@ pub fn push(agenda: &mut Vec<Duty>, next: Next)
     }
 }
 
-/// Removes the next duties for as long as they need no step: `Settle` with an empty chain, and `Scan` of no rows.
+/// Removes the next duties for as long as they need no step: `Settle` with an empty chain, `Scan` of no rows, and
+/// `TakeFound` of no marks.
 #[inline(always)]
 pub fn pass_over(agenda: &mut Vec<Duty>, head: u32)
     ensures duties { reverse agenda.new.items ≡ ready head (reverse agenda.old.items) }
@@ -57,6 +58,7 @@ fn is_idle(duty: Duty, head: u32) -> bool
     match duty {
         Duty::Settle => head == 0,
         Duty::Scan { rows, .. } => rows == 0,
+        Duty::TakeFound { marks, .. } => marks == 0,
         _ => false,
     }
 }

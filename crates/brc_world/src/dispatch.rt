@@ -124,7 +124,7 @@ fn exit(thread: &mut Thread, start: &mut Start)
 {
     thread.mode = Mode::Exiting;
     thread.agenda.push_reserved(Duty::Leave {
-        index: 0,
+        word: 0,
         rows: thread.used,
     });
     thread.agenda.push_reserved(Duty::Settle);

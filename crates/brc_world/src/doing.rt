@@ -10,7 +10,7 @@ ghost use Rattle.brc_model.specs.Actions.{may_claim, status_action};
 ghost use Rattle.brc_model.specs.Limits.{worker_limit, total_limit};
 ghost use Rattle.brc_model.specs.StepMachine.{at_place};
 ghost use Rattle.brc_model.specs.Within.{IsThere, Suits};
-ghost use Rattle.brc_world.specs.Storage.{word_in, IsStored};
+ghost use Rattle.brc_world.specs.Storage.{word_in, AreOf, IsStored};
 ghost use Rattle.brc_world.specs.Actors.{actor_of, context_in, found_by, actor_after, memory_by, actor_by, faults_by, waits, answer_by, CanAct, finds_mark, memory_claimed, actor_claimed, did_claim, CanClaim, action_stopped, is_silent, silently, did_stop};
 ghost use Rattle.brc_check.specs.Tables.{states_of};
 ghost use Rattle.brc_world.specs.Starts.{let_in};
@@ -25,11 +25,11 @@ use crate::no_memory::NoMemory;
 use crate::question::answer;
 use crate::thread::{Mode, ROOM, Thread, owned_rows};
 use brc_check::Checked;
-use brc_effect::rows::{block_of, index_of};
-use brc_effect::{Doer, access_of, address_of};
+use brc_effect::{Blocks, Doer, access_of, address_of};
 use brc_lang::Function;
-use brc_model::{Address, Duty, Exit, Layout, Status};
-use brc_word::values::FREE;
+use brc_model::{Duty, Exit, Status};
+use brc_word::mark_at;
+use brc_word::values::{FREE, UNSET};
 
 /// Does the thread's duty, which is no longer in its agenda, on the duty's word. Returns the value that it found there.
 // Inside the step its values would have no registers, and the step would take longer. Each arm makes the same call,
@@ -38,26 +38,25 @@ use brc_word::values::FREE;
 #[inline(never)]
 pub fn do_duty(
     memory: &mut Memory,
-    layout: Layout,
+    blocks: Blocks,
     number: u8,
     thread: &mut Thread,
     duty: &Duty,
 ) -> u64
-    requires some_rows { 0 < layout.rows }
+    requires columns { AreOf blocks memory.old }
     requires small { length memory.old.local ≤ total_limit }
     requires known { number ≤ worker_limit }
-    requires there { IsThere (length memory.old.local) (length memory.old.thread)
-        (address_of layout number thread.old.head duty.now) }
+    requires there { IsThere blocks (address_of blocks number thread.old.head duty.now) }
     requires suits { Suits number (is_running thread.old.status) (length memory.old.local) duty.now
-        (found_by layout number (word_in memory.old) (actor_of thread.old) duty.now) }
+        (found_by blocks number (word_in memory.old) (actor_of thread.old) duty.now) }
     requires uses { used_by thread.old.used duty.now ≤ length memory.old.local }
     requires room { vec_len thread.old.agenda + 4 ≤ vec_capacity thread.old.agenda }
-    ensures word { IsStored memory.old (address_of layout number thread.old.head duty.now)
-        (new_word number thread.old.head duty.now
-        (found_by layout number (word_in memory.old) (actor_of thread.old) duty.now)) memory.new }
-    ensures actor { actor_of thread.new ≡ actor_after layout number (word_in memory.old) (actor_of thread.old)
+    ensures word { IsStored memory.old (address_of blocks number thread.old.head duty.now)
+        (new_word blocks number thread.old.head duty.now
+        (found_by blocks number (word_in memory.old) (actor_of thread.old) duty.now)) memory.new }
+    ensures actor { actor_of thread.new ≡ actor_after blocks number (word_in memory.old) (actor_of thread.old)
         duty.now }
-    ensures found { result ≡ found_by layout number (word_in memory.old) (actor_of thread.old) duty.now }
+    ensures found { result ≡ found_by blocks number (word_in memory.old) (actor_of thread.old) duty.now }
     ensures calls { thread.new.left ≡ thread.old.left }
     ensures point { thread.new.at ≡ thread.old.at }
     ensures variables { thread.new.variables ≡ thread.old.variables }
@@ -65,41 +64,43 @@ pub fn do_duty(
     ensures mode { thread.new.mode ≡ thread.old.mode }
 {
     match duty {
-        Duty::RetainLoad { .. } => do_known_duty(memory, layout, number, thread, duty),
-        Duty::RetainStore { .. } => do_known_duty(memory, layout, number, thread, duty),
-        Duty::RetainAdd { .. } => do_known_duty(memory, layout, number, thread, duty),
-        Duty::ReleaseLoad { .. } => do_known_duty(memory, layout, number, thread, duty),
-        Duty::ReleaseStore { .. } => do_known_duty(memory, layout, number, thread, duty),
-        Duty::DecideAtZero { .. } => do_known_duty(memory, layout, number, thread, duty),
-        Duty::SharedLoad { .. } => do_known_duty(memory, layout, number, thread, duty),
-        Duty::SharedExchange { .. } => do_known_duty(memory, layout, number, thread, duty),
-        Duty::SetMark { .. } => do_known_duty(memory, layout, number, thread, duty),
-        Duty::Look { .. } => do_known_duty(memory, layout, number, thread, duty),
-        Duty::TakeMark { .. } => do_known_duty(memory, layout, number, thread, duty),
-        Duty::MergeSwap { .. } => do_known_duty(memory, layout, number, thread, duty),
-        Duty::MergeLoad { .. } => do_known_duty(memory, layout, number, thread, duty),
-        Duty::MergeExchange { .. } => do_known_duty(memory, layout, number, thread, duty),
-        Duty::Die { .. } => do_known_duty(memory, layout, number, thread, duty),
-        Duty::Settle => do_known_duty(memory, layout, number, thread, duty),
-        Duty::SettleKind { .. } => do_known_duty(memory, layout, number, thread, duty),
-        Duty::SettleCell { .. } => do_known_duty(memory, layout, number, thread, duty),
-        Duty::TakeSlot { .. } => do_known_duty(memory, layout, number, thread, duty),
-        Duty::CloseResource { .. } => do_known_duty(memory, layout, number, thread, duty),
-        Duty::SettleEnd { .. } => do_known_duty(memory, layout, number, thread, duty),
-        Duty::Leave { .. } => do_known_duty(memory, layout, number, thread, duty),
-        Duty::Scan { .. } => do_known_duty(memory, layout, number, thread, duty),
-        Duty::Finish => do_known_duty(memory, layout, number, thread, duty),
-        Duty::ClaimMark { .. } => do_known_duty(memory, layout, number, thread, duty),
-        Duty::BirthKind { .. } => do_known_duty(memory, layout, number, thread, duty),
-        Duty::BirthSlot { .. } => do_known_duty(memory, layout, number, thread, duty),
-        Duty::BirthLocal { .. } => do_known_duty(memory, layout, number, thread, duty),
-        Duty::KindLoad { .. } => do_known_duty(memory, layout, number, thread, duty),
-        Duty::LockGate { .. } => do_known_duty(memory, layout, number, thread, duty),
-        Duty::UnlockGate { .. } => do_known_duty(memory, layout, number, thread, duty),
-        Duty::CellLoad { .. } => do_known_duty(memory, layout, number, thread, duty),
-        Duty::CellSwap { .. } => do_known_duty(memory, layout, number, thread, duty),
-        Duty::LendSlot { .. } => do_known_duty(memory, layout, number, thread, duty),
-        Duty::ReturnSlot { .. } => do_known_duty(memory, layout, number, thread, duty),
+        Duty::RetainLoad { .. } => do_known_duty(memory, blocks, number, thread, duty),
+        Duty::RetainStore { .. } => do_known_duty(memory, blocks, number, thread, duty),
+        Duty::RetainAdd { .. } => do_known_duty(memory, blocks, number, thread, duty),
+        Duty::ReleaseLoad { .. } => do_known_duty(memory, blocks, number, thread, duty),
+        Duty::ReleaseStore { .. } => do_known_duty(memory, blocks, number, thread, duty),
+        Duty::DecideAtZero { .. } => do_known_duty(memory, blocks, number, thread, duty),
+        Duty::SharedLoad { .. } => do_known_duty(memory, blocks, number, thread, duty),
+        Duty::SharedExchange { .. } => do_known_duty(memory, blocks, number, thread, duty),
+        Duty::SetMark { .. } => do_known_duty(memory, blocks, number, thread, duty),
+        Duty::Look { .. } => do_known_duty(memory, blocks, number, thread, duty),
+        Duty::TakeMark { .. } => do_known_duty(memory, blocks, number, thread, duty),
+        Duty::MergeSwap { .. } => do_known_duty(memory, blocks, number, thread, duty),
+        Duty::MergeLoad { .. } => do_known_duty(memory, blocks, number, thread, duty),
+        Duty::MergeExchange { .. } => do_known_duty(memory, blocks, number, thread, duty),
+        Duty::Die { .. } => do_known_duty(memory, blocks, number, thread, duty),
+        Duty::Settle => do_known_duty(memory, blocks, number, thread, duty),
+        Duty::SettleKind { .. } => do_known_duty(memory, blocks, number, thread, duty),
+        Duty::SettleCell { .. } => do_known_duty(memory, blocks, number, thread, duty),
+        Duty::TakeSlot { .. } => do_known_duty(memory, blocks, number, thread, duty),
+        Duty::CloseResource { .. } => do_known_duty(memory, blocks, number, thread, duty),
+        Duty::SettleEnd { .. } => do_known_duty(memory, blocks, number, thread, duty),
+        Duty::Leave { .. } => do_known_duty(memory, blocks, number, thread, duty),
+        Duty::Scan { .. } => do_known_duty(memory, blocks, number, thread, duty),
+        Duty::TakeFound { .. } => do_known_duty(memory, blocks, number, thread, duty),
+        Duty::Finish => do_known_duty(memory, blocks, number, thread, duty),
+        Duty::ClaimMark { .. } => do_known_duty(memory, blocks, number, thread, duty),
+        Duty::MarksLoad { .. } => do_known_duty(memory, blocks, number, thread, duty),
+        Duty::BirthKind { .. } => do_known_duty(memory, blocks, number, thread, duty),
+        Duty::BirthSlot { .. } => do_known_duty(memory, blocks, number, thread, duty),
+        Duty::BirthLocal { .. } => do_known_duty(memory, blocks, number, thread, duty),
+        Duty::KindLoad { .. } => do_known_duty(memory, blocks, number, thread, duty),
+        Duty::LockGate { .. } => do_known_duty(memory, blocks, number, thread, duty),
+        Duty::UnlockGate { .. } => do_known_duty(memory, blocks, number, thread, duty),
+        Duty::CellLoad { .. } => do_known_duty(memory, blocks, number, thread, duty),
+        Duty::CellSwap { .. } => do_known_duty(memory, blocks, number, thread, duty),
+        Duty::LendSlot { .. } => do_known_duty(memory, blocks, number, thread, duty),
+        Duty::ReturnSlot { .. } => do_known_duty(memory, blocks, number, thread, duty),
     }
 }
 
@@ -107,26 +108,25 @@ pub fn do_duty(
 #[inline(always)]
 fn do_known_duty(
     memory: &mut Memory,
-    layout: Layout,
+    blocks: Blocks,
     number: u8,
     thread: &mut Thread,
     duty: &Duty,
 ) -> u64
-    requires some_rows { 0 < layout.rows }
+    requires columns { AreOf blocks memory.old }
     requires small { length memory.old.local ≤ total_limit }
     requires known { number ≤ worker_limit }
-    requires there { IsThere (length memory.old.local) (length memory.old.thread)
-        (address_of layout number thread.old.head duty.now) }
+    requires there { IsThere blocks (address_of blocks number thread.old.head duty.now) }
     requires suits { Suits number (is_running thread.old.status) (length memory.old.local) duty.now
-        (found_by layout number (word_in memory.old) (actor_of thread.old) duty.now) }
+        (found_by blocks number (word_in memory.old) (actor_of thread.old) duty.now) }
     requires uses { used_by thread.old.used duty.now ≤ length memory.old.local }
     requires room { vec_len thread.old.agenda + 4 ≤ vec_capacity thread.old.agenda }
-    ensures word { IsStored memory.old (address_of layout number thread.old.head duty.now)
-        (new_word number thread.old.head duty.now
-        (found_by layout number (word_in memory.old) (actor_of thread.old) duty.now)) memory.new }
-    ensures actor { actor_of thread.new ≡ actor_after layout number (word_in memory.old) (actor_of thread.old)
+    ensures word { IsStored memory.old (address_of blocks number thread.old.head duty.now)
+        (new_word blocks number thread.old.head duty.now
+        (found_by blocks number (word_in memory.old) (actor_of thread.old) duty.now)) memory.new }
+    ensures actor { actor_of thread.new ≡ actor_after blocks number (word_in memory.old) (actor_of thread.old)
         duty.now }
-    ensures found { result ≡ found_by layout number (word_in memory.old) (actor_of thread.old) duty.now }
+    ensures found { result ≡ found_by blocks number (word_in memory.old) (actor_of thread.old) duty.now }
     ensures calls { thread.new.left ≡ thread.old.left }
     ensures point { thread.new.at ≡ thread.old.at }
     ensures variables { thread.new.variables ≡ thread.old.variables }
@@ -137,11 +137,11 @@ fn do_known_duty(
     let own = *duty;
     let duty = &own;
     let all = memory.rows() as u32;
-    let address = address_of(layout, number, thread.head, *duty);
+    let address = address_of(blocks, number, thread.head, *duty);
     let found = memory.load(address);
-    let access = access_of(*duty, number, thread.head);
+    let access = access_of(blocks, *duty, number, thread.head);
     memory.store(address, access.leaves(found));
-    let by = doer(layout, thread, number, all);
+    let by = doer(blocks, thread, number, all);
     let effect = by.effect(*duty, found);
     thread.change(effect.change);
     push(&mut thread.agenda, effect.next);
@@ -166,9 +166,9 @@ fn enter(thread: &mut Thread, left: u32, next: usize, found: u64) -> Did
 
 /// Returns the parts of the thread that a duty's effect depends on. `rows` is the number of rows of all threads
 /// together.
-pub fn doer(layout: Layout, thread: &Thread, number: u8, rows: u32) -> Doer
+pub fn doer(blocks: Blocks, thread: &Thread, number: u8, rows: u32) -> Doer
     ensures { result ≡ record {
-      layout = layout;
+      blocks = blocks;
       number = number;
       status = thread.now.status;
       head = thread.now.head;
@@ -177,7 +177,7 @@ pub fn doer(layout: Layout, thread: &Thread, number: u8, rows: u32) -> Doer
     } }
 {
     Doer {
-        layout,
+        blocks,
         number,
         status: thread.status,
         head: thread.head,
@@ -198,28 +198,28 @@ fn is_running(status: Status) -> bool
 pub fn act(
     functions: &[Function],
     memory: &mut Memory,
-    layout: Layout,
+    blocks: Blocks,
     number: u8,
     thread: &mut Thread,
     faults: &mut Faults,
     exit: Exit,
 ) -> Result<Did, NoMemory>
-    requires some_rows { 0 < layout.rows }
+    requires columns { AreOf blocks memory.old }
     requires small { length memory.old.local ≤ total_limit }
     requires known { number ≤ worker_limit }
-    requires can { CanAct layout number (length memory.old.local) (length memory.old.thread) (word_in memory.old)
-        (actor_of thread.old) (status_action functions.now layout number (actor_of thread.old) thread.old.status) }
+    requires can { CanAct blocks number (length memory.old.local) (word_in memory.old)
+        (actor_of thread.old) (status_action functions.now blocks number (actor_of thread.old) thread.old.status) }
     ensures did { IfOk result (λ did. did ≡ answer_by (word_in memory.old) (reverse thread.old.agenda.items)
-        (status_action functions.now layout number (actor_of thread.old) thread.old.status)) }
-    ensures words { OnOk result (word_in memory.new ≡ memory_by layout number (word_in memory.old) (actor_of thread.old)
-        (status_action functions.now layout number (actor_of thread.old) thread.old.status)) }
-    ensures actor { OnOk result (actor_of thread.new ≡ actor_by layout number (word_in memory.old) (actor_of thread.old)
-        exit (status_action functions.now layout number (actor_of thread.old) thread.old.status)) }
+        (status_action functions.now blocks number (actor_of thread.old) thread.old.status)) }
+    ensures words { OnOk result (word_in memory.new ≡ memory_by blocks number (word_in memory.old) (actor_of thread.old)
+        (status_action functions.now blocks number (actor_of thread.old) thread.old.status)) }
+    ensures actor { OnOk result (actor_of thread.new ≡ actor_by blocks number (word_in memory.old) (actor_of thread.old)
+        exit (status_action functions.now blocks number (actor_of thread.old) thread.old.status)) }
     ensures faults { OnOk result (faults.new ≡ faults_by exit
-        (status_action functions.now layout number (actor_of thread.old) thread.old.status) faults.old) }
+        (status_action functions.now blocks number (actor_of thread.old) thread.old.status) faults.old) }
     ensures refused { IfErr result (λ _. (thread.old.status ≢ Gone)
         × (waits (word_in memory.old) (reverse thread.old.agenda.items)
-        (status_action functions.now layout number (actor_of thread.old) thread.old.status) ≡ false)) }
+        (status_action functions.now blocks number (actor_of thread.old) thread.old.status) ≡ false)) }
     ensures same_words { OnErr result (memory.new ≡ memory.old) }
     ensures same_actor { OnErr result (actor_of thread.new ≡ actor_of thread.old) }
     ensures same_faults { OnErr result (faults.new ≡ faults.old) }
@@ -233,11 +233,11 @@ pub fn act(
     // Most steps do a duty of the agenda. They make no `Start`, which would cost them a copy.
     match thread.agenda.pop() {
         Some(duty) => {
-            do_duty(memory, layout, number, thread, &duty);
+            do_duty(memory, blocks, number, thread, &duty);
             faults.count_duty(&duty, exit);
             Ok(Did::Moved)
         }
-        None => Ok(act_by_dispatch(functions, memory, layout, number, thread, faults, exit)),
+        None => Ok(act_by_dispatch(functions, memory, blocks, number, thread, faults, exit)),
     }
 }
 
@@ -247,33 +247,33 @@ pub fn act(
 fn act_by_dispatch(
     functions: &[Function],
     memory: &mut Memory,
-    layout: Layout,
+    blocks: Blocks,
     number: u8,
     thread: &mut Thread,
     faults: &mut Faults,
     exit: Exit,
 ) -> Did
-    requires some_rows { 0 < layout.rows }
+    requires columns { AreOf blocks memory.old }
     requires small { length memory.old.local ≤ total_limit }
     requires known { number ≤ worker_limit }
     requires alive { thread.old.status ≢ Gone }
     requires empty { thread.old.agenda.items ≡ [] }
     requires room { 8 ≤ vec_capacity thread.old.agenda }
-    requires can { CanAct layout number (length memory.old.local) (length memory.old.thread) (word_in memory.old)
-        (actor_of thread.old) (status_action functions.now layout number (actor_of thread.old) thread.old.status) }
+    requires can { CanAct blocks number (length memory.old.local) (word_in memory.old)
+        (actor_of thread.old) (status_action functions.now blocks number (actor_of thread.old) thread.old.status) }
     ensures did { result ≡ answer_by (word_in memory.old) (reverse thread.old.agenda.items)
-        (status_action functions.now layout number (actor_of thread.old) thread.old.status) }
-    ensures words { word_in memory.new ≡ memory_by layout number (word_in memory.old) (actor_of thread.old)
-        (status_action functions.now layout number (actor_of thread.old) thread.old.status) }
-    ensures actor { actor_of thread.new ≡ actor_by layout number (word_in memory.old) (actor_of thread.old) exit
-        (status_action functions.now layout number (actor_of thread.old) thread.old.status) }
+        (status_action functions.now blocks number (actor_of thread.old) thread.old.status) }
+    ensures words { word_in memory.new ≡ memory_by blocks number (word_in memory.old) (actor_of thread.old)
+        (status_action functions.now blocks number (actor_of thread.old) thread.old.status) }
+    ensures actor { actor_of thread.new ≡ actor_by blocks number (word_in memory.old) (actor_of thread.old) exit
+        (status_action functions.now blocks number (actor_of thread.old) thread.old.status) }
     ensures faults { faults.new ≡ faults_by exit
-        (status_action functions.now layout number (actor_of thread.old) thread.old.status) faults.old }
+        (status_action functions.now blocks number (actor_of thread.old) thread.old.status) faults.old }
     ensures as_many_rows { length memory.new.local ≡ length memory.old.local }
     ensures as_many_threads { length memory.new.thread ≡ length memory.old.thread }
 {
     let mut start = Start::Stuck;
-    dispatch(functions, layout, number, thread, &mut start);
+    dispatch(functions, blocks.layout(), number, thread, &mut start);
     match &start {
         Start::Stuck => Did::Same,
         Start::Moved => Did::Moved,
@@ -283,12 +283,12 @@ fn act_by_dispatch(
             Did::Moved
         }
         Start::Doing(duty) => {
-            do_duty(memory, layout, number, thread, duty);
+            do_duty(memory, blocks, number, thread, duty);
             faults.count_duty(duty, exit);
             Did::Moved
         }
         Start::Asking { duty, question } => {
-            let found = do_duty(memory, layout, number, thread, duty);
+            let found = do_duty(memory, blocks, number, thread, duty);
             faults.count_duty(duty, exit);
             answer(thread, question, found);
             Did::Moved
@@ -296,7 +296,7 @@ fn act_by_dispatch(
         Start::Locking { row, left, next } => {
             let found = do_duty(
                 memory,
-                layout,
+                blocks,
                 number,
                 thread,
                 &Duty::LockGate { row: *row },
@@ -311,23 +311,23 @@ fn act_by_dispatch(
 #[inline(never)]
 pub fn claim(
     memory: &mut Memory,
-    layout: Layout,
+    blocks: Blocks,
     number: u8,
     thread: &mut Thread,
     row: u32,
 ) -> Result<Did, NoMemory>
-    requires some_rows { 0 < layout.rows }
+    requires columns { AreOf blocks memory.old }
     requires small { length memory.old.local ≤ total_limit }
     requires known { number ≤ worker_limit }
-    requires can { CanClaim layout number (length memory.old.local) (length memory.old.thread) (word_in memory.old)
+    requires can { CanClaim blocks number (length memory.old.local) (word_in memory.old)
         (actor_of thread.old) row }
-    ensures did { IfOk result (λ did. did ≡ did_claim layout number (word_in memory.old) (actor_of thread.old) row
+    ensures did { IfOk result (λ did. did ≡ did_claim blocks number (word_in memory.old) (actor_of thread.old) row
         thread.old.status) }
     ensures words { OnOk result (word_in memory.new
-        ≡ memory_claimed layout number (word_in memory.old) (actor_of thread.old) row) }
+        ≡ memory_claimed blocks number (word_in memory.old) (actor_of thread.old) row) }
     ensures actor { OnOk result (actor_of thread.new
-        ≡ actor_claimed layout number (word_in memory.old) (actor_of thread.old) row) }
-    ensures refused { IfErr result (λ _. finds_mark layout number (word_in memory.old) (actor_of thread.old) row
+        ≡ actor_claimed blocks number (word_in memory.old) (actor_of thread.old) row) }
+    ensures refused { IfErr result (λ _. finds_mark blocks number (word_in memory.old) (actor_of thread.old) row
         ≡ true) }
     ensures same_words { OnErr result (memory.new ≡ memory.old) }
     ensures same_actor { OnErr result (actor_of thread.new ≡ actor_of thread.old) }
@@ -337,36 +337,40 @@ pub fn claim(
     if let Status::Gone = thread.status {
         return Ok(Did::Gone);
     }
-    if !finds_mark(memory, layout, number, thread, row) {
+    if !finds_mark(memory, blocks, number, thread, row) {
         return Ok(Did::Same);
     }
     thread.agenda.reserve(ROOM)?;
-    do_duty(memory, layout, number, thread, &Duty::ClaimMark { row });
+    do_duty(memory, blocks, number, thread, &Duty::ClaimMark { row });
     Ok(Did::Moved)
 }
 
-fn finds_mark(memory: &Memory, layout: Layout, number: u8, thread: &Thread, row: u32) -> bool
-    requires some_rows { 0 < layout.rows }
-    requires can { CanClaim layout number (length memory.now.local) (length memory.now.thread) (word_in memory.now)
+fn finds_mark(memory: &Memory, blocks: Blocks, number: u8, thread: &Thread, row: u32) -> bool
+    requires columns { AreOf blocks memory.now }
+    requires can { CanClaim blocks number (length memory.now.local) (word_in memory.now)
         (actor_of thread.now) row }
-    ensures { result ≡ finds_mark layout number (word_in memory.now) (actor_of thread.now) row }
+    ensures { result ≡ finds_mark blocks number (word_in memory.now) (actor_of thread.now) row }
 {
-    may_claim(layout, number, thread, row) && memory.load(Address::Mark { row }) != 0
+    if !may_claim(blocks, number, thread, row) {
+        return false;
+    }
+    let word = memory.load(blocks.mark_place(row));
+    mark_at(word, blocks.mark_bit(row)) != UNSET
 }
 
 /// Returns whether the thread may claim the row: it runs, is in no call, has nothing to do, and has used the row of its
 /// block. It may claim no other thread's row, because only the owner may merge an object while it runs
 /// (`claim_of_any_row`).
-pub fn may_claim(layout: Layout, number: u8, thread: &Thread, row: u32) -> bool
-    requires { 0 < layout.rows }
-    ensures { result ≡ may_claim layout number (actor_of thread.now) row }
+pub fn may_claim(blocks: Blocks, number: u8, thread: &Thread, row: u32) -> bool
+    ensures { result ≡ may_claim blocks number (actor_of thread.now) row }
 {
     match thread.mode {
         Mode::Idle => {
+            let (block, index) = blocks.locate(row);
             is_running(thread.status)
                 && thread.agenda.is_empty()
-                && block_of(layout, row) == u32::from(number)
-                && index_of(layout, number, row) < thread.used
+                && block == u32::from(number)
+                && index < thread.used
         }
         Mode::InCall | Mode::Inside(_) | Mode::Stopping { .. } | Mode::Exiting => false,
     }

@@ -2,7 +2,7 @@
 //! to, and its event.
 
 use brc_lang::Kind;
-use brc_model::{Address, Duty, Exit};
+use brc_model::{Address, Duty, Exit, Layout};
 
 /// What a step does.
 #[derive(Clone, Copy, Debug)]
@@ -50,6 +50,8 @@ pub enum Part {
 /// What a thread's next step does.
 #[derive(Clone, Copy, Debug)]
 pub struct Sight {
+    /// How many rows each thread has. It decides which rows have their marks in a mark word.
+    pub layout: Layout,
     /// The part of the thread's work that the step belongs to, where the thread's state says it. If it is `None`, the
     /// step goes on with the part that the last of the thread's sights named.
     pub begins: Option<Part>,

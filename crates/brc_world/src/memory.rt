@@ -1,10 +1,9 @@
 //! The words that threads share.
 
 ghost use Rattle.std.specs.Prelude.{◌≡◌, ◌+◌, ◌*◌, ◌≤◌, length, IfOk};
-ghost use Rattle.brc_model.specs.Within.{IsThere};
 ghost use Rattle.brc_model.specs.Limits.{worker_limit};
 ghost use Rattle.brc_model.specs.StepMachine.{first_memory};
-ghost use Rattle.brc_world.specs.Storage.{word_in, IsStored};
+ghost use Rattle.brc_world.specs.Storage.{word_in, HasWord, IsStored};
 ghost use Rattle.brc_model.specs.Layout.{row_count};
 
 use crate::no_memory::NoMemory;
@@ -16,7 +15,7 @@ use std::alloc::Global;
 use std::marker::Model;
 
 /// The words of a world, one column for each sort of word: each row has eight cells and one word of each other sort,
-/// and each thread has one word.
+/// and each thread has one word of its own and the mark words of its rows.
 #[derive(Debug, Drop)]
 pub struct Memory {
     local: Vec<u64>,
@@ -63,6 +62,9 @@ impl Model for Memory {
 /// The number of cells of each row.
 pub const CELLS: usize = 8;
 
+/// The number of mark words of each thread: no block has more rows than they have marks.
+const MARK_ROOM: usize = 17;
+
 impl Memory {
     /// Returns the number of rows.
     pub fn rows(&self) -> usize
@@ -74,7 +76,7 @@ impl Memory {
     /// Returns the word at the address.
     #[inline(always)]
     pub fn load(&self, address: Address) -> u64
-        requires { IsThere (length self.now.local) (length self.now.thread) address }
+        requires { HasWord self.now address }
         ensures { result ≡ word_in self.now address }
     {
         match address {
@@ -82,7 +84,8 @@ impl Memory {
             Address::Shared { row } => self.shared[row as usize],
             Address::Gate { row } => self.gate[row as usize],
             Address::KindOf { row } => self.kind[row as usize],
-            Address::Mark { row } => self.mark[row as usize],
+            Address::Marks { thread, word } => self.mark[MARK_ROOM * thread as usize
+                + word as usize],
             Address::Cell { row, cell } => self.cell[CELLS * row as usize + cell as usize],
             Address::Slot { row } => self.slot[row as usize],
             Address::Resource { row } => self.resource[row as usize],
@@ -93,7 +96,7 @@ impl Memory {
     /// Stores the word at the address.
     #[inline(always)]
     pub fn store(&mut self, address: Address, word: u64)
-        requires { IsThere (length self.old.local) (length self.old.thread) address }
+        requires { HasWord self.old address }
         ensures { IsStored self.old address word self.new }
     {
         match address {
@@ -101,7 +104,10 @@ impl Memory {
             Address::Shared { row } => self.shared[row as usize] = word,
             Address::Gate { row } => self.gate[row as usize] = word,
             Address::KindOf { row } => self.kind[row as usize] = word,
-            Address::Mark { row } => self.mark[row as usize] = word,
+            Address::Marks {
+                thread,
+                word: number,
+            } => self.mark[MARK_ROOM * thread as usize + number as usize] = word,
             Address::Cell { row, cell } => self.cell[CELLS * row as usize + cell as usize] = word,
             Address::Slot { row } => self.slot[row as usize] = word,
             Address::Resource { row } => self.resource[row as usize] = word,
@@ -135,7 +141,7 @@ pub fn first_memory(alloc: Global, layout: Layout) -> Result<Memory, NoMemory>
         shared: vec![in alloc; fresh; n]?,
         gate: vec![in alloc; FREE; n]?,
         kind,
-        mark: vec![in alloc; 0u64; n]?,
+        mark: vec![in alloc; 0u64; MARK_ROOM * (1 + workers)]?,
         cell: vec![in alloc; 0u64; CELLS * n]?,
         slot: vec![in alloc; 0u64; n]?,
         resource: vec![in alloc; 0u64; n]?,

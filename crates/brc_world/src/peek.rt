@@ -8,7 +8,7 @@ ghost use Rattle.brc_model.specs.Limits.{worker_limit, total_limit};
 ghost use Rattle.brc_model.specs.Within.{IsThere};
 ghost use Rattle.brc_world.specs.Actors.{actor_of, CanDo, CanAct};
 ghost use Rattle.brc_world.specs.Sights.{is_leave, is_scan, leaves_next, exit_part, next_part, begins_at, duty_event, kind_born, sight_of, sight_by};
-ghost use Rattle.brc_world.specs.Storage.{word_in};
+ghost use Rattle.brc_world.specs.Storage.{word_in, AreOf};
 ghost use Rattle.brc_check.specs.Tables.{states_of};
 
 use crate::dispatch::{Start, first_duty};
@@ -21,7 +21,7 @@ use crate::tally::kind_numbered;
 use crate::thread::{Mode, Thread};
 use crate::world::exit_of;
 use brc_check::Checked;
-use brc_effect::{access_of, address_of};
+use brc_effect::{Blocks, access_of, address_of};
 use brc_lang::{Function, Kind};
 use brc_model::{Address, Choice, Duty, Layout, Status};
 use brc_word::kind_number;
@@ -32,39 +32,39 @@ use brc_word::kind_number;
 pub fn peek(
     checked: &Checked,
     memory: &Memory,
-    layout: Layout,
+    blocks: Blocks,
     number: u8,
     thread: &Thread,
     choice: Choice,
     copy: &mut Thread,
 ) -> Result<Option<Sight>, NoMemory>
-    requires some_rows { 0 < layout.rows }
+    requires columns { AreOf blocks memory.now }
     requires small { length memory.now.local ≤ total_limit }
     requires known { number ≤ worker_limit }
-    requires can { CanAct layout number (length memory.now.local) (length memory.now.thread) (word_in memory.now)
+    requires can { CanAct blocks number (length memory.now.local) (word_in memory.now)
         (actor_of thread.now) (action_of checked.now.module.functions
-        (states_of checked.now.module checked.now.table) layout number (actor_of thread.now) choice) }
-    ensures { IfOk result (λ sight. sight ≡ sight_by layout number (word_in memory.now) (actor_of thread.now) choice
-        (action_of checked.now.module.functions (states_of checked.now.module checked.now.table) layout number
+        (states_of checked.now.module checked.now.table) blocks number (actor_of thread.now) choice) }
+    ensures { IfOk result (λ sight. sight ≡ sight_by blocks number (word_in memory.now) (actor_of thread.now) choice
+        (action_of checked.now.module.functions (states_of checked.now.module checked.now.table) blocks number
         (actor_of thread.now) choice)) }
 {
     match choice {
         Choice::Ok | Choice::Fault => {
             let functions = checked.module().functions.as_slice();
-            peek_ahead(functions, memory, layout, number, thread, choice, copy)
+            peek_ahead(functions, memory, blocks, number, thread, choice, copy)
         }
         Choice::Claim { row } => {
-            if !may_claim(layout, number, thread, row) {
+            if !may_claim(blocks, number, thread, row) {
                 return Ok(None);
             }
             let duty = Duty::ClaimMark { row };
-            Ok(Some(see_duty(memory, layout, number, thread, choice, &duty)))
+            Ok(Some(see_duty(memory, blocks, number, thread, choice, &duty)))
         }
         Choice::Stop => {
             if !stops(checked, thread) {
                 return Ok(None);
             }
-            Ok(Some(sight_of(thread, choice, Event::Silent, None)))
+            Ok(Some(sight_of(blocks.layout(), thread, choice, Event::Silent, None)))
         }
     }
 }
@@ -74,38 +74,39 @@ pub fn peek(
 fn peek_ahead(
     functions: &[Function],
     memory: &Memory,
-    layout: Layout,
+    blocks: Blocks,
     number: u8,
     thread: &Thread,
     choice: Choice,
     copy: &mut Thread,
 ) -> Result<Option<Sight>, NoMemory>
-    requires some_rows { 0 < layout.rows }
+    requires columns { AreOf blocks memory.now }
     requires small { length memory.now.local ≤ total_limit }
     requires known { number ≤ worker_limit }
-    requires can { CanAct layout number (length memory.now.local) (length memory.now.thread) (word_in memory.now)
-        (actor_of thread.now) (status_action functions.now layout number (actor_of thread.now) thread.now.status) }
-    ensures { IfOk result (λ sight. sight ≡ sight_by layout number (word_in memory.now) (actor_of thread.now) choice
-        (status_action functions.now layout number (actor_of thread.now) thread.now.status)) }
+    requires can { CanAct blocks number (length memory.now.local) (word_in memory.now)
+        (actor_of thread.now) (status_action functions.now blocks number (actor_of thread.now) thread.now.status) }
+    ensures { IfOk result (λ sight. sight ≡ sight_by blocks number (word_in memory.now) (actor_of thread.now) choice
+        (status_action functions.now blocks number (actor_of thread.now) thread.now.status)) }
 {
     if let Status::Gone = thread.status {
         return Ok(None);
     }
     copy_thread(thread, copy)?;
+    let layout = blocks.layout();
     match first_duty(functions, layout, number, copy) {
         Start::Stuck => Ok(None),
-        Start::Moved => Ok(Some(sight_of(thread, choice, Event::Silent, None))),
+        Start::Moved => Ok(Some(sight_of(layout, thread, choice, Event::Silent, None))),
         Start::Calling(_) => {
             let event = Event::Calls(exit_of(choice));
-            Ok(Some(sight_of(thread, choice, event, None)))
+            Ok(Some(sight_of(layout, thread, choice, event, None)))
         }
-        Start::Doing(duty) => Ok(Some(see_duty(memory, layout, number, thread, choice, &duty))),
+        Start::Doing(duty) => Ok(Some(see_duty(memory, blocks, number, thread, choice, &duty))),
         Start::Asking { duty, .. } => {
-            Ok(Some(see_duty(memory, layout, number, thread, choice, &duty)))
+            Ok(Some(see_duty(memory, blocks, number, thread, choice, &duty)))
         }
         Start::Locking { row, .. } => {
             let duty = Duty::LockGate { row };
-            Ok(Some(see_duty(memory, layout, number, thread, choice, &duty)))
+            Ok(Some(see_duty(memory, blocks, number, thread, choice, &duty)))
         }
     }
 }
@@ -113,42 +114,43 @@ fn peek_ahead(
 /// Returns the sight of the thread's step by the choice, which does the duty.
 fn see_duty(
     memory: &Memory,
-    layout: Layout,
+    blocks: Blocks,
     number: u8,
     thread: &Thread,
     choice: Choice,
     duty: &Duty,
 ) -> Sight
-    requires some_rows { 0 < layout.rows }
+    requires columns { AreOf blocks memory.now }
     requires small { length memory.now.local ≤ total_limit }
     requires known { number ≤ worker_limit }
-    requires can { CanDo layout number (length memory.now.local) (length memory.now.thread) (word_in memory.now)
+    requires can { CanDo blocks number (length memory.now.local) (word_in memory.now)
         (actor_of thread.now) duty.now }
-    ensures { result ≡ sight_of (actor_of thread.now) choice (duty_event layout number (word_in memory.now)
+    ensures { result ≡ sight_of blocks (actor_of thread.now) choice (duty_event blocks number (word_in memory.now)
         (actor_of thread.now) duty.now) (kind_born (word_in memory.now) duty.now) }
 {
-    let event = duty_event(memory, layout, number, thread, duty);
+    let event = duty_event(memory, blocks, number, thread, duty);
     sight_of(
+        blocks.layout(),
         thread,
         choice,
         event,
-        kind_born(memory, layout, number, thread, duty),
+        kind_born(memory, blocks, number, thread, duty),
     )
 }
 
 /// Returns the event of the thread's duty: what it finds in its word, and what it would leave there
 /// (`word_after_for_before`). A compare-exchange that fails is an event too: the thread found a word by which it
 /// retries (`lost_exchange_unseen`).
-fn duty_event(memory: &Memory, layout: Layout, number: u8, thread: &Thread, duty: &Duty) -> Event
-    requires some_rows { 0 < layout.rows }
+fn duty_event(memory: &Memory, blocks: Blocks, number: u8, thread: &Thread, duty: &Duty) -> Event
+    requires columns { AreOf blocks memory.now }
     requires small { length memory.now.local ≤ total_limit }
     requires known { number ≤ worker_limit }
-    requires can { CanDo layout number (length memory.now.local) (length memory.now.thread) (word_in memory.now)
+    requires can { CanDo blocks number (length memory.now.local) (word_in memory.now)
         (actor_of thread.now) duty.now }
-    ensures { result ≡ duty_event layout number (word_in memory.now) (actor_of thread.now) duty.now }
+    ensures { result ≡ duty_event blocks number (word_in memory.now) (actor_of thread.now) duty.now }
 {
-    let address = address_of(layout, number, thread.head, *duty);
-    let access = access_of(*duty, number, thread.head);
+    let address = address_of(blocks, number, thread.head, *duty);
+    let access = access_of(blocks, *duty, number, thread.head);
     let found = memory.load(address);
     Event::Does {
         duty: *duty,
@@ -161,13 +163,13 @@ fn duty_event(memory: &Memory, layout: Layout, number: u8, thread: &Thread, duty
 /// Returns the kind of the object that the duty makes, by its kind word, or `None` if the duty is no birth's last one.
 fn kind_born(
     memory: &Memory,
-    layout: Layout,
+    blocks: Blocks,
     number: u8,
     thread: &Thread,
     duty: &Duty,
 ) -> Option<Kind>
-    requires { IsThere (length memory.now.local) (length memory.now.thread)
-        (address_of layout number thread.now.head duty.now) }
+    requires columns { AreOf blocks memory.now }
+    requires there { IsThere blocks (address_of blocks number thread.now.head duty.now) }
     ensures { result ≡ kind_born (word_in memory.now) duty.now }
 {
     match *duty {
@@ -180,10 +182,17 @@ fn kind_born(
 }
 
 /// Returns the sight of the thread's step by the choice, which is the event.
-fn sight_of(thread: &Thread, choice: Choice, event: Event, born: Option<Kind>) -> Sight
-    ensures { result ≡ sight_of (actor_of thread.now) choice event born }
+fn sight_of(
+    layout: Layout,
+    thread: &Thread,
+    choice: Choice,
+    event: Event,
+    born: Option<Kind>,
+) -> Sight
+    ensures { result ≡ sight_of layout (actor_of thread.now) choice event born }
 {
     Sight {
+        layout,
         begins: begins_at(thread, choice),
         event,
         function: thread.function,

@@ -26,7 +26,8 @@ use crate::scratch::Scratch;
 use crate::tally::{kind_numbered, running_in};
 use crate::thread::Thread;
 use brc_check::Checked;
-use brc_effect::rows::{block_of, index_of, is_immortal_row};
+use brc_effect::Blocks;
+use brc_effect::rows::is_immortal_row;
 use brc_lang::Sequence;
 use brc_model::{
     Address, Call, Choice, Exit, Layout, Status, steps_are_within, steps_move, worlds_are_small,
@@ -41,7 +42,7 @@ use std::marker::Model;
 #[derive(Debug, Drop)]
 pub struct World<'a> {
     accepted: &'a Checked,
-    layout: Layout,
+    blocks: Blocks,
     memory: Memory,
     /// By thread number: main is 0, the workers are 1, 2, ..
     threads: Vec<Thread>,
@@ -57,7 +58,7 @@ impl<'a> Model for World<'a> {
 
     ghost view = { λ w. record {
       accepted = w.accepted.now;
-      layout = w.layout;
+      layout = w.blocks;
       words = w.memory;
       actors = map actor_of w.threads.items;
       faults = w.faults;
@@ -66,7 +67,7 @@ impl<'a> Model for World<'a> {
     ghost invariant = { λ w. IsWorld w.accepted.now.module
         (record {
           accepted = w.accepted.now;
-          layout = w.layout;
+          layout = w.blocks;
           words = w.memory;
           actors = map actor_of w.threads.items;
           faults = w.faults;
@@ -100,7 +101,7 @@ impl<'a> World<'a> {
         };
         Ok(World {
             accepted: checked,
-            layout,
+            blocks: Blocks::new(layout),
             memory: first_memory(alloc, layout)?,
             threads: first_threads(alloc, calls)?,
             faults: Faults {
@@ -191,9 +192,8 @@ impl<'a> World<'a> {
         ensures { result ≡ is_born (model_of self.now) row }
     {
         worlds_are_small();
-        let block = block_of(self.layout, row);
-        let index = index_of(self.layout, block as u8, row);
-        !is_immortal_row(self.layout, row) && index < self.used_in(block)
+        let (block, index) = self.blocks.locate(row);
+        !is_immortal_row(self.blocks.layout(), row) && index < self.used_in(block)
     }
 
     /// Returns how many rows of its block the thread has used, or 0 if there is no such thread.
@@ -234,7 +234,7 @@ impl<'a> World<'a> {
         peek(
             self.accepted,
             &self.memory,
-            self.layout,
+            self.blocks,
             thread as u8,
             &self.threads[thread],
             choice,
@@ -277,7 +277,7 @@ impl<'a> World<'a> {
         act(
             self.accepted.module().functions.as_slice(),
             &mut self.memory,
-            self.layout,
+            self.blocks,
             thread as u8,
             &mut self.threads[thread],
             &mut self.faults,
@@ -299,7 +299,7 @@ impl<'a> World<'a> {
         steps_move();
         claim(
             &mut self.memory,
-            self.layout,
+            self.blocks,
             thread as u8,
             &mut self.threads[thread],
             row,

@@ -20,6 +20,7 @@ unfolding entry_text
 returns c =
     let e = c.args.entry.now in
     four_added c.text.result c.args.line.now (opening_text c.args.paint e.number e.thread)
-    (naming_text c.args.paint c.args.functions.now e) (event_text c.args.paint e.sight.exit e.sight.event) (codes "\n")
+    (naming_text c.args.paint c.args.functions.now e)
+    (event_text c.args.paint e.sight.layout e.sight.exit e.sight.event) (codes "\n")
     c.show_opening.new.line c.show_naming.new.line c.show_event.new.line c.text.new.self
     c.in_ok-show_opening.ensures c.in_ok-show_naming.ensures c.in_ok-show_event.ensures c.text.ensures

@@ -14,7 +14,7 @@ returns-in-Some c =
     ap reverse (sym c.in_ok-reserve.ensures.items ∙ c.in-Some.ensures.items)
     ∙ reverse-append c.pop.new.self.items (c.in-Some.duty ∷ []) in
     let does =
-    first_action c.args.functions.now c.args.layout c.args.number (actor_of c.args.thread.now) c.in-Some.duty
+    first_action c.args.functions.now c.args.blocks c.args.number (actor_of c.args.thread.now) c.in-Some.duty
     (reverse c.pop.new.self.items) c.in_default.not-Gone first in
     rw (does, first) (record {
       did = refl;
@@ -35,7 +35,7 @@ pub act_by_dispatch-requires : goal.act_by_dispatch-requires
 act_by_dispatch-requires c =
     let same = sym (append-nil c.pop.new.self.items) ∙ sym c.in-None.ensures.items ∙ c.in_ok-reserve.ensures.items in
     record {
-      some_rows = c.requires.some_rows;
+      columns = c.requires.columns;
       small = c.requires.small;
       known = c.requires.known;
       alive = c.in_default.not-Gone;

@@ -14,31 +14,39 @@ use Rattle.brc_world.proofs.doing.act_by_dispatch.Goals as goal
 
 -- The thread has started its step so.
 begun : (c : After-dispatch) (start : Start) → c.dispatch.new.start ≡ start
-    → HasStarted c.args.functions.now c.args.layout c.args.number (actor_of c.args.thread.now)
+    → HasStarted c.args.functions.now c.args.blocks c.args.number (actor_of c.args.thread.now)
     c.dispatch.new.thread start
 begun c start is =
-    subst (HasStarted c.args.functions.now c.args.layout c.args.number (actor_of c.args.thread.now)
+    subst (HasStarted c.args.functions.now c.args.blocks c.args.number (actor_of c.args.thread.now)
     c.dispatch.new.thread) is
-    (dispatched c.args.functions.now c.args.layout c.args.number c.args.thread.now c.dispatch.new.thread
-    c.dispatch.new.start c.requires.alive c.requires.empty c.dispatch.ensures)
+    (dispatched c.args.functions.now c.args.blocks c.args.number c.args.thread.now c.dispatch.new.thread
+    c.dispatch.new.start c.requires.alive c.requires.empty (rw c.layout.ensures at c.dispatch.ensures))
 
 -- The thread can do the duty with which its step has started.
 able : (c : After-dispatch) (start : Start) (d : Duty) → c.dispatch.new.start ≡ start
     → duty_of start ≡ Some d
-    → CanDo c.args.layout c.args.number (length c.args.memory.now.local) (length c.args.memory.now.thread)
-    (word_in c.args.memory.now) (actor_of c.dispatch.new.thread) d
-able c start d is does =
-    can_do c.args.functions.now c.args.layout c.args.number (word_in c.args.memory.now) (actor_of c.args.thread.now)
-    c.args.exit c.dispatch.new.thread _ _ start d (begun c start is) does c.requires.can
+begun : (c : After-dispatch) (start : Start) → c.dispatch.new.start ≡ start
+    → HasStarted c.args.functions.now c.args.blocks c.args.number (actor_of c.args.thread.now)
+    c.dispatch.new.thread start
+begun c start is =
+    subst (HasStarted c.args.functions.now c.args.blocks c.args.number (actor_of c.args.thread.now)
+    c.dispatch.new.thread) is
+    (dispatched c.args.functions.now c.args.blocks c.args.number c.args.thread.now c.dispatch.new.thread
+    c.dispatch.new.start c.requires.alive c.requires.empty (rw c.layout.ensures at c.dispatch.ensures))
 
 -- ---- no duty
 
 pub returns-in-Stuck : goal.returns-in-Stuck
 returns-in-Stuck c =
     let step =
-    stuck_step c.args.functions.now c.args.layout c.args.number (word_in c.args.memory.now)
-    (actor_of c.args.thread.now) c.args.exit c.dispatch.new.thread
-    (begun (goal.at.returns-in-Stuck c).After-dispatch starts.Stuck c.in-Stuck.is) in
+begun : (c : After-dispatch) (start : Start) → c.dispatch.new.start ≡ start
+    → HasStarted c.args.functions.now c.args.blocks c.args.number (actor_of c.args.thread.now)
+    c.dispatch.new.thread start
+begun c start is =
+    subst (HasStarted c.args.functions.now c.args.blocks c.args.number (actor_of c.args.thread.now)
+    c.dispatch.new.thread) is
+    (dispatched c.args.functions.now c.args.blocks c.args.number c.args.thread.now c.dispatch.new.thread
+    c.dispatch.new.start c.requires.alive c.requires.empty (rw c.layout.ensures at c.dispatch.ensures))
     record {
       did = step.answer;
       words = step.memory_is;
@@ -51,9 +59,14 @@ returns-in-Stuck c =
 pub returns-in-Moved : goal.returns-in-Moved
 returns-in-Moved c =
     let step =
-    moved_step c.args.functions.now c.args.layout c.args.number (word_in c.args.memory.now)
-    (actor_of c.args.thread.now) c.args.exit c.dispatch.new.thread
-    (begun (goal.at.returns-in-Moved c).After-dispatch starts.Moved c.in-Moved.is) in
+begun : (c : After-dispatch) (start : Start) → c.dispatch.new.start ≡ start
+    → HasStarted c.args.functions.now c.args.blocks c.args.number (actor_of c.args.thread.now)
+    c.dispatch.new.thread start
+begun c start is =
+    subst (HasStarted c.args.functions.now c.args.blocks c.args.number (actor_of c.args.thread.now)
+    c.dispatch.new.thread) is
+    (dispatched c.args.functions.now c.args.blocks c.args.number c.args.thread.now c.dispatch.new.thread
+    c.dispatch.new.start c.requires.alive c.requires.empty (rw c.layout.ensures at c.dispatch.ensures))
     record {
       did = step.answer;
       words = step.memory_is;
@@ -66,9 +79,14 @@ returns-in-Moved c =
 pub returns-in-Calling : goal.returns-in-Calling
 returns-in-Calling c =
     let step =
-    called_step c.args.functions.now c.args.layout c.args.number (word_in c.args.memory.now)
-    (actor_of c.args.thread.now) c.args.exit c.dispatch.new.thread c.in-Calling.call
-    (begun (goal.at.returns-in-Calling c).After-dispatch (starts.Calling c.in-Calling.call) c.in-Calling.is) in
+begun : (c : After-dispatch) (start : Start) → c.dispatch.new.start ≡ start
+    → HasStarted c.args.functions.now c.args.blocks c.args.number (actor_of c.args.thread.now)
+    c.dispatch.new.thread start
+begun c start is =
+    subst (HasStarted c.args.functions.now c.args.blocks c.args.number (actor_of c.args.thread.now)
+    c.dispatch.new.thread) is
+    (dispatched c.args.functions.now c.args.blocks c.args.number c.args.thread.now c.dispatch.new.thread
+    c.dispatch.new.start c.requires.alive c.requires.empty (rw c.layout.ensures at c.dispatch.ensures))
     record {
       did = step.answer;
       words = step.memory_is;
@@ -85,7 +103,7 @@ do_duty-requires c =
     let can = able (goal.at.do_duty-requires c).After-dispatch (starts.Doing c.in-Doing.duty) c.in-Doing.duty
     c.in-Doing.is refl in
     record {
-      some_rows = c.requires.some_rows;
+      columns = c.requires.columns;
       small = c.requires.small;
       known = c.requires.known;
       there = can.there;
@@ -100,7 +118,7 @@ returns-in-Doing c =
     let before = c.dispatch.new.thread in
     let duty = c.do_duty.ensures in
     let step =
-    duty_step c.args.functions.now c.args.layout c.args.number (word_in c.args.memory.now)
+    duty_step c.args.functions.now c.args.blocks c.args.number (word_in c.args.memory.now)
     (actor_of c.args.thread.now) c.args.exit before start c.in-Doing.duty
     (begun (goal.at.returns-in-Doing c).After-dispatch start c.in-Doing.is) refl in
     record {
@@ -108,7 +126,7 @@ returns-in-Doing c =
       words = duty.word.words ∙ step.memory_is;
       actor =
           goes_on start c.args.exit c.do_duty.result before c.do_duty.new.thread
-          (actor_after c.args.layout c.args.number (word_in c.args.memory.now) (actor_of before) c.in-Doing.duty)
+          (actor_after c.args.blocks c.args.number (word_in c.args.memory.now) (actor_of before) c.in-Doing.duty)
           duty.actor duty.mode duty.calls duty.turns duty.point duty.variables
           ∙ step.actor;
       faults = c.count_duty.ensures ∙ step.faults c.args.faults.now;
@@ -123,7 +141,7 @@ do_duty-found-requires c =
     let can = able (goal.at.do_duty-found-requires c).After-dispatch
     (starts.Asking c.in-Asking.duty c.in-Asking.question) c.in-Asking.duty c.in-Asking.is refl in
     record {
-      some_rows = c.requires.some_rows;
+      columns = c.requires.columns;
       small = c.requires.small;
       known = c.requires.known;
       there = can.there;
@@ -146,9 +164,9 @@ returns-in-Asking c =
     let before = c.dispatch.new.thread in
     let duty = c.do_duty-found.ensures in
     let done =
-    actor_after c.args.layout c.args.number (word_in c.args.memory.now) (actor_of before) c.in-Asking.duty in
+    actor_after c.args.blocks c.args.number (word_in c.args.memory.now) (actor_of before) c.in-Asking.duty in
     let step =
-    duty_step c.args.functions.now c.args.layout c.args.number (word_in c.args.memory.now)
+    duty_step c.args.functions.now c.args.blocks c.args.number (word_in c.args.memory.now)
     (actor_of c.args.thread.now) c.args.exit before start c.in-Asking.duty
     (begun (goal.at.returns-in-Asking c).After-dispatch start c.in-Asking.is) refl in
     record {
@@ -172,7 +190,7 @@ do_duty-found-requires-in-Locking c =
     (starts.Locking c.in-Locking.row c.in-Locking.left c.in-Locking.next) (LockGate c.in-Locking.row)
     c.in-Locking.is refl in
     record {
-      some_rows = c.requires.some_rows;
+      columns = c.requires.columns;
       small = c.requires.small;
       known = c.requires.known;
       there = can.there;
@@ -187,10 +205,10 @@ returns-in-Locking c =
     let before = c.dispatch.new.thread in
     let duty = c.do_duty-found-in-Locking.ensures in
     let done =
-    actor_after c.args.layout c.args.number (word_in c.args.memory.now) (actor_of before)
+    actor_after c.args.blocks c.args.number (word_in c.args.memory.now) (actor_of before)
     (LockGate c.in-Locking.row) in
     let step =
-    duty_step c.args.functions.now c.args.layout c.args.number (word_in c.args.memory.now)
+    duty_step c.args.functions.now c.args.blocks c.args.number (word_in c.args.memory.now)
     (actor_of c.args.thread.now) c.args.exit before start (LockGate c.in-Locking.row)
     (begun (goal.at.returns-in-Locking c).After-dispatch start c.in-Locking.is) refl in
     record {

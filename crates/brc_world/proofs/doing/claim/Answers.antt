@@ -9,16 +9,16 @@ pub returns : goal.returns
 returns c =
     let memory = word_in c.args.memory.now in
     let thread = actor_of c.args.thread.now in
-    let found : finds_mark c.args.layout c.args.number memory thread c.args.row ≡ true =
+    let found : finds_mark c.args.blocks c.args.number memory thread c.args.row ≡ true =
     sym c.finds_mark.ensures ∙ c.if-not-finds_mark.false in
     record {
       did =
-          claim_did c.args.layout c.args.number memory thread c.args.row c.args.thread.now.status c.in_default.not-Gone
+          claim_did c.args.blocks c.args.number memory thread c.args.row c.args.thread.now.status c.in_default.not-Gone
           found;
-      words = c.do_duty.ensures.word.words ∙ claim_words c.args.layout c.args.number memory thread c.args.row found;
+      words = c.do_duty.ensures.word.words ∙ claim_words c.args.blocks c.args.number memory thread c.args.row found;
       actor =
           (rw c.in_ok-reserve.ensures.items at c.do_duty.ensures.actor)
-          ∙ claim_actor c.args.layout c.args.number memory thread c.args.row found;
+          ∙ claim_actor c.args.blocks c.args.number memory thread c.args.row found;
       same_words = tt;
       same_actor = tt;
       refused = tt;

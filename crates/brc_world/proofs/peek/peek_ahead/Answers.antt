@@ -10,30 +10,30 @@ use Rattle.brc_world.proofs.peek.peek_ahead.Goals.{In-Doing, In-Asking}
 use Rattle.brc_world.proofs.peek.peek_ahead.Goals as goal
 
 -- The copy is as the thread, so that the thread's step starts with the same duty,
-starts_doing : (c : In-Doing) → Doing c.in-Doing.duty ≡ first_start c.args.functions.now c.args.layout c.args.number
+starts_doing : (c : In-Doing) → Doing c.in-Doing.duty ≡ first_start c.args.functions.now c.args.blocks c.args.number
     (actor_of c.args.thread.now) (actor_of c.args.thread.now).actor.agenda
 starts_doing c =
-    c.in-Doing.ensures.starts
-    ∙ ap (λ (a : StepActor). first_start c.args.functions.now c.args.layout c.args.number a a.actor.agenda)
+    (rw c.layout-layout.ensures at c.in-Doing.ensures.starts)
+    ∙ ap (λ (a : StepActor). first_start c.args.functions.now c.args.blocks c.args.number a a.actor.agenda)
     c.in_ok-copy_thread.ensures.actor
 
 -- also where an answer decides what comes next.
-starts_asking : (c : In-Asking) → Doing c.in-Asking.duty ≡ first_start c.args.functions.now c.args.layout c.args.number
+starts_asking : (c : In-Asking) → Doing c.in-Asking.duty ≡ first_start c.args.functions.now c.args.blocks c.args.number
     (actor_of c.args.thread.now) (actor_of c.args.thread.now).actor.agenda
 starts_asking c =
-    c.in-Asking.ensures.starts
-    ∙ ap (λ (a : StepActor). first_start c.args.functions.now c.args.layout c.args.number a a.actor.agenda)
+    (rw c.layout-layout.ensures at c.in-Asking.ensures.starts)
+    ∙ ap (λ (a : StepActor). first_start c.args.functions.now c.args.blocks c.args.number a a.actor.agenda)
     c.in_ok-copy_thread.ensures.actor
 
 pub see_duty-requires : goal.see_duty-requires
 see_duty-requires c =
     let starts = starts_doing (goal.at.see_duty-requires c).In-Doing in
     record {
-      some_rows = c.requires.some_rows;
+      columns = c.requires.columns;
       small = c.requires.small;
       known = c.requires.known;
       can =
-          start_can c.args.layout c.args.number _ _ (word_in c.args.memory.now) (actor_of c.args.thread.now)
+          start_can c.args.blocks c.args.number _ (word_in c.args.memory.now) (actor_of c.args.thread.now)
           c.args.functions.now (Doing c.in-Doing.duty) c.in_default.not-Gone starts c.requires.can;
     }
 
@@ -41,11 +41,11 @@ pub see_duty-requires-in-Asking : goal.see_duty-requires-in-Asking
 see_duty-requires-in-Asking c =
     let starts = starts_asking (goal.at.see_duty-requires-in-Asking c).In-Asking in
     record {
-      some_rows = c.requires.some_rows;
+      columns = c.requires.columns;
       small = c.requires.small;
       known = c.requires.known;
       can =
-          start_can c.args.layout c.args.number _ _ (word_in c.args.memory.now) (actor_of c.args.thread.now)
+          start_can c.args.blocks c.args.number _ (word_in c.args.memory.now) (actor_of c.args.thread.now)
           c.args.functions.now (Asking c.in-Asking.duty c.in-Asking.question) c.in_default.not-Gone starts
           c.requires.can;
     }
@@ -54,12 +54,12 @@ pub returns-in-Doing : goal.returns-in-Doing
 returns-in-Doing c =
     let starts = starts_doing (goal.at.returns-in-Doing c).In-Doing in
     ap Some c.see_duty.ensures
-    ∙ start_seen c.args.layout c.args.number (word_in c.args.memory.now) (actor_of c.args.thread.now) c.args.choice
+    ∙ start_seen c.args.blocks c.args.number (word_in c.args.memory.now) (actor_of c.args.thread.now) c.args.choice
     c.args.functions.now (Doing c.in-Doing.duty) c.in_default.not-Gone starts
 
 pub returns-in-Asking : goal.returns-in-Asking
 returns-in-Asking c =
     let starts = starts_asking (goal.at.returns-in-Asking c).In-Asking in
     ap Some c.see_duty-in-Asking.ensures
-    ∙ start_seen c.args.layout c.args.number (word_in c.args.memory.now) (actor_of c.args.thread.now) c.args.choice
+    ∙ start_seen c.args.blocks c.args.number (word_in c.args.memory.now) (actor_of c.args.thread.now) c.args.choice
     c.args.functions.now (Asking c.in-Asking.duty c.in-Asking.question) c.in_default.not-Gone starts

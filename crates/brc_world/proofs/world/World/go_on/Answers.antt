@@ -5,7 +5,7 @@ use Rattle.brc_model.specs.Actions.{status_action}
 use Rattle.brc_world.specs.Actors.{actor_of, memory_by, actor_by, faults_by, waits}
 use Rattle.brc_world.specs.Storage.{word_in}
 use Rattle.brc_world.specs.Worlds.{model_of, choice_of}
-use Rattle.brc_world.proofs.Outcomes.{contents, Turned, Outcome, outcome, answered, refusal, thread_at}
+use Rattle.brc_world.proofs.Outcomes.{contents, are_of, Turned, Outcome, outcome, answered, refusal, thread_at}
 use Rattle.brc_world.proofs.Answering.{going_answers}
 use Rattle.brc_world.proofs.Waiting.{waits_locked, moves_unless_waiting}
 use Rattle.brc_model.specs.World.{World, step}
@@ -16,14 +16,14 @@ use Rattle.brc_world.proofs.world.World.go_on.Goals as goal
 -- The world that the model sees before the step.
 abbrev old_world : After-index_mut → World
 old_world c =
-    model_of (contents c.self.inside.accepted.now c.self.inside.layout c.self.inside.memory
+    model_of (contents c.self.inside.accepted.now c.self.inside.blocks c.self.inside.memory
     c.self.inside.threads.items c.self.inside.faults)
 
 -- The thread is there.
 here : (c : After-index_mut)
     → slice_get (old_world c).actors c.args.thread ≡ Some (actor_of c.index_mut.result.now)
 here c =
-    thread_at c.self.inside.accepted.now c.self.inside.layout c.self.inside.memory
+    thread_at c.self.inside.accepted.now c.self.inside.blocks c.self.inside.memory
     c.self.inside.threads.items c.args.thread c.self.inside.faults c.index_mut.result.now c.index_mut.ensures.value
     (rw (sym c.self.view_is) at c.requires)
 
@@ -45,8 +45,10 @@ overflow_cast-thread c =
     let within = rw (sym c.self.view_is) at c.requires in
     omega (arith, few, within)
 
-pub act-requires-clause-some_rows : goal.act-requires-clause-some_rows
-act-requires-clause-some_rows c = c.worlds_are_small.ensures.some_rows _ _ c.self.invariant.reachable
+pub act-requires-clause-columns : goal.act-requires-clause-columns
+act-requires-clause-columns c =
+    are_of _ _ c.self.invariant (c.worlds_are_small.ensures.few_rows _ _ c.self.invariant.reachable)
+    (c.worlds_are_small.ensures.workers _ _ c.self.invariant.reachable)
 
 pub act-requires-clause-small : goal.act-requires-clause-small
 act-requires-clause-small c =
@@ -63,17 +65,17 @@ pub act-requires-clause-can : goal.act-requires-clause-can
 act-requires-clause-can c =
     let steps = c.steps_are_within.ensures _ _ c.args.thread _ c.self.invariant.reachable
     (here (goal.at.act-requires-clause-can c).After-index_mut) in
-    rw (c.as_slice.ensures, c.module.ensures.value, c.self.invariant.rows, c.self.invariant.threads)
+    rw (c.as_slice.ensures, c.module.ensures.value, c.self.invariant.rows)
     (can_go_on _ _ (actor_of c.index_mut.result.now) steps)
 
 -- The world after the step is the model's next world or, if memory was refused, the same world.
 outcome_of : (c : goal.After-self-1)
-    → Outcome c.self.inside.accepted.now c.self.inside.layout c.self.inside.memory c.act.new.memory
+    → Outcome c.self.inside.accepted.now c.self.inside.blocks c.self.inside.memory c.act.new.memory
     c.self.inside.threads.items c.args.thread (choice_of c.args.exit) c.act.new.thread c.self.inside.faults
     c.act.new.faults c.act.result
 outcome_of c =
     let p = c.self.inside.accepted.now in
-    let layout = c.self.inside.layout in
+    let layout = c.self.inside.blocks in
     let words = c.self.inside.memory in
     let threads = c.self.inside.threads.items in
     let t = c.args.thread in

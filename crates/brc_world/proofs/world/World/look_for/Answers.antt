@@ -5,7 +5,7 @@ use Rattle.brc_model.specs.declared.thread.Choice.TheVariants.{Claim}
 use Rattle.brc_world.specs.Actors.{actor_of, finds_mark, memory_claimed, actor_claimed}
 use Rattle.brc_world.specs.Storage.{word_in}
 use Rattle.brc_world.specs.Worlds.{model_of}
-use Rattle.brc_world.proofs.Outcomes.{contents, Turned, Outcome, outcome, on_ok, on_err, answered, refusal, thread_at}
+use Rattle.brc_world.proofs.Outcomes.{contents, are_of, Turned, Outcome, outcome, on_ok, on_err, answered, refusal, thread_at}
 use Rattle.brc_world.proofs.Answering.{claim_answers}
 use Rattle.brc_world.proofs.Stepping.{can_claim, claim_is, claim_moves, claim_stays}
 use Rattle.brc_world.proofs.world.World.look_for.Goals.{After-index_mut}
@@ -14,14 +14,14 @@ use Rattle.brc_world.proofs.world.World.look_for.Goals as goal
 -- The world that the model sees before the step.
 abbrev old_world : After-index_mut → World
 old_world c =
-    model_of (contents c.self.inside.accepted.now c.self.inside.layout c.self.inside.memory
+    model_of (contents c.self.inside.accepted.now c.self.inside.blocks c.self.inside.memory
     c.self.inside.threads.items c.self.inside.faults)
 
 -- The thread is there.
 here : (c : After-index_mut)
     → slice_get (old_world c).actors c.args.thread ≡ Some (actor_of c.index_mut.result.now)
 here c =
-    thread_at c.self.inside.accepted.now c.self.inside.layout c.self.inside.memory
+    thread_at c.self.inside.accepted.now c.self.inside.blocks c.self.inside.memory
     c.self.inside.threads.items c.args.thread c.self.inside.faults c.index_mut.result.now c.index_mut.ensures.value
     (rw (sym c.self.view_is) at c.requires)
 
@@ -41,8 +41,10 @@ overflow_cast-thread c =
     let within = rw (sym c.self.view_is) at c.requires in
     omega (arith, few, within)
 
-pub claim-requires-clause-some_rows : goal.claim-requires-clause-some_rows
-claim-requires-clause-some_rows c = c.worlds_are_small.ensures.some_rows _ _ c.self.invariant.reachable
+pub claim-requires-clause-columns : goal.claim-requires-clause-columns
+claim-requires-clause-columns c =
+    are_of _ _ c.self.invariant (c.worlds_are_small.ensures.few_rows _ _ c.self.invariant.reachable)
+    (c.worlds_are_small.ensures.workers _ _ c.self.invariant.reachable)
 
 pub claim-requires-clause-small : goal.claim-requires-clause-small
 claim-requires-clause-small c =
@@ -59,16 +61,16 @@ pub claim-requires-clause-can : goal.claim-requires-clause-can
 claim-requires-clause-can c =
     let steps = c.steps_are_within.ensures _ _ c.args.thread _ c.self.invariant.reachable
     (here (goal.at.claim-requires-clause-can c).After-index_mut) in
-    rw (c.self.invariant.rows, c.self.invariant.threads) (can_claim _ _ _ c.args.row steps)
+    rw c.self.invariant.rows (can_claim _ _ _ c.args.row steps)
 
 -- The world after the claim is the model's next world or, if memory was refused, the same world.
 outcome_of : (c : goal.After-self-1)
-    → Outcome c.self.inside.accepted.now c.self.inside.layout c.self.inside.memory c.claim.new.memory
+    → Outcome c.self.inside.accepted.now c.self.inside.blocks c.self.inside.memory c.claim.new.memory
     c.self.inside.threads.items c.args.thread (Claim c.args.row) c.claim.new.thread c.self.inside.faults
     c.self.inside.faults c.claim.result
 outcome_of c =
     let p = c.self.inside.accepted.now in
-    let layout = c.self.inside.layout in
+    let layout = c.self.inside.blocks in
     let words = c.self.inside.memory in
     let threads = c.self.inside.threads.items in
     let t = c.args.thread in

@@ -1,7 +1,9 @@
 -- The first world is the model's first world.
-use Rattle.std.proofs.Common.{ℕ, sym, ap, arith}
+use Rattle.std.proofs.Common.{ℕ, ◌+◌, ◌∙◌, sym, ap, arith}
 use Rattle.brc_model.specs.declared.layout.Layout.{Layout}
+use Rattle.brc_model.specs.Layout.{row_count}
 use Rattle.brc_model.specs.Limits.{cell_limit}
+use Rattle.brc_model.specs.StepMachine.{first_memory}
 use Rattle.brc_check.specs.Tables.{states_of}
 use Rattle.brc_world.proofs.Outcomes.{first_seen, first_is}
 use Rattle.brc_world.proofs.world.World.new.Goals as goal
@@ -17,9 +19,11 @@ layout_with rows workers = record { workers = workers; rows = rows; cells = cell
 
 pub invariant_of-result : goal.invariant_of-result
 invariant_of-result c =
-    first_is c.args.checked.now c.args.rows _ c.args.calls.now _ _
-    (ap (layout_with c.args.rows) (sym c.requires.one_each)) c.in_ok-first_memory.ensures.words
-    c.in_ok-first_threads.ensures c.in_ok-first_memory.ensures.rows c.in_ok-first_memory.ensures.threads
+    first_is c.args.checked.now c.args.rows c.new.result c.args.calls.now _ _
+    (c.new.ensures ∙ ap (layout_with c.args.rows) (sym c.requires.one_each))
+    (c.in_ok-first_memory.ensures.words ∙ ap (λ (l : Layout). first_memory l.workers) (sym c.new.ensures))
+    c.in_ok-first_threads.ensures (c.in_ok-first_memory.ensures.rows ∙ ap row_count (sym c.new.ensures))
+    (c.in_ok-first_memory.ensures.threads ∙ ap (λ (l : Layout). 1 + l.workers) (sym c.new.ensures))
     (c.worlds_lead_on.ensures.first c.args.checked.now.module
     (states_of c.args.checked.now.module c.args.checked.now.table) c.args.rows c.args.calls.now
     c.states_are_true.ensures.fits c.states_are_true.ensures.acceptable c.states_are_true.ensures.truth
@@ -27,6 +31,7 @@ invariant_of-result c =
 
 pub returns : goal.returns
 returns c =
-    first_seen c.args.checked.now c.args.rows _ c.args.calls.now _ _
-    (ap (layout_with c.args.rows) (sym c.requires.one_each)) c.in_ok-first_memory.ensures.words
+    first_seen c.args.checked.now c.args.rows c.new.result c.args.calls.now _ _
+    (c.new.ensures ∙ ap (layout_with c.args.rows) (sym c.requires.one_each))
+    (c.in_ok-first_memory.ensures.words ∙ ap (λ (l : Layout). first_memory l.workers) (sym c.new.ensures))
     c.in_ok-first_threads.ensures

@@ -8,7 +8,7 @@ use Rattle.brc_world.specs.declared.no_memory.NoMemory.{NoMemory}
 use Rattle.brc_world.specs.Actors.{actor_of}
 use Rattle.brc_world.specs.Sights.{sight_by}
 use Rattle.brc_world.specs.Worlds.{model_of}
-use Rattle.brc_world.proofs.Outcomes.{contents, thread_at}
+use Rattle.brc_world.proofs.Outcomes.{contents, are_of, thread_at}
 use Rattle.brc_world.proofs.Stepping.{can_act}
 use Rattle.brc_world.proofs.world.World.next_event.Goals as goal
 
@@ -18,8 +18,10 @@ overflow_cast-thread c =
     let within = rw (sym c.self.view_is) at c.requires in
     omega (arith, few, within)
 
-pub peek-requires-clause-some_rows : goal.peek-requires-clause-some_rows
-peek-requires-clause-some_rows c = c.worlds_are_small.ensures.some_rows _ _ c.self.invariant.reachable
+pub peek-requires-clause-columns : goal.peek-requires-clause-columns
+peek-requires-clause-columns c =
+    are_of _ _ c.self.invariant (c.worlds_are_small.ensures.few_rows _ _ c.self.invariant.reachable)
+    (c.worlds_are_small.ensures.workers _ _ c.self.invariant.reachable)
 
 pub peek-requires-clause-small : goal.peek-requires-clause-small
 peek-requires-clause-small c =
@@ -36,10 +38,10 @@ pub peek-requires-clause-can : goal.peek-requires-clause-can
 peek-requires-clause-can c =
     let within = rw (sym c.self.view_is) at c.requires in
     let here =
-    thread_at c.self.inside.accepted.now c.self.inside.layout c.self.inside.memory
+    thread_at c.self.inside.accepted.now c.self.inside.blocks c.self.inside.memory
     c.self.inside.threads.items c.args.thread c.self.inside.faults c.index.result.now c.index.ensures within in
     let steps = c.steps_are_within.ensures _ _ c.args.thread _ c.self.invariant.reachable here in
-    rw (c.self.invariant.rows, c.self.invariant.threads)
+    rw c.self.invariant.rows
     (can_act _ c.args.thread (actor_of c.index.result.now) _ (steps c.args.choice))
 
 found_is : (r : Result (Option Sight) NoMemory) (one other : Option Sight) → one ≡ other → IfOk r (λ sight. sight ≡ one)
@@ -51,10 +53,10 @@ pub returns : goal.returns
 returns c =
     let p = c.self.inside.accepted.now in
     let threads = c.self.inside.threads.items in
-    let w = model_of (contents p c.self.inside.layout c.self.inside.memory threads c.self.inside.faults) in
+    let w = model_of (contents p c.self.inside.blocks c.self.inside.memory threads c.self.inside.faults) in
     let within = rw (sym c.self.view_is) at c.requires in
     let here =
-    thread_at p c.self.inside.layout c.self.inside.memory threads c.args.thread c.self.inside.faults
+    thread_at p c.self.inside.blocks c.self.inside.memory threads c.args.thread c.self.inside.faults
     c.index.result.now c.index.ensures within in
     let sight : Option StepActor → Option Sight =
     of_thread None (λ a. sight_by w.layout c.args.thread w.memory a c.args.choice

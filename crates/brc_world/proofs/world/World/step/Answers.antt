@@ -11,5 +11,8 @@ returns-in-Ok c = elim c.in-Ok.is [
 pub returns-in-Claim-clause-made : goal.returns-in-Claim-clause-made
 returns-in-Claim-clause-made c = rw c.in-Claim.is c.look_for.ensures.made
 
+pub returns-in-Claim-clause-refused : goal.returns-in-Claim-clause-refused
+returns-in-Claim-clause-refused c = rw c.in-Claim.is c.look_for.ensures.refused
+
 pub returns-in-Stop-clause-made : goal.returns-in-Stop-clause-made
 returns-in-Stop-clause-made c = rw c.in-Stop.is c.stop.ensures.made

@@ -14,25 +14,25 @@ use Rattle.brc_world.proofs.world.World.stop.Goals as goal
 -- The world that the model sees before the step.
 abbrev old_world : After-index_mut → World
 old_world c =
-    model_of (contents c.self.inside.accepted.now c.self.inside.layout c.self.inside.memory
+    model_of (contents c.self.inside.accepted.now c.self.inside.blocks c.self.inside.memory
     c.self.inside.threads.items c.self.inside.faults)
 
 -- The thread is there.
 here : (c : After-index_mut)
     → slice_get (old_world c).actors c.args.thread ≡ Some (actor_of c.index_mut.result.now)
 here c =
-    thread_at c.self.inside.accepted.now c.self.inside.layout c.self.inside.memory
+    thread_at c.self.inside.accepted.now c.self.inside.blocks c.self.inside.memory
     c.self.inside.threads.items c.args.thread c.self.inside.faults c.index_mut.result.now c.index_mut.ensures.value
     (rw (sym c.self.view_is) at c.requires)
 
 -- The world after the stop is the model's next world.
 outcome_of : (c : goal.After-self-1)
-    → Outcome c.self.inside.accepted.now c.self.inside.layout c.self.inside.memory c.self.inside.memory
+    → Outcome c.self.inside.accepted.now c.self.inside.blocks c.self.inside.memory c.self.inside.memory
     c.self.inside.threads.items c.args.thread Stop c.stop.new.thread c.self.inside.faults c.self.inside.faults
     (Ok c.stop.result)
 outcome_of c =
     let p = c.self.inside.accepted.now in
-    let layout = c.self.inside.layout in
+    let layout = c.self.inside.blocks in
     let words = c.self.inside.memory in
     let threads = c.self.inside.threads.items in
     let t = c.args.thread in
