@@ -3,15 +3,17 @@ use Rattle.std.specs.Prelude.{◌≡◌, ◌≢◌, Bool, ℕ, ◌+◌, ◌<◌,
 use Rattle.brc_host.specs.HostCalls.{HostCall, Close}
 use Rattle.brc_model.specs.declared.actor.Status.TheVariants.{Running, Gone}
 use Rattle.brc_model.specs.declared.duty.Holding.TheVariants.{InFlight}
-use Rattle.brc_model.specs.declared.duty.Reason.TheVariants.{Handed}
+use Rattle.brc_model.specs.declared.duty.Reason.TheVariants.{Own, Handed}
 use Rattle.brc_model.specs.declared.duty.Duty.{Duty}
-use Rattle.brc_model.specs.declared.duty.Duty.TheVariants.{ReleaseLoad, MergeSwap, MergeLoad, Settle, SettleCell, TakeSlot}
+use Rattle.brc_model.specs.declared.duty.Duty.TheVariants.{ReleaseLoad, SharedLoad, MergeSwap, MergeLoad, Settle, SettleCell, TakeSlot}
 use Rattle.brc_model.specs.Duties.{ready, once_merged, cells_from}
 use Rattle.brc_table.specs.declared.view.View.{View}
 use Rattle.brc_table.specs.Views.{view_after, slot_emptied, without_reference, turned, with_next}
 use Rattle.brc_effect.specs.declared.outcomes.LocalRelease.{LocalRelease}
 use Rattle.brc_heap.specs.Calls.{local_left}
 use Rattle.brc_heap.specs.Steps.{Keeps}
+use Rattle.brc_free.specs.declared.giving_up.Remaining.{Remaining}
+use Rattle.brc_free.specs.declared.giving_up.Remaining.TheVariants as remaining
 
 -- ---- work
 
@@ -59,6 +61,16 @@ pub record ReleasesNext (x : ℕ) (ds : List Duty) : Type 0 where
 -- What is left of a release of row x that has this answer comes next, and these duties come behind.
 abbrev pub EndsRelease : ℕ → LocalRelease → List Duty → View → Type 0
 EndsRelease x answer rest v = v.actor.agenda ≡ ready v.actor.head (local_left x answer ++ rest)
+
+-- the duties of row x that a release leaves to a call
+abbrev pub remaining_left : ℕ → Remaining → List Duty
+remaining_left x remaining.Nothing = []
+remaining_left x remaining.Merge = MergeSwap x Own ∷ []
+remaining_left x remaining.GiveUp = SharedLoad x Own ∷ []
+
+-- What a release of row x leaves to a call comes next, and these duties come behind.
+abbrev pub IsLeftToCall : ℕ → Remaining → List Duty → View → Type 0
+IsLeftToCall x left rest v = v.actor.agenda ≡ ready v.actor.head (remaining_left x left ++ rest)
 
 -- ---- settling
 

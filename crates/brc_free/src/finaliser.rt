@@ -1,12 +1,12 @@
 //! Finalising the objects of a hand's dying chain.
 
-ghost use Rattle.std.specs.Prelude.{◌≡◌, ◌≢◌, ◌<◌, is_err, List, [], ◌∷◌, ◌++◌};
+ghost use Rattle.std.specs.Prelude.{◌≡◌, ◌≢◌, ◌<◌, true, false, is_err, List, [], ◌∷◌, ◌++◌};
 ghost use Rattle.brc_host.specs.HostCounts.{raised};
 ghost use Rattle.brc_host.specs.HostCalls.{HostCall, Close, HasAnswered, close_faults};
 ghost use Rattle.brc_model.specs.declared.actor.Status.TheVariants.{Gone};
 ghost use Rattle.brc_model.specs.declared.duty.Duty.{Duty};
 ghost use Rattle.brc_model.specs.declared.duty.Duty.TheVariants.{Settle, SettleEnd};
-ghost use Rattle.brc_model.specs.Duties.{cells_from};
+ghost use Rattle.brc_model.specs.Duties.{has_resource, cells_of, cells_from};
 ghost use Rattle.brc_table.specs.Hands.{IsOf, KeepsButView};
 ghost use Rattle.brc_table.specs.Uses.{FirstSlot, behind_slot};
 ghost use Rattle.brc_free.specs.Works.{HasWorked, ComesToSettle, to_settle, EmptiesNext, CellNext, TakesNext, ClaimedNext, behind, cells_left, claimed_left};
@@ -17,6 +17,8 @@ use brc_heap::{Hand, Heap, Marker};
 use brc_host::{Fault, Host};
 use brc_list::Lists;
 use brc_model::Duty;
+use brc_word::kind_number;
+use brc_word::values::LIST;
 use std::marker::Model;
 use std::sync::Wait;
 
@@ -25,6 +27,15 @@ fn faults_of(closed: &Result<(), Fault>) -> u64
     ensures { result ≡ close_faults (Close (is_err closed.now) ∷ []) }
 {
     if closed.is_err() { 1 } else { 0 }
+}
+
+/// Returns whether an object with this kind word gives nothing back when it dies, neither cells nor a resource.
+#[inline(always)]
+fn is_plain(word: u64) -> bool
+    ensures resource { result ≡ true → has_resource word ≡ false }
+    ensures cells { result ≡ true → cells_of word ≡ 0 }
+{
+    kind_number(word) < LIST
 }
 
 /// What finalises the dying objects of a heap. It puts objects that other threads own into the queues that it was
@@ -166,10 +177,15 @@ impl<'h, T: Drop, Q: Marker<T>> Finaliser<'h, T, Q> {
         words.gate_load(hand);
         // `DyingResource`, `DyingCells`: the kind says what the object gives back.
         let kind = words.step(hand, Duty::SettleKind { row });
+        // Most objects are numbers: one comparison finds them.
+        if is_plain(kind) {
+            words.gate_close(hand, row);
+            return 0;
+        }
         if has_resource(kind) {
             return Self::close_resource(self.heap, hand, host, row);
         }
-        self.empty(rt, hand, row, cells_of(kind));
+        Self::empty_cells(self.heap, self.queue, rt, hand, row, cells_of(kind));
         words.gate_close(hand, row);
         0
     }
@@ -200,22 +216,6 @@ impl<'h, T: Drop, Q: Marker<T>> Finaliser<'h, T, Q> {
         let closed = host.close(resource);
         words.gate_close(hand, row);
         faults_of(&closed)
-    }
-
-    /// Does the next duties, behind which others may come: empties the cells of a dying object. Most have none.
-    #[inline(always)]
-    fn empty<R: Wait>(&self, rt: &R, hand: &mut Hand<T>, row: u32, cells: u32)
-        requires table { IsOf self.now hand.old }
-        requires alive { hand.old.view.actor.status ≢ Gone }
-        requires duty { EmptiesNext row cells hand.old.view.actor.agenda }
-        ensures kept { KeepsButView hand.old hand.new }
-        ensures work { (rest : List Duty) → hand.old.view.actor.agenda ≡ cells_from row 0 cells ++ rest
-            → HasWorked hand.old.view [] (SettleEnd row ∷ rest) hand.new.view }
-    {
-        if cells == 0 {
-            return;
-        }
-        Self::empty_cells(self.heap, self.queue, rt, hand, row, cells);
     }
 
     /// Does the next duties, behind which others may come: empties the cells of a dying list, and gives up the

@@ -6,6 +6,7 @@ ghost use Rattle.brc_heap.specs.Calls.{released_locally};
 ghost use Rattle.brc_free.specs.Works.{HasWorked, HasReleased};
 
 use crate::finaliser::Finaliser;
+use crate::giving_up::Remaining;
 use brc_heap::{Hand, Marker};
 use std::sync::Wait;
 
@@ -28,6 +29,12 @@ impl<'h, T: Drop, Q: Marker<T>> Finaliser<'h, T, Q> {
         ensures released { HasReleased row hand.old.view hand.new.view }
     {
         let release = self.heap.release_local(hand, row);
-        self.end_release(rt, hand, row, release);
+        let remaining = self.end_release(hand, row, release);
+        match remaining {
+            Remaining::Nothing => {}
+            Remaining::Merge | Remaining::GiveUp => {
+                Self::merge_or_give_up(self.heap, self.queue, rt, hand, row, remaining);
+            }
+        }
     }
 }

@@ -8,7 +8,7 @@ use Rattle.brc_effect.specs.declared.outcomes.LocalRelease.{LocalRelease}
 use Rattle.brc_effect.specs.declared.outcomes.LocalRelease.TheVariants as local
 use Rattle.brc_heap.specs.Calls.{local_left}
 use Rattle.brc_heap.proofs.Stepping.{plain_first}
-use Rattle.brc_free.specs.Works.{HasWorked, EndsRelease, behind}
+use Rattle.brc_free.specs.Works.{HasWorked, EndsRelease, behind, remaining_left}
 use Rattle.brc_free.proofs.Working.{worked_first}
 use Rattle.brc_free.proofs.GivingUp.{nothing_left}
 use Rattle.brc_free.proofs.finaliser.Finaliser.end_release.Goals as goal
@@ -26,12 +26,6 @@ zero_next v x answer rest is next =
     next ∙ (ap (λ (a : LocalRelease). ready v.actor.head (local_left x a ++ rest)) is
     ∙ plain_first v.actor.head (DecideAtZero x) rest refl)
 
-share_next : (v : View) (x : ℕ) (answer : LocalRelease) (rest : List Duty) → answer ≡ local.Share
-    → EndsRelease x answer rest v → v.actor.agenda ≡ SharedLoad x Own ∷ rest
-share_next v x answer rest is next =
-    next ∙ (ap (λ (a : LocalRelease). ready v.actor.head (local_left x a ++ rest)) is
-    ∙ plain_first v.actor.head (SharedLoad x Own) rest refl)
-
 pub decide_at_zero-requires-clause-duty : goal.decide_at_zero-requires-clause-duty
 decide_at_zero-requires-clause-duty g c =
     let (rest, next) = c.requires.duty in
@@ -39,21 +33,13 @@ decide_at_zero-requires-clause-duty g c =
 
 pub returns-in-Zero-clause-work : goal.returns-in-Zero-clause-work
 returns-in-Zero-clause-work g c = λ rest next.
-    subst (λ (ds : List Duty). HasWorked c.args.hand.now.view [] ds c.decide_at_zero.new.hand.view)
+    subst (λ (ds : List Duty). HasWorked c.args.hand.now.view []
+    (remaining_left c.args.row c.decide_at_zero.result ++ ds) c.decide_at_zero.new.hand.view)
     (ap behind (zero_next c.args.hand.now.view c.args.row c.args.release rest c.in-Zero.is next))
     c.decide_at_zero.ensures.work
 
-pub give_up_as_other-requires-clause-duty : goal.give_up_as_other-requires-clause-duty
-give_up_as_other-requires-clause-duty g c =
-    let (rest, next) = c.requires.duty in
-    record {
-      reason = Own;
-      rest = rest;
-      next = share_next c.args.hand.now.view c.args.row c.args.release rest c.in-Share.is next;
-    }
-
 pub returns-in-Share-clause-work : goal.returns-in-Share-clause-work
 returns-in-Share-clause-work g c = λ rest next.
-    subst (λ (ds : List Duty). HasWorked c.args.hand.now.view [] ds c.give_up_as_other.new.hand.view)
-    (ap behind (share_next c.args.hand.now.view c.args.row c.args.release rest c.in-Share.is next))
-    c.give_up_as_other.ensures.work
+    worked_first c.args.hand.now.view (SharedLoad c.args.row Own ∷ rest)
+    (next ∙ ap (λ (a : LocalRelease). ready c.args.hand.now.view.actor.head (local_left c.args.row a ++ rest))
+    c.in-Share.is)

@@ -1,7 +1,7 @@
-use Rattle.std.proofs.Common.{◌≡◌, ℕ, ◌-◌, true, List, [], ◌∷◌, ◌++◌, refl, sym, ap, ◌∙◌, subst}
+use Rattle.std.proofs.Common.{◌≡◌, ℕ, ◌-◌, true, false, List, [], ◌∷◌, ◌++◌, refl, sym, ap, ◌∙◌, subst}
 use Rattle.brc_model.specs.declared.duty.Duty.{Duty}
 use Rattle.brc_model.specs.declared.duty.Duty.TheVariants.{Settle, SettleKind, SettleEnd, TakeSlot}
-use Rattle.brc_model.specs.Duties.{has_resource, cells_from}
+use Rattle.brc_model.specs.Duties.{has_resource, cells_of, cells_from}
 use Rattle.brc_table.specs.declared.view.View.{View}
 use Rattle.brc_table.specs.Hands.{TableState}
 use Rattle.brc_table.specs.Accesses.{IsNext}
@@ -32,6 +32,14 @@ resource g c rest comes has =
     kind_has_resource _ _ _ [] _ c.step-kind.result (Settle ∷ rest) (off g c rest comes)
     c.step-kind.ensures.view has
 
+-- An object with neither cells nor a resource is closed next.
+plain : (g : given.Over) (c : After-step-kind g) (rest : List Duty) → ComesToSettle c.args.hand.now.view rest
+    → has_resource c.step-kind.result ≡ false → cells_of c.step-kind.result ≡ 0
+    → HasWorked (to_settle rest c.args.hand.now.view) [] (SettleEnd (c.head-row.result - 1) ∷ Settle ∷ rest)
+    c.step-kind.new.hand.view
+plain g c rest comes none no_cells =
+    cells_next _ _ _ _ c.step-kind.result 0 rest (off g c rest comes) c.step-kind.ensures.view none (sym no_cells)
+
 -- Any other object: its cells are emptied next.
 cells : (g : given.Over) (c : After-cells_of g) (rest : List Duty) → ComesToSettle c.args.hand.now.view rest
     → HasWorked (to_settle rest c.args.hand.now.view) []
@@ -39,7 +47,7 @@ cells : (g : given.Over) (c : After-cells_of g) (rest : List Duty) → ComesToSe
     c.step-kind.new.hand.view
 cells g c rest comes =
     cells_next _ _ _ _ c.step-kind.result _ rest
-    (off g (goal.at.empty-requires-clause-duty g c).After-step-kind rest comes)
+    (off g (goal.at.empty_cells-requires-clause-duty g c).After-step-kind rest comes)
     c.step-kind.ensures.view (sym c.has_resource.ensures ∙ c.if-has_resource.false) c.cells_of.ensures
 
 -- Once they are empty, the object is closed next.
@@ -63,6 +71,40 @@ step-kind-requires-clause-next g c =
     (ap (λ (n : ℕ). n - 1) c.head-row.ensures) c.requires.duty.1 c.gate_load.ensures.view c.rows_are_there.ensures in
     subst (IsNext (SettleKind (c.head-row.result - 1))) (sym (at.agenda ∙ settle_kind_first _ _ _)) refl
 
+pub gate_close-requires-clause-table : goal.gate_close-requires-clause-table
+gate_close-requires-clause-table g c =
+    let at = plain g (goal.at.gate_close-requires-clause-table g c).After-step-kind _ c.requires.duty.1
+    (c.is_plain.ensures.resource c.if-is_plain.true) (c.is_plain.ensures.cells c.if-is_plain.true) in
+    let words = c.words-words.ensures ∙ c.self.view_is in (
+      c.step-kind.ensures.table
+          ∙ (c.gate_load.ensures.kept.table ∙ (c.requires.table.0 ∙ sym (ap (λ (t : TableState). t.table) words))),
+      at.keeps.layout ∙ (c.requires.table.1 ∙ sym (ap (λ (t : TableState). t.layout) words)),
+    )
+
+pub gate_close-requires-clause-alive : goal.gate_close-requires-clause-alive
+gate_close-requires-clause-alive g c = λ gone.
+    let at = plain g (goal.at.gate_close-requires-clause-alive g c).After-step-kind _ c.requires.duty.1
+    (c.is_plain.ensures.resource c.if-is_plain.true) (c.is_plain.ensures.cells c.if-is_plain.true) in
+    comes_alive _ _ c.requires.duty.1 (sym at.keeps.status ∙ gone)
+
+pub gate_close-requires-clause-duty : goal.gate_close-requires-clause-duty
+gate_close-requires-clause-duty g c =
+    let at = plain g (goal.at.gate_close-requires-clause-duty g c).After-step-kind _ c.requires.duty.1
+    (c.is_plain.ensures.resource c.if-is_plain.true) (c.is_plain.ensures.cells c.if-is_plain.true) in
+    subst (ClosesRow (c.head-row.result - 1)) (sym (at.agenda ∙ settle_end_first _ _ _)) refl
+
+pub returns-then-is_plain-clause-work : goal.returns-then-is_plain-clause-work
+returns-then-is_plain-clause-work g c = λ rest comes.
+    let at = plain g (goal.at.returns-then-is_plain-clause-work g c).After-step-kind rest comes
+    (c.is_plain.ensures.resource c.if-is_plain.true) (c.is_plain.ensures.cells c.if-is_plain.true) in (
+      [],
+      ended _ _ _ [] _ c.gate_close.result (Settle ∷ rest) at c.gate_close.ensures.view
+          (head_unlocked c.args.hand.now.view _ c.rows_are_there.ensures c.requires.chain
+          (ap (λ (n : ℕ). n - 1) c.head-row.ensures)),
+      refl,
+      NoCall,
+    )
+
 pub close_resource-requires-clause-alive : goal.close_resource-requires-clause-alive
 close_resource-requires-clause-alive g c = λ κs lives gone.
     let at = resource g (goal.at.close_resource-requires-clause-alive g c).After-step-kind _
@@ -82,44 +124,44 @@ returns-then-has_resource-clause-work g c = λ rest comes.
     let one = c.close_resource.ensures.work in
     (one.0, worked_call _ _ _ one.0 _ behind at (take_slot_first _ _ _) one.1, one.2, one.3)
 
-pub empty-requires-clause-alive : goal.empty-requires-clause-alive
-empty-requires-clause-alive g c = λ gone.
+pub empty_cells-requires-clause-alive : goal.empty_cells-requires-clause-alive
+empty_cells-requires-clause-alive g c = λ gone.
     comes_alive _ _ c.requires.duty.1 (sym (cells g c _ c.requires.duty.1).keeps.status ∙ gone)
 
-pub empty-requires-clause-duty : goal.empty-requires-clause-duty
-empty-requires-clause-duty g c = record {
+pub empty_cells-requires-clause-duty : goal.empty_cells-requires-clause-duty
+empty_cells-requires-clause-duty g c = record {
   rest = Settle ∷ c.requires.duty.0;
   next = (cells g c _ c.requires.duty.1).agenda ∙ cells_first _ _ 0 c.cells_of.result _;
 }
 
-pub gate_close-requires-clause-table : goal.gate_close-requires-clause-table
-gate_close-requires-clause-table g c =
-    let at = emptied_all g (goal.at.gate_close-requires-clause-table g c).After-cells_of c.empty.new.hand.view _
-    c.empty.ensures.work c.requires.duty.1 in
+pub gate_close-requires-2-clause-table : goal.gate_close-requires-2-clause-table
+gate_close-requires-2-clause-table g c =
+    let at = emptied_all g (goal.at.gate_close-requires-2-clause-table g c).After-cells_of c.empty_cells.new.hand.view _
+    c.empty_cells.ensures.work c.requires.duty.1 in
     let words = c.words-words.ensures ∙ c.self.view_is in (
-      c.empty.ensures.kept.table ∙ (c.step-kind.ensures.table
+      c.empty_cells.ensures.kept.table ∙ (c.step-kind.ensures.table
           ∙ (c.gate_load.ensures.kept.table ∙ (c.requires.table.0 ∙ sym (ap (λ (t : TableState). t.table) words)))),
       at.keeps.layout ∙ (c.requires.table.1 ∙ sym (ap (λ (t : TableState). t.layout) words)),
     )
 
-pub gate_close-requires-clause-alive : goal.gate_close-requires-clause-alive
-gate_close-requires-clause-alive g c = λ gone.
-    let at = emptied_all g (goal.at.gate_close-requires-clause-alive g c).After-cells_of c.empty.new.hand.view _
-    c.empty.ensures.work c.requires.duty.1 in
+pub gate_close-requires-2-clause-alive : goal.gate_close-requires-2-clause-alive
+gate_close-requires-2-clause-alive g c = λ gone.
+    let at = emptied_all g (goal.at.gate_close-requires-2-clause-alive g c).After-cells_of c.empty_cells.new.hand.view _
+    c.empty_cells.ensures.work c.requires.duty.1 in
     comes_alive _ _ c.requires.duty.1 (sym at.keeps.status ∙ gone)
 
-pub gate_close-requires-clause-duty : goal.gate_close-requires-clause-duty
-gate_close-requires-clause-duty g c =
-    let at = emptied_all g (goal.at.gate_close-requires-clause-duty g c).After-cells_of c.empty.new.hand.view _
-    c.empty.ensures.work c.requires.duty.1 in
+pub gate_close-requires-2-clause-duty : goal.gate_close-requires-2-clause-duty
+gate_close-requires-2-clause-duty g c =
+    let at = emptied_all g (goal.at.gate_close-requires-2-clause-duty g c).After-cells_of c.empty_cells.new.hand.view _
+    c.empty_cells.ensures.work c.requires.duty.1 in
     subst (ClosesRow (c.head-row.result - 1)) (sym (at.agenda ∙ settle_end_first _ _ _)) refl
 
 pub returns-clause-work : goal.returns-clause-work
 returns-clause-work g c = λ rest comes.
-    let at = emptied_all g (goal.at.returns-clause-work g c).After-cells_of c.empty.new.hand.view rest
-    c.empty.ensures.work comes in (
+    let at = emptied_all g (goal.at.returns-clause-work g c).After-cells_of c.empty_cells.new.hand.view rest
+    c.empty_cells.ensures.work comes in (
       [],
-      ended _ _ _ [] _ c.gate_close.result (Settle ∷ rest) at c.gate_close.ensures.view
+      ended _ _ _ [] _ c.gate_close-2.result (Settle ∷ rest) at c.gate_close-2.ensures.view
           (head_unlocked c.args.hand.now.view _ c.rows_are_there.ensures c.requires.chain
           (ap (λ (n : ℕ). n - 1) c.head-row.ensures)),
       refl,
