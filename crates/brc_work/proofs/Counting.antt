@@ -114,12 +114,12 @@ done_with totals (Stopped before) = refl
 -- ---- closes
 
 -- A hand that claims the marks that it has found asks for closes alone,
-claims_close : (word marks left : ℕ) (v w : View) (cs : List HostCall) → ClaimsFound word marks v left cs w
-    → host_faults cs ≡ 0
-claims_close word marks left v w cs scans.NoMark = refl
-claims_close word marks left v w cs (scans.NextMark more closes later u x found some claims) =
+claims_close : (word marks : ℕ) (v : View) (left : ℕ) (w : View) (cs : List HostCall)
+    → ClaimsFound word marks v left cs w → host_faults cs ≡ 0
+claims_close word marks v left w cs scans.NoMark = refl
+claims_close word marks v left w cs (scans.NextMark more closes later u x found some claims) =
     host_faults_then closes later
-    ∙ (ap (λ (n : ℕ). n + host_faults later) (claims_close word marks more v u closes found)
+    ∙ (ap (λ (n : ℕ). n + host_faults later) (claims_close word marks v more u closes found)
     ∙ ap (λ (n : ℕ). 0 + n) (works_close _ x later claims.follows.works))
 
 -- and so does one that looks through its queue,

@@ -25,28 +25,20 @@ begun c start is =
 -- The thread can do the duty with which its step has started.
 able : (c : After-dispatch) (start : Start) (d : Duty) → c.dispatch.new.start ≡ start
     → duty_of start ≡ Some d
-begun : (c : After-dispatch) (start : Start) → c.dispatch.new.start ≡ start
-    → HasStarted c.args.functions.now c.args.blocks c.args.number (actor_of c.args.thread.now)
-    c.dispatch.new.thread start
-begun c start is =
-    subst (HasStarted c.args.functions.now c.args.blocks c.args.number (actor_of c.args.thread.now)
-    c.dispatch.new.thread) is
-    (dispatched c.args.functions.now c.args.blocks c.args.number c.args.thread.now c.dispatch.new.thread
-    c.dispatch.new.start c.requires.alive c.requires.empty (rw c.layout.ensures at c.dispatch.ensures))
+    → CanDo c.args.blocks c.args.number (length c.args.memory.now.local)
+    (word_in c.args.memory.now) (actor_of c.dispatch.new.thread) d
+able c start d is does =
+    can_do c.args.functions.now c.args.blocks c.args.number (word_in c.args.memory.now) (actor_of c.args.thread.now)
+    c.args.exit c.dispatch.new.thread _ start d (begun c start is) does c.requires.can
 
 -- ---- no duty
 
 pub returns-in-Stuck : goal.returns-in-Stuck
 returns-in-Stuck c =
     let step =
-begun : (c : After-dispatch) (start : Start) → c.dispatch.new.start ≡ start
-    → HasStarted c.args.functions.now c.args.blocks c.args.number (actor_of c.args.thread.now)
-    c.dispatch.new.thread start
-begun c start is =
-    subst (HasStarted c.args.functions.now c.args.blocks c.args.number (actor_of c.args.thread.now)
-    c.dispatch.new.thread) is
-    (dispatched c.args.functions.now c.args.blocks c.args.number c.args.thread.now c.dispatch.new.thread
-    c.dispatch.new.start c.requires.alive c.requires.empty (rw c.layout.ensures at c.dispatch.ensures))
+    stuck_step c.args.functions.now c.args.blocks c.args.number (word_in c.args.memory.now)
+    (actor_of c.args.thread.now) c.args.exit c.dispatch.new.thread
+    (begun (goal.at.returns-in-Stuck c).After-dispatch starts.Stuck c.in-Stuck.is) in
     record {
       did = step.answer;
       words = step.memory_is;
@@ -59,14 +51,9 @@ begun c start is =
 pub returns-in-Moved : goal.returns-in-Moved
 returns-in-Moved c =
     let step =
-begun : (c : After-dispatch) (start : Start) → c.dispatch.new.start ≡ start
-    → HasStarted c.args.functions.now c.args.blocks c.args.number (actor_of c.args.thread.now)
-    c.dispatch.new.thread start
-begun c start is =
-    subst (HasStarted c.args.functions.now c.args.blocks c.args.number (actor_of c.args.thread.now)
-    c.dispatch.new.thread) is
-    (dispatched c.args.functions.now c.args.blocks c.args.number c.args.thread.now c.dispatch.new.thread
-    c.dispatch.new.start c.requires.alive c.requires.empty (rw c.layout.ensures at c.dispatch.ensures))
+    moved_step c.args.functions.now c.args.blocks c.args.number (word_in c.args.memory.now)
+    (actor_of c.args.thread.now) c.args.exit c.dispatch.new.thread
+    (begun (goal.at.returns-in-Moved c).After-dispatch starts.Moved c.in-Moved.is) in
     record {
       did = step.answer;
       words = step.memory_is;
@@ -79,14 +66,9 @@ begun c start is =
 pub returns-in-Calling : goal.returns-in-Calling
 returns-in-Calling c =
     let step =
-begun : (c : After-dispatch) (start : Start) → c.dispatch.new.start ≡ start
-    → HasStarted c.args.functions.now c.args.blocks c.args.number (actor_of c.args.thread.now)
-    c.dispatch.new.thread start
-begun c start is =
-    subst (HasStarted c.args.functions.now c.args.blocks c.args.number (actor_of c.args.thread.now)
-    c.dispatch.new.thread) is
-    (dispatched c.args.functions.now c.args.blocks c.args.number c.args.thread.now c.dispatch.new.thread
-    c.dispatch.new.start c.requires.alive c.requires.empty (rw c.layout.ensures at c.dispatch.ensures))
+    called_step c.args.functions.now c.args.blocks c.args.number (word_in c.args.memory.now)
+    (actor_of c.args.thread.now) c.args.exit c.dispatch.new.thread c.in-Calling.call
+    (begun (goal.at.returns-in-Calling c).After-dispatch (starts.Calling c.in-Calling.call) c.in-Calling.is) in
     record {
       did = step.answer;
       words = step.memory_is;
