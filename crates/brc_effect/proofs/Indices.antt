@@ -35,7 +35,7 @@ word_low : (layout : Layout) (t w : ℕ) → row_count layout ≤ total_limit �
 word_low layout zero w few there low = omega (arith, few, low)
 word_low layout (suc t) w few there low =
     let rows : suc t * layout.rows ≤ layout.workers * layout.rows =
-        mul-le (suc t) layout.rows layout.workers layout.rows there (omega arith) in
+    mul-le (suc t) layout.rows layout.workers layout.rows there (omega arith) in
     omega (arith, few, low, rows)
 
 -- The index that a duty names is small, if its word exists and suits the duty.

@@ -42,7 +42,7 @@ DutiesAreKept = (p : Accounts) (n : ℕ) (m : Machine) (t : ℕ) (a : Actor) (d 
 
 -- What a thread can rely on at its next duty: the word is there, the value found suits the duty, and a store knows the
 -- value that it overwrites.
-pub record DutyWithin (n : ℕ) (m : Machine) (t : ℕ) (a : Actor) (d : Duty) : Type 0 where
+pub record DutyWithin (m : Machine) (t : ℕ) (a : Actor) (d : Duty) : Type 0 where
   pub there : IsThere m.layout (address_of m.layout t a.head d)
   pub head : a.head ≤ row_count m.layout
   pub used : used_by a.used d ≤ row_count m.layout
@@ -52,7 +52,7 @@ pub record DutyWithin (n : ℕ) (m : Machine) (t : ℕ) (a : Actor) (d : Duty) :
 
 abbrev pub DutiesAreWithin : Type 0
 DutiesAreWithin = (p : Accounts) (n : ℕ) (m : Machine) (t : ℕ) (a : Actor) (d : Duty) (rest : List Duty) → Counts p n m
-    → ComesNext m t a d rest → DutyWithin n m t a d
+    → ComesNext m t a d rest → DutyWithin m t a d
 
 -- The object of each reference in a thread's account has a row.
 abbrev pub AccountsAreThere : Type 0

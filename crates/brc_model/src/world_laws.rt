@@ -51,7 +51,7 @@ pub fn steps_move()
         → may_claim w.layout t a row ≡ true → mark_of w.layout w.memory row ≢ UNSET → step w t (Claim row) ≢ w }
     ensures misses { (p : Module) (w : World) (t : ℕ) (a : StepActor) (row : ℕ) → IsReachable p w → slice_get w.actors t
         ≡ Some a → may_claim w.layout t a row ≡ true → mark_of w.layout w.memory row ≡ UNSET
-            → step w t (Claim row) ≡ w }
+        → step w t (Claim row) ≡ w }
     ensures stays { (w : World) (t : ℕ) (a : StepActor) (row : ℕ) → slice_get w.actors t ≡ Some a
         → may_claim w.layout t a row ≡ false → step w t (Claim row) ≡ w }
     ensures stops { (p : Module) (w : World) (t : ℕ) (a : StepActor) → IsReachable p w → slice_get w.actors t ≡ Some a

@@ -47,8 +47,12 @@ pub plain_after : (layout : Layout) (t : ℕ) (a : Actor) (d : Duty) (rest : Lis
     → sum_by at_once rest ≡ 0 → sum_by at_once (actor_by layout t a d rest found).agenda ≡ 0
 plain_after layout t a d rest found none =
     let next = continuation layout t (is_running a.status) a.head d found in
-    sum_by-ready at_once (record { settle = refl; scan = λ w n. refl; take =
-        λ w n. refl }) (new_head a.head d found) (next ++ rest)
+    sum_by-ready at_once (record {
+      settle = refl;
+      scan = λ w n. refl;
+      take =
+          λ w n. refl;
+    }) (new_head a.head d found) (next ++ rest)
     ∙ omega (
       arith,
       sum_by-append at_once next rest,

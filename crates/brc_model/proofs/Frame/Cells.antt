@@ -32,7 +32,7 @@ use Rattle.brc_model.proofs.Frame.Leaves.{head_of, gives_held, locked_alive}
 abbrev memory_after : Machine → ℕ → Actor → Duty → Address → ℕ
 memory_after m t a d =
     written m.memory (address_of m.layout t a.head d) (new_word m.layout t a.head d (m.memory
-        (address_of m.layout t a.head d)))
+    (address_of m.layout t a.head d)))
 
 -- Says whether the duty stores a reference in the row's cell.
 abbrev pub fills_cell : ℕ → ℕ → Duty → Bool

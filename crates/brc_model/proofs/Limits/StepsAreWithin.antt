@@ -83,7 +83,7 @@ module _ {p : Accounts} {n : ℕ} {m : Machine} {t : ℕ} {a : Actor} {rest : Li
       let fits = agenda_here here alive in
       let low = lowest_used marks a.used w (head_of here) fits.1 in
       mark_there (found_row m.layout t w marks) here (used_low t a
-          (marks_of_word * w + lowest_mark marks) here.core here.found low)
+      (marks_of_word * w + lowest_mark marks) here.core here.found low)
   duty_there (MarksLoad w) here alive small = (own_thread here, head_of here)
   duty_there Finish here alive small = own_thread here
   duty_there _ here alive small = small.row _ (eq-eqb _ _ refl)
@@ -141,7 +141,7 @@ module _ {p : Accounts} {n : ℕ} {m : Machine} {t : ℕ} {a : Actor} {rest : Li
 module _ {p : Accounts} {n : ℕ} {m : Machine} {t : ℕ} {a : Actor} where
   -- A thread's next duty can rely on what `DutyWithin` says.
   pub duty_within : (d : Duty) (rest : List Duty) → Doing p n m t a d rest → IsSmall (row_count m.layout) d → IsFew n m
-      → DutyWithin n m t a d
+      → DutyWithin m t a d
   duty_within d rest doing small few =
       let core = doing.kept.core in
       let here : AtDuty p n m t a d rest = record { core = core; found = doing.found; agenda = doing.agenda } in
@@ -166,7 +166,7 @@ does_within : (p : Module) (n : ℕ) (m : StepMachine) (t : ℕ) (a : StepActor)
     → IsWithin (world_of m) t a.actor d
 does_within p n m t a d rest place bounded few found fits =
     let now = sitting a.actor (d ∷ rest) in
-    let within : DutyWithin n (with_actor (counting m) t now) t now d =
+    let within : DutyWithin (with_actor (counting m) t now) t now d =
     duty_within d rest
     fits.doing (fits.small bounded.ranges.kinds (bounded.ranges.each t a.actor (its_found m t a found))).0
     (record { threads = few; cells = bounded.ranges.kinds }) in

@@ -87,19 +87,19 @@ weighed_after m t a d rest next is agenda follows x =
     record {
       waiting =
           weight-stepped (waits x) (light (waits x) refl (λ w n. refl)
-              (λ w n. refl)) m.actors t a _ d next rest head is agenda now
+          (λ w n. refl)) m.actors t a _ d next rest head is agenda now
           refl;
       carried =
           weight-stepped (carries x) (light (carries x) refl (λ w n. refl)
-              (λ w n. refl)) m.actors t a _ d next rest head is agenda
+          (λ w n. refl)) m.actors t a _ d next rest head is agenda
           now refl;
       merging =
           weight-stepped (merges x) (light (merges x) refl (λ w n. refl)
-              (λ w n. refl)) m.actors t a _ d next rest head is agenda
+          (λ w n. refl)) m.actors t a _ d next rest head is agenda
           now refl;
       deciding =
           weight-stepped (decides x) (light (decides x) refl (λ w n. refl)
-              (λ w n. refl)) m.actors t a _ d next rest head is agenda
+          (λ w n. refl)) m.actors t a _ d next rest head is agenda
           now refl;
     }
 

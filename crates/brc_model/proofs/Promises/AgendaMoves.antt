@@ -93,8 +93,14 @@ moves {before = before} head d rest next finds SettlesRow = λ is.
 moves head d rest next finds (Claims x set) = others_follow head d rest next ((λ e. cc), ((λ e. cc), tt))
 moves head d rest next finds (ClaimsNone x) = others_follow head d rest next ((λ e. cc), tt)
 moves head d rest next finds (Exits i n) = others_follow head d rest next ((λ e. cc), ((λ e. cc), tt))
-moves head d rest next finds (Scans w n) = others_follow head d rest next ((λ e. cc), (next_word w
-    (n - marks_of_word) n, tt))
+moves head d rest next finds (Scans w n) = others_follow head d rest next (
+  (λ e. cc),
+  (
+    next_word w
+        (n - marks_of_word) n,
+    tt,
+  ),
+)
 moves head d rest next finds (Takes w marks set) =
     others_follow head d rest next ((λ e. cc), ((λ e. cc), (less_found w marks finds.0 finds.1, tt)))
 moves head d rest next finds (TakesNone w marks) =

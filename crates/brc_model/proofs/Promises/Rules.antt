@@ -178,7 +178,7 @@ module _ (memory : Address → ℕ) (layout : Layout) (t : ℕ) (running : Bool)
       let word = subst (λ w. By d found w next moves) c.left_is rule in
       let duties = subst (λ ds. By d found (new_word layout t head d found) ds moves) c.next_is word in
       subst (By d found (new_word layout t head d found)
-          (continuation layout t running head d found)) c.moves_are duties
+      (continuation layout t running head d found)) c.moves_are duties
 
   -- One rule applies where the numbers are the same, the other where they differ.
   by_same : {d : Duty} {found : ℕ} (a b : ℕ) → (a ≡ b → GoesByRule d found) → (a ≢ b → GoesByRule d found)

@@ -72,7 +72,7 @@ module _ {p : Accounts} {n : ℕ} {m : Machine} {t : ℕ} {a : Actor} {d : Duty}
       → ClaimStep m t a d x rest behind → FitsAfter p m t a d rest
   claim_step x behind here alive steady step =
       elim (mark_of m.layout m.memory x == SET) as (λ b. (mark_of m.layout m.memory x == SET) ≡ b
-          → FitsAfter p m t a d rest) [
+      → FitsAfter p m t a d rest) [
         | true ↦ λ e.
             let marked : mark_of m.layout m.memory x ≡ SET = eqb-true (mark_of m.layout m.memory x) 1 e in
             let above = mark_above x here.core marked in

@@ -328,7 +328,7 @@ module _ {p : Accounts} {n : ℕ} {m : Machine} {t : ℕ} {a : Actor} {d : Duty}
         | inr other ↦
             mark_kept x here alive (spares other.1)
             (ap (λ (memory : Address → ℕ). mark_of m.layout memory x) now
-                ∙ taken_elsewhere m.layout m.memory y x other.1)
+            ∙ taken_elsewhere m.layout m.memory y x other.1)
       ]
 
 module _ {p : Accounts} {n : ℕ} {m : Machine} {t : ℕ} {a : Actor} {rest : List Duty} where

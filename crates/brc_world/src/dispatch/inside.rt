@@ -21,7 +21,8 @@ pub(super) fn go_on_inside(
     start: &mut Start,
 )
     requires { CanDispatch thread.old }
-    ensures { HasDispatched thread.old (action_inside layout number stage (Some instr) thread.old) start.new thread.new }
+    ensures { HasDispatched thread.old (action_inside layout number stage
+        (Some instr) thread.old) start.new thread.new }
 {
     match stage {
         Stage::InRange => use_cell(instr, thread, start),

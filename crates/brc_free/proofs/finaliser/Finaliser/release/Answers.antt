@@ -37,7 +37,8 @@ end_release-remaining-requires-clause-duty g c =
 -- What the release leaves to a call.
 ended : (g : given.Over) (c : After-end_release-remaining g)
     → EndsRelease c.args.row c.release_local-release.result [] c.release_local-release.new.hand.view
-    → HasWorked c.release_local-release.new.hand.view [] (remaining_left c.args.row c.end_release-remaining.result ++ [])
+    → HasWorked c.release_local-release.new.hand.view []
+    (remaining_left c.args.row c.end_release-remaining.result ++ [])
     c.end_release-remaining.new.hand.view
 ended g c next = c.end_release-remaining.ensures.work [] next
 
@@ -73,7 +74,8 @@ merge_or_give_up-requires-clause-duty g c =
 
 -- and otherwise what the call does.
 called : (g : given.Over) (c : After-merge_or_give_up g)
-    → HasWorked c.release_local-release.new.hand.view [] (remaining_left c.args.row c.end_release-remaining.result ++ [])
+    → HasWorked c.release_local-release.new.hand.view []
+    (remaining_left c.args.row c.end_release-remaining.result ++ [])
     c.end_release-remaining.new.hand.view
     → HasWorked c.release_local-release.new.hand.view [] [] c.merge_or_give_up.new.hand.view
 called g c at = worked_more at (c.merge_or_give_up.ensures.work [] at.agenda)

@@ -64,7 +64,7 @@ returns-then-mark-ne-SET-clause-work g c =
     c.mark_claim-found.ensures.view ∙ ap (λ (y : ℕ). view_after (claiming v y) found) row_is in
     let none : (mark_found v x found == 1) ≡ false =
     ap (λ (k : ℕ). k == 1) (sym (mark_is g at.After-mark (is_own g at.After-own_row-there)))
-        ∙ ne_eqb c.mark.result 1 c.if-mark-ne-SET.true in (
+    ∙ ne_eqb c.mark.result 1 c.if-mark-ne-SET.true in (
       [],
       record {
         found = found;

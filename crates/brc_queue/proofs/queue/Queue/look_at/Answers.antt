@@ -64,7 +64,8 @@ loop-marks-init g c =
 pub claim-requires-clause-used : goal.claim-requires-clause-used
 claim-requires-clause-used g c =
     let kept = c.loop-marks.invariant in
-    let low = lowest_used c.loop-marks.marks c.args.hand.now.view.actor.used c.args.word c.loop-marks-test.true kept.4 in
+    let low =
+    lowest_used c.loop-marks.marks c.args.hand.now.view.actor.used c.args.word c.loop-marks-test.true kept.4 in
     omega (arith, low, c.lowest_mark.ensures.lowest, kept.3.used)
 
 pub loop-marks-smaller : goal.loop-marks-smaller

@@ -51,5 +51,9 @@ pub look_at-requires-clause-used : goal.look_at-requires-clause-used
 look_at-requires-clause-used g c =
     let v = c.args.hand.now.view in
     let kept = c.loop-word.invariant in
-    omega (arith, kept.3.used, word_used v.actor.used c.loop-word.word (omega
-        (arith, c.loop-word-test.true, c.words_used-word-end.ensures, c.used.ensures)))
+    omega (
+      arith,
+      kept.3.used,
+      word_used v.actor.used c.loop-word.word (omega
+          (arith, c.loop-word-test.true, c.words_used-word-end.ensures, c.used.ensures)),
+    )

@@ -69,7 +69,8 @@ returns-then-mark-ne-SET-clause-work g c =
       [],
       took_none v w v.actor.used c.args.word c.args.marks found c.requires.duty c.requires.some
           c.step-found.ensures.view
-          (ap (λ (k : ℕ). k == 1) (sym (mark_is g (goal.at.returns-then-mark-ne-SET-clause-work g c).After-mark)) ∙ none)
+          (ap (λ (k : ℕ). k == 1) (sym (mark_is g (goal.at.returns-then-mark-ne-SET-clause-work g c).After-mark))
+          ∙ none)
           (take_head v w v.actor.used c.args.word c.args.marks found c.requires.duty c.step-found.ensures.view
           c.requires.settled),
       refl,
