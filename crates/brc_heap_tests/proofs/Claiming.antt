@@ -10,6 +10,7 @@ use Rattle.brc_model.specs.declared.actor.Status.{Status}
 use Rattle.brc_model.specs.declared.actor.Status.TheVariants.{Running, Gone}
 use Rattle.brc_model.specs.Machine.{status_by}
 use Rattle.brc_model.specs.Duties.{ready, claimed, once_merged, merge_result}
+use Rattle.brc_heap.specs.Marks.{mark_found}
 use Rattle.brc_table.specs.declared.view.View.{View}
 use Rattle.brc_table.specs.Views.{view_by, view_after, claiming}
 
@@ -36,11 +37,13 @@ claim_by zero x = refl
 claim_by (suc head) x = refl
 
 -- The claim of a set mark leaves the merge to be done.
-pub claim_next : (v : View) (x found : ℕ) → v.actor.status ≡ Running → found ≡ 1
+pub claim_next : (v : View) (x found : ℕ) → v.actor.status ≡ Running → mark_found v x found ≡ 1
     → Works (view_after (claiming v x) found) (MergeSwap x Handed ∷ Settle ∷ [])
-claim_next v x found running set =
-    subst (λ (f : ℕ). Works (view_after (claiming v x) f) (MergeSwap x Handed ∷ Settle ∷ [])) (sym set)
-    (record { status = running; agenda = claim_by v.actor.head x })
+claim_next v x found running set = record {
+  status = running;
+  agenda =
+      ap (λ (mark : ℕ). ready v.actor.head ((claimed x mark ++ Settle ∷ []) ++ [])) set ∙ claim_by v.actor.head x;
+}
 
 swap_by : (head x local : ℕ) (rest : List Duty) (none : Bool) → none ≡ false
     → ready head ((if none then once_merged x Handed else MergeLoad x (local_part local) Handed ∷ []) ++ rest)
@@ -97,11 +100,11 @@ moved : {v u : View} {work : List Duty} → u ≡ v → Works v work → Works u
 moved {v} {u} {work} same works = subst (λ (w : View). Works w work) (sym same) works
 
 -- After the swap the shared word is to be loaded.
-pub at_load : (v one two : View) (x set local : ℕ) → v.actor.status ≡ Running → set ≡ 1
-    → one ≡ view_after (claiming v x) set → (local == 0) ≡ false → two ≡ view_after one local
+pub at_load : (v one two : View) (x found local : ℕ) → v.actor.status ≡ Running → mark_found v x found ≡ 1
+    → one ≡ view_after (claiming v x) found → (local == 0) ≡ false → two ≡ view_after one local
     → Works two (MergeLoad x (local_part local) Handed ∷ Settle ∷ [])
-at_load v one two x set local running is first some second =
-    moved second (swap_next one x local (Settle ∷ []) (moved first (claim_next v x set running is)) some)
+at_load v one two x found local running set first some second =
+    moved second (swap_next one x local (Settle ∷ []) (moved first (claim_next v x found running set)) some)
 
 -- After the load it is to be exchanged, and after an exchange that wins the handed reference is given up.
 pub at_exchange : (two three : View) (x c word : ℕ) → Works two (MergeLoad x c Handed ∷ Settle ∷ [])

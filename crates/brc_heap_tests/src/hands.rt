@@ -5,7 +5,11 @@ ghost use Rattle.brc_heap_tests.specs.Ready.{IsAlone};
 
 use crate::calls::{opened, retain_and_release, worker};
 use brc_heap::{Hand, Heap, LocalRelease};
+use std::alloc::Global;
 use std::test::*;
+
+/// The most rows of a worker.
+const MOST_ROWS: u16 = 1024;
 
 /// Asks for the worker's hand. Returns whether it is refused; main's hand is then as before.
 fn refuses(heap: &Heap<u32>, main: &mut Hand<u32>, thread: u8) -> bool
@@ -37,6 +41,25 @@ fn running_threads_keep_the_heap(rt: HostRuntime) -> Result<(), Fail> {
     match heap.finish(main) {
         Ok(_) => assert!(rt; false, "a heap ends while main runs"),
         Err(back) => assert!(rt; back.main.has_given(1)),
+    }
+    Ok(())
+}
+
+/// Returns how many mark words a heap of four workers with these rows has, or `None` if there is no such heap.
+fn mark_words(alloc: Global, rows: u16) -> Result<Option<usize>, Fail> {
+    if rows == 0 || rows > MOST_ROWS {
+        return Ok(None);
+    }
+    let (heap, _main) = opened(alloc, 4, rows)?;
+    Ok(Some(heap.words().mark_words()))
+}
+
+// Main's block has one mark word, and each worker's block has one for every 64 rows that it begins.
+#[test]
+fn mark_words_of_four_workers(rt: HostRuntime) -> Result<(), Fail> {
+    for (rows, words) in [(64, 5), (65, 9), (130, 13), (1024, 65)] {
+        let found = mark_words(rt.alloc(), rows)?;
+        assert_eq!(rt; found, Some(words), "{rows} rows");
     }
     Ok(())
 }

@@ -1,15 +1,26 @@
 use Rattle.std.proofs.Common.{◌≡◌, ℕ, List, [], ◌∷◌, refl, sym, ap, ◌∙◌, subst}
 use Rattle.std.proofs.lemmas.Bool.{ne_eqb}
-use Rattle.brc_model.specs.Layout.{root_row}
+use Rattle.brc_word.specs.Words.{mark_at}
+use Rattle.brc_model.specs.declared.layout.Layout.{Layout}
+use Rattle.brc_model.specs.Layout.{root_row, mark_bit}
 use Rattle.brc_model.specs.declared.duty.Duty.{Duty}
 use Rattle.brc_model.specs.declared.duty.Duty.TheVariants.{MergeLoad, MergeExchange, SharedLoad, SharedExchange, Settle}
 use Rattle.brc_model.specs.declared.duty.Reason.TheVariants.{Handed}
 use Rattle.brc_table.specs.declared.view.View.{View}
+use Rattle.brc_table.specs.Hands.{TableState}
 use Rattle.brc_table.specs.Views.{view_after}
+use Rattle.brc_heap.specs.Marks.{mark_found}
 use Rattle.brc_table.specs.Accesses.{IsNext}
 use Rattle.brc_heap_tests.proofs.Claiming.{Works, never_gone, at_load, at_exchange, at_release, at_last}
 use Rattle.brc_heap_tests.proofs.queue.merges_own.Goals.{After-local_count-carried, After-step-queued, After-step-left}
 use Rattle.brc_heap_tests.proofs.queue.merges_own.Goals as goal
+
+-- The root's mark in the word that was found is set.
+is_queued : (c : After-local_count-carried) → mark_found c.args.main.now.view root_row c.mark_claim-found.result ≡ 1
+is_queued c =
+    let same = ap (λ (t : TableState). t.layout) c.words-words.ensures ∙ sym c.requires.alone.table.1 in
+    sym (c.mark.ensures ∙ ap (λ (l : Layout). mark_at c.mark_claim-found.result (mark_bit l root_row)) same)
+    ∙ c.if-mark-ne-QUEUED.false
 
 -- After the swap the shared word is to be loaded.
 loads : (c : After-local_count-carried)
@@ -17,9 +28,9 @@ loads : (c : After-local_count-carried)
 loads c =
     subst (λ (n : ℕ). Works c.step-local.new.hand.view (MergeLoad root_row n Handed ∷ Settle ∷ []))
     (sym c.local_count-carried.ensures.word)
-    (at_load c.args.main.now.view c.mark_claim.new.hand.view c.step-local.new.hand.view root_row
-    c.mark_claim.result c.step-local.result c.requires.alone.status c.if-mark_claim-ne-QUEUED.false
-    c.mark_claim.ensures.view (ne_eqb c.step-local.result 0 c.if-local-eq0.false) c.step-local.ensures.view)
+    (at_load c.args.main.now.view c.mark_claim-found.new.hand.view c.step-local.new.hand.view root_row
+    c.mark_claim-found.result c.step-local.result c.requires.alone.status (is_queued c)
+    c.mark_claim-found.ensures.view (ne_eqb c.step-local.result 0 c.if-local-eq0.false) c.step-local.ensures.view)
 
 pub step-queued-requires-clause-next : goal.step-queued-requires-clause-next
 step-queued-requires-clause-next c =
