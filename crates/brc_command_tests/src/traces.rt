@@ -39,7 +39,7 @@ const TWO_OWNED: &[u8] =
 // nothing: they have no line, and are counted.
 const STOP_PLAN: &[u8] =
     b"schedule 1\nworkers 1\nrows 4\ncall 1 f 1\nstop 0\nstep 1 ok 1\nstop 1\nstep 1 ok 4\nstop 1\nstop 1\n\
-      step 1 ok 25\nstop 1\n";
+      step 1 ok 24\nstop 1\n";
 
 // The worker unlocks first. It gives up `v1` and then `v2`, and closes both after that, the last one first.
 const STOP_TRACE: &[u8] =
@@ -71,9 +71,8 @@ const STOP_TRACE: &[u8] =
 29  thread 1  exit: root  Marked  row 1 mark: clear -> set
 30  thread 1  exit: root  OwnerRuns  thread 0: running
 31  thread 1  exit: leave  SaysLeaving  thread 1: running -> leaving
-32  thread 1  exit: marks  ScanFindsNone  row 2 mark: clear
-33  thread 1  exit: marks  ScanFindsNone  row 3 mark: clear
-34  thread 1  exit: gone  SaysGone  thread 1: leaving -> gone
+32  thread 1  exit: marks  MarksRead  thread 1 marks 0: none
+33  thread 1  exit: gone  SaysGone  thread 1: leaving -> gone
 threads 1
 running 1
 created 3

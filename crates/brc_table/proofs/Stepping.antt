@@ -146,7 +146,7 @@ module _ (kept : DutiesAreKept) (within : DutiesAreWithin) (stay : GuardedCellsS
   comes : ComesNext m v.thread v.actor d rest
   comes = record { found = does.stands.acts id v does.here; agenda = does.agenda; alive = does.alive }
 
-  pub relies : DutyWithin (1 + m.layout.workers) m v.thread v.actor d
+  pub relies : DutyWithin m v.thread v.actor d
   relies = within does.stands.accounts (1 + m.layout.workers) m v.thread v.actor d rest does.stands.counts comes
 
   pub has : HasWord m.layout (address_of v.layout v.thread v.actor.head d)

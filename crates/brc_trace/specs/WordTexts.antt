@@ -78,12 +78,12 @@ status_text word =
 -- a row's mark before and after a step that sets it: it was set if the step has left the word as it was
 abbrev pub marked_text : ℕ → ℕ → ℕ → List ℕ
 marked_text row found left =
-    row_text row ++ (if left == found then codes " mark: set -> set" else codes " mark: clear -> set")
+    row_text row ++ (if left == found then codes " mark: set" else codes " mark: clear -> set")
 
 -- a row's mark before and after a step that takes it: it was set if the step has changed the word
 abbrev pub taken_text : ℕ → ℕ → ℕ → List ℕ
 taken_text row found left =
-    row_text row ++ (if left == found then codes " mark: clear -> clear" else codes " mark: set -> clear")
+    row_text row ++ (if left == found then codes " mark: clear" else codes " mark: set -> clear")
 
 -- the rows whose marks are set among the first n of thread t's mark word w, by rising row
 unfoldable pub rows_set : Layout → ℕ → ℕ → ℕ → ℕ → List ℕ

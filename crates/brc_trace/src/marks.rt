@@ -46,7 +46,7 @@ fn show_marked(row: u64, found: u64, left: u64, line: &mut Line) -> Result<(), A
     ensures { OnOk result (line.new ≡ line.old ++ marked_text row found left) }
 {
     let text = if left == found {
-        " mark: set -> set"
+        " mark: set"
     } else {
         " mark: clear -> set"
     };
@@ -58,7 +58,7 @@ fn show_taken(row: u64, found: u64, left: u64, line: &mut Line) -> Result<(), Al
     ensures { OnOk result (line.new ≡ line.old ++ taken_text row found left) }
 {
     let text = if left == found {
-        " mark: clear -> clear"
+        " mark: clear"
     } else {
         " mark: set -> clear"
     };
