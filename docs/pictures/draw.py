@@ -5,9 +5,9 @@
     python3 docs/pictures/draw.py --check   changes nothing; fails if a drawing there is out of date
 
 What is read: the rules of the step relation (crates/brc_model/specs/Rules.antt), the word of each duty (Duties.antt
-there), the numbers of the words (crates/brc_word/specs/Words.antt and Header.antt), the kinds (Kinds.antt), the places
-of a table's words (crates/brc_table/specs/Places.antt) and crates.txt. A drawing whose arrows are no longer the rules
-is an error.
+there), the numbers of the words (crates/brc_word/specs/Words.antt and src/values.rt), the kinds (Kinds.antt), the
+places of a table's words (crates/brc_table/specs/Places.antt), the limits (Limits.antt) and crates.txt. A drawing whose
+arrows are no longer the rules is an error.
 """
 import re
 import sys
@@ -17,7 +17,7 @@ from pathlib import Path
 ROOT = Path(__file__).resolve().parents[2]
 PAGE = ROOT / "docs" / "PICTURES.md"
 MODEL = ROOT / "crates" / "brc_model" / "specs"
-WORD = ROOT / "crates" / "brc_word" / "specs"
+WORD = ROOT / "crates" / "brc_word"
 TABLE = ROOT / "crates" / "brc_table" / "specs"
 
 
@@ -89,15 +89,28 @@ def read_addresses():
     return found
 
 
-def read_numbers():
-    """The named numbers of the words."""
-    numbers = {}
-    for name, value in re.findall(r"^(\w+) = ([\d\w ^*+-]+)$", (WORD / "Words.antt").read_text(), re.M):
+def values_in(path, known):
+    """The definitions `name = value` of a file, of numbers and of names that are known."""
+    numbers = dict(known)
+    for name, value in re.findall(r"^(\w+) = ([\w ^*+-]+)$", path.read_text(), re.M):
         try:
-            numbers[name] = eval(value.replace("^", "**"), {"__builtins__": {}}, dict(numbers))
+            numbers[name] = eval(value.replace("^", "**"), {"__builtins__": {}}, numbers)
         except NameError:
             pass
-    locked = re.search(r"^locked_word thread = thread \+ (\d+)$", (WORD / "Words.antt").read_text(), re.M)
+    return numbers
+
+
+def read_values():
+    """The words' values that have a name in code."""
+    text = (WORD / "src" / "values.rt").read_text()
+    return {name: int(value) for name, value in re.findall(r"^pub const (\w+): u\d+ = (\d+);$", text, re.M)}
+
+
+def read_numbers():
+    """The named numbers of the words."""
+    path = WORD / "specs" / "Words.antt"
+    numbers = values_in(path, read_values())
+    locked = re.search(r"^locked_word thread = thread \+ (\d+)$", path.read_text(), re.M)
     want(locked, "Words.antt gives no word of a locked gate")
     numbers["locked"] = int(locked.group(1))
     for name in "half immortal_local most_local bias fresh_word dead_word free_word closed_word".split():
@@ -106,26 +119,25 @@ def read_numbers():
 
 
 def read_states():
-    found = re.findall(r"^state_of (\w+) = (\d)$", (WORD / "Header.antt").read_text(), re.M)
-    states = {name.lower(): int(value) for name, value in found}
-    want(sorted(states) == ["default", "merged", "queued"], "Header.antt gives other states")
-    return states
+    names = "DEFAULT QUEUED MERGED".split()
+    want(all(name in NUMBERS for name in names), "values.rt gives other states")
+    return {name.lower(): NUMBERS[name] for name in names}
 
 
 def read_kinds():
-    found = re.findall(r"^kind_number kinds\.(\w+) = (\d+)$", (MODEL / "Kinds.antt").read_text(), re.M)
-    return {name.lower(): int(value) for name, value in found}
+    text = (MODEL / "Kinds.antt").read_text()
+    return {name.lower(): NUMBERS[value] for name, value in re.findall(r"^kind_number kinds\.(\w+) = ([A-Z]+)$", text, re.M)}
 
 
 def read_places():
     """The sizes of a table's parts, and the line of each sort of word in a tile."""
     text = (TABLE / "Places.antt").read_text()
-    sizes = {name: int(value) for name, value in re.findall(r"^(line|front|tile) = (\d+)$", text, re.M)}
+    sizes = values_in(TABLE / "Places.antt", values_in(MODEL / "Limits.antt", {}))
     lines = {int(number): name for name, number in re.findall(r"^place \((\w+) x\) = in_tile (\d+) x$", text, re.M)}
-    cells = re.search(r"^cell_place row cell = .* line \* \((\d+) \+ row % line\) \+ cell$", text, re.M)
-    want(len(sizes) == 3 and cells, "Places.antt doesn't give the sizes")
-    want(sorted(lines) == list(range(int(cells.group(1)))), "the lines of a tile aren't those before the cells")
-    want(sizes["tile"] == sizes["line"] * (len(lines) + sizes["line"]), "a tile has another number of lines")
+    want("\ntile = line * (header_lines + line)\n" in text, "a tile has another number of lines")
+    sizes["tile"] = sizes["line"] * (sizes["header_lines"] + sizes["line"])
+    want("\nplace (Marks t w) = marks_front + mark_room * t + w\n" in text, "the mark words are elsewhere")
+    want(sorted(lines) == list(range(sizes["header_lines"])), "the lines of a tile aren't those before the cells")
     return sizes, [lines[number] for number in sorted(lines)]
 
 
@@ -248,7 +260,7 @@ def draw_release():
                       └─ MarkGone       the owner has found it, and merges
 
   MarkClaimed                 the owner finds the mark outside its calls 
-  ScanFindsMark               the owner finds the mark at its exit
+  FoundMarkTaken              the owner finds the mark at its exit
   MarkTakenBack               the releasing thread takes the mark back
   │
   ├─ LocalTakenOut, MergeRead, MergesForHanded   the counts are merged (after
@@ -311,7 +323,8 @@ def draw_life():
 
 def draw_thread():
     """The life of a thread."""
-    running, leaving, gone = 1, int(RULES["SaysLeaving"].left), int(RULES["SaysGone"].left)
+    leaving, gone = (NUMBERS[RULES[name].left] for name in ("SaysLeaving", "SaysGone"))
+    running = NUMBERS["RUNNING"]
     want(changing("ThreadWord") == {"SaysLeaving", "SaysGone"}, "other rules change a thread word")
     return f"""
   thread word {running}: running
@@ -336,9 +349,9 @@ def draw_thread():
          ▼
   thread word {leaving}: leaving
   ┌────────────────────────────────────────────────────────────────────────┐
-  │   ┌───────────────┐ looks at the mark of each row that it has used:    │
-  │   │    Exiting    │ ScanFindsMark, ScanFindsNone. Where it finds one   │
-  │   └───────────────┘ it merges, and settles what dies by that           │
+  │   ┌───────────────┐ loads each mark word of its used rows: MarksRead.  │
+  │   │    Exiting    │ Clears the marks found: FoundMarkTaken,            │
+  │   └───────────────┘ FoundMarkGone; merges, settles what dies by that   │
   └──────┬─────────────────────────────────────────────────────────────────┘
          │ SaysGone
          ▼
@@ -430,7 +443,8 @@ def draw_values():
 def draw_tile():
     """The words of a table, and one of its tiles."""
     line, front, tile = SIZES["line"], SIZES["front"], SIZES["tile"]
-    names = {"Local": "local", "Shared": "shared", "Gate": "gate", "KindOf": "kind", "Mark": "mark"}
+    marks, room = SIZES["marks_front"], SIZES["mark_room"]
+    names = {"Local": "local", "Shared": "shared", "Gate": "gate", "KindOf": "kind"}
     want(set(TILE_LINES) == set(names), "a tile has other lines")
     wide, width = 50, 9
 
@@ -440,6 +454,7 @@ def draw_tile():
 
     lines = [" place ┌" + "─" * wide + "┐"]
     lines.append(f"{0:>6} │" + " thread words: main's at 0, worker t's at t".ljust(wide) + "│")
+    lines += part(marks, f"mark words: word w of thread t at {marks} + {room} t + w")
     for number in range(2):
         lines += part(front + tile * number, f"tile {number}: rows {line * number} to {line * number + line - 1}")
     lines += part(front + tile * 2, "and so on")
@@ -489,7 +504,7 @@ WAY = {
     "brc_free": ("tries until the reference is given up; closes what dies", "crates/brc_free/src/releasing.rt"),
     "brc_list": ("not on the way: locks, and the items of lists", "crates/brc_list/src/lists.rt"),
     "brc_heap": ("answers what became of the release, and what is left", "crates/brc_heap/src/release.rt"),
-    "brc_table": ("makes each step, on one word that all threads share", "crates/brc_table/src/steps.rt"),
+    "brc_table": ("makes each step, on one word that all threads share", "crates/brc_table/src/step.rt"),
     "brc_os": ("closes the file, if the object was one", "crates/brc_os/src/os_resource.rt"),
     "brc_host": ("says how closes are counted", "crates/brc_host/src/counts.rt"),
     "brc_check": ("asks that v1 owns a reference, and leaves it empty", "crates/brc_check/src/instruction.rt"),
