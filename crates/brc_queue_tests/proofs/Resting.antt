@@ -89,6 +89,17 @@ pub rests_after_settling : {heap : TableState} {before after : HandState} {close
 rests_after_settling rest table empty stands =
     rests_again rest table stands.keeps stands.agenda (free_at_rest rest).aside
 
+-- A hand that is free again, and has locked nothing, has no work either.
+pub rests_while_free : {heap : TableState} {before after : HandState} → IsAtRest heap before None
+    → IsOf heap after → IsFree after.view → Keeps before.view after.view → IsAtRest heap after None
+rests_while_free {heap} {before} {after} rest table free keeps = record {
+  table = table;
+  running = (free.running, subst MayWait (sym free.agenda) tt);
+  rests = ap (λ (ds : List Duty). ds ++ after.view.actor.aside) free.agenda ∙ free.aside;
+  locked_is = keeps.locked ∙ rest.locked_is;
+  returned = tt;
+}
+
 -- ---- references
 
 -- A hand holds the object of its latest reference,

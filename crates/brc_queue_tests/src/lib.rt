@@ -27,4 +27,6 @@ mod no_files;
 #[cfg(test)]
 mod posts;
 #[cfg(test)]
+mod second_word;
+#[cfg(test)]
 mod sharing;
