@@ -49,7 +49,7 @@ births = BirthKind 7 InFlight number ∷ BirthKind 7 InFlight list ∷ BirthKind
     ∷ BirthSlot 7 InFlight ∷ BirthLocal 7 InFlight ∷ []
 
 -- the words that the steps of a birth store
-births-leave : map (λ (d : Duty). new_word 3 0 d 0) births ≡ number ∷ list ∷ file ∷ sock ∷ 1 ∷ 17179869185 ∷ []
+births-leave : map (λ (d : Duty). new_word four 3 0 d 0) births ≡ number ∷ list ∷ file ∷ sock ∷ 1 ∷ 17179869185 ∷ []
 unfolding number list file sock births
 births-leave = refl
 
@@ -84,14 +84,14 @@ deaths-go_on : map (λ (d : Duty). continuation four 3 true 0 d 1) (TakeSlot 7 �
 deaths-go_on = refl
 
 -- the slot is empty, and the resource has been closed once
-deaths-leave : new_word 3 0 (TakeSlot 7) 1 ∷ new_word 3 0 (CloseResource 7) 0 ∷ [] ≡ 0 ∷ 1 ∷ []
+deaths-leave : new_word four 3 0 (TakeSlot 7) 1 ∷ new_word four 3 0 (CloseResource 7) 0 ∷ [] ≡ 0 ∷ 1 ∷ []
 deaths-leave = refl
 
 deaths-are_at : map (λ (d : Duty). address_of four 3 0 d) (TakeSlot 7 ∷ CloseResource 7 ∷ []) ≡ Slot 7 ∷ Resource 7 ∷ []
 deaths-are_at = refl
 
 -- A resource is taken out of its slot, and put back: the thread has it lent in between.
-lends-leave : new_word 3 0 (LendSlot 7) 1 ∷ new_word 3 0 (ReturnSlot 7) 0 ∷ [] ≡ 0 ∷ 1 ∷ []
+lends-leave : new_word four 3 0 (LendSlot 7) 1 ∷ new_word four 3 0 (ReturnSlot 7) 0 ∷ [] ≡ 0 ∷ 1 ∷ []
 lends-leave = refl
 
 lends-are_at : map (λ (d : Duty). address_of four 3 0 d) (LendSlot 7 ∷ ReturnSlot 7 ∷ []) ≡ Slot 7 ∷ Slot 7 ∷ []
@@ -107,7 +107,7 @@ lends-lend = refl
 kinds-are_at : address_of four 3 0 (KindLoad 7) ≡ KindOf 7
 kinds-are_at = refl
 
-kinds-leave : map (λ (w : ℕ). new_word 3 0 (KindLoad 7) w) (number ∷ list ∷ file ∷ sock ∷ [])
+kinds-leave : map (λ (w : ℕ). new_word four 3 0 (KindLoad 7) w) (number ∷ list ∷ file ∷ sock ∷ [])
     ≡ number ∷ list ∷ file ∷ sock ∷ []
 unfolding number list file sock
 kinds-leave = refl
@@ -121,7 +121,7 @@ kinds-lead_to = refl
 locks-are_at : map (λ (d : Duty). address_of four 3 0 d) (LockGate 7 ∷ UnlockGate 7 ∷ []) ≡ Gate 7 ∷ Gate 7 ∷ []
 locks-are_at = refl
 
-locks-leave : map (λ (w : ℕ). new_word 3 0 (LockGate 7) w) (1 ∷ 2 ∷ 5 ∷ []) ≡ 5 ∷ 2 ∷ 5 ∷ []
+locks-leave : map (λ (w : ℕ). new_word four 3 0 (LockGate 7) w) (1 ∷ 2 ∷ 5 ∷ []) ≡ 5 ∷ 2 ∷ 5 ∷ []
 locks-leave = refl
 
 locks-hold : map (λ (w : ℕ). locked_by None (LockGate 7) w) (1 ∷ 2 ∷ 5 ∷ []) ≡ Some 7 ∷ None ∷ None ∷ []
@@ -131,7 +131,7 @@ locks-lead_to : map (λ (w : ℕ). continuation four 3 true 0 (LockGate 7) w) (1
 locks-lead_to = refl
 
 -- It frees the gate again.
-unlocks-leave : new_word 3 0 (UnlockGate 7) 5 ≡ 1
+unlocks-leave : new_word four 3 0 (UnlockGate 7) 5 ≡ 1
 unlocks-leave = refl
 
 unlocks-hold : locked_by (Some 7) (UnlockGate 7) 5 ≡ None
@@ -144,7 +144,7 @@ unlocks-lead_to = refl
 items-are_at : address_of four 3 0 (CellLoad 7 2) ≡ Cell 7 2
 items-are_at = refl
 
-items-leave : map (λ (w : ℕ). new_word 3 0 (CellLoad 7 2) w) (0 ∷ 9 ∷ []) ≡ 0 ∷ 9 ∷ []
+items-leave : map (λ (w : ℕ). new_word four 3 0 (CellLoad 7 2) w) (0 ∷ 9 ∷ []) ≡ 0 ∷ 9 ∷ []
 items-leave = refl
 
 items-hold : map (λ (w : ℕ). locked_by (Some 7) (CellLoad 7 2) w) (0 ∷ 9 ∷ []) ≡ Some 7 ∷ Some 7 ∷ []
@@ -162,7 +162,7 @@ swaps-are_at : address_of four 3 0 swap ≡ Cell 7 0
 unfolding swap
 swaps-are_at = refl
 
-swaps-leave : map (λ (w : ℕ). new_word 3 0 swap w) (0 ∷ 9 ∷ 8 ∷ []) ≡ 10 ∷ 10 ∷ 10 ∷ []
+swaps-leave : map (λ (w : ℕ). new_word four 3 0 swap w) (0 ∷ 9 ∷ 8 ∷ []) ≡ 10 ∷ 10 ∷ 10 ∷ []
 unfolding swap
 swaps-leave = refl
 

@@ -18,6 +18,13 @@ const OWN_AND_OTHER: &[u8] =
       func other\nnone v1\nlock v0\nput v0 0 v1 else @3\nfetch v2 v0 1 else @5\nset v0 0 v2 else @5\nunlock v0\n\
       ret v1\nend\n";
 
+/// `own` uses 64 rows, and stores the number of its 65th row in the root: that row's mark is the first one of the second
+/// mark word. `clear` takes the number out.
+const SECOND_WORD: &[u8] =
+    b"module 1\nfunc own\nnum v1 1 else @9\ndrop v1\nagain @0 63\nnum v1 7 else @9\nlock v0\nput v0 0 v1 else @6\n\
+      unlock v0\ndrop v1\ngoto @9\nfail\nend\n\
+      func clear\nnone v1\nlock v0\nput v0 0 v1 else @3\nunlock v0\nret v1\nend\n";
+
 /// A module of two functions, a schedule in which worker 1 calls the first one and worker 2 the other one, and the
 /// numbers of the report afterwards.
 const RUNS: &[(&str, &[u8], &[u8], [u64; 7])] = &[
@@ -53,6 +60,54 @@ const RUNS: &[(&str, &[u8], &[u8], [u64; 7])] = &[
         b"schedule 1\nworkers 2\nrows 4\ncall 1 swap 1\ncall 2 clear 1\nstep 1 ok 6\nstep 2 ok 8\nstep 1 ok 1000\n\
           step 2 ok 1000\nstep 0 ok 1000\n",
         [2, 0, 2, 2, 0, 0, 0],
+    ),
+    (
+        "the mark is loaded, then taken back",
+        SWAP_AND_CLEAR,
+        b"schedule 1\nworkers 2\nrows 4\ncall 1 swap 1\ncall 2 clear 1\nstep 1 ok 6\nstep 2 ok 9\n\
+          step 1 ok 9\nstep 2 ok 2\nstep 1 ok 2\n",
+        [2, 2, 2, 0, 2, 0, 0],
+    ),
+    (
+        "the mark is loaded, then taken back, to the end",
+        SWAP_AND_CLEAR,
+        b"schedule 1\nworkers 2\nrows 4\ncall 1 swap 1\ncall 2 clear 1\nstep 1 ok 6\nstep 2 ok 9\n\
+          step 1 ok 9\nstep 2 ok 2\nstep 1 ok 2\nstep 2 ok 1000\nstep 0 ok 1000\n",
+        [2, 0, 2, 2, 0, 0, 0],
+    ),
+    (
+        "the mark is loaded and taken",
+        SWAP_AND_CLEAR,
+        b"schedule 1\nworkers 2\nrows 4\ncall 1 swap 1\ncall 2 clear 1\nstep 1 ok 6\nstep 2 ok 9\n\
+          step 1 ok 10\nstep 2 ok 1000\n",
+        [2, 2, 2, 0, 2, 0, 0],
+    ),
+    (
+        "a mark in the second word",
+        SECOND_WORD,
+        b"schedule 1\nworkers 2\nrows 65\ncall 1 own 1\ncall 2 clear 1\nstep 1 ok 650\nstep 2 ok 1000\n",
+        [2, 2, 66, 64, 2, 0, 0],
+    ),
+    (
+        "a mark in the second word, worker 1 gone",
+        SECOND_WORD,
+        b"schedule 1\nworkers 2\nrows 65\ncall 1 own 1\ncall 2 clear 1\nstep 1 ok 650\nstep 2 ok 1000\n\
+          step 1 ok 1000\n",
+        [2, 1, 66, 65, 1, 0, 0],
+    ),
+    (
+        "a mark in the second word, to the end",
+        SECOND_WORD,
+        b"schedule 1\nworkers 2\nrows 65\ncall 1 own 1\ncall 2 clear 1\nstep 1 ok 650\nstep 2 ok 1000\n\
+          step 1 ok 1000\nstep 0 ok 1000\n",
+        [2, 0, 66, 66, 0, 0, 0],
+    ),
+    (
+        "a mark in the second word is claimed",
+        SECOND_WORD,
+        b"schedule 1\nworkers 2\nrows 65\ncall 1 own 1\ncall 2 clear 1\nstep 1 ok 651\nstep 2 ok 1000\n\
+          claim 1 66\nstep 1 ok 1000\nstep 0 ok 1000\n",
+        [2, 0, 66, 66, 0, 0, 0],
     ),
 ];
 

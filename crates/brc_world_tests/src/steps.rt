@@ -1,4 +1,5 @@
-ghost use Rattle.std.specs.Prelude.{◌<◌, length, IfOk};
+ghost use Rattle.std.specs.Prelude.{◌<◌, ◌≤◌, length, IfOk};
+ghost use Rattle.brc_model.specs.Limits.{row_limit};
 
 use brc_check::{Checked, check};
 use brc_lang::{Kind, read};
@@ -161,5 +162,53 @@ fn one_step(rt: HostRuntime) -> Result<(), Fail> {
     assert_eq!(rt; threads, 3);
     assert_eq!(rt; did, Some(Did::Moved));
     assert_eq!(rt; after, ([2, 3, 1, 0, 1, 0, 0], Some(ROOT)));
+    Ok(())
+}
+
+/// The lines of a function that makes a number in each row that is left, and gives it up.
+const USE_ALL_ROWS: &[u8] = b"num v1 1 else @3\ndrop v1\nagain @0 200\nfail\n";
+
+/// Returns what the tally reports once a worker has used all its rows and all threads are gone.
+fn one_uses_all_rows(alloc: Global, rows: u16) -> Result<Told, Fail>
+    requires some_rows { 0 < rows }
+    requires most_rows { rows ≤ row_limit }
+{
+    let checked = accepted(alloc, USE_ALL_ROWS)?;
+    let call = Call {
+        function: 0,
+        times: 1,
+    };
+    let mut world = World::new(alloc, &checked, 1, rows, &[call])?;
+    finish(&mut world)?;
+    Ok(told(alloc, &world)?)
+}
+
+/// Returns the same for three workers of 64 rows each.
+fn three_use_all_rows(alloc: Global) -> Result<Told, Fail> {
+    let checked = accepted(alloc, USE_ALL_ROWS)?;
+    let call = Call {
+        function: 0,
+        times: 1,
+    };
+    let mut world = World::new(alloc, &checked, 3, 64, &[call, call, call])?;
+    finish(&mut world)?;
+    Ok(told(alloc, &world)?)
+}
+
+/// A block has one mark word for 64 rows, two for 65, and three for 130.
+#[test]
+fn all_rows_are_closed(rt: HostRuntime) -> Result<(), Fail> {
+    assert_eq!(rt;
+        three_use_all_rows(rt.alloc())?,
+        ([3, 0, 193, 193, 0, 0, 0], None)
+    );
+    assert_eq!(rt;
+        one_uses_all_rows(rt.alloc(), 65)?,
+        ([1, 0, 66, 66, 0, 0, 0], None)
+    );
+    assert_eq!(rt;
+        one_uses_all_rows(rt.alloc(), 130)?,
+        ([1, 0, 131, 131, 0, 0, 0], None)
+    );
     Ok(())
 }
