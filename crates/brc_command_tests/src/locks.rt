@@ -20,7 +20,7 @@ const ALL_GONE: &[u8] =
     b"threads 2\nrunning 0\ncreated 1\nclosed 1\nalive 0\nhost faults 0\nclose faults 0\n";
 
 const CASES: &[Case<'static>] = &[
-    // Main exits first, in 6 steps. Worker 1 locks the root. However often worker 2 then tries to lock it, it has taken
+    // Main exits first, in 5 steps. Worker 1 locks the root. However often worker 2 then tries to lock it, it has taken
     // no step. Worker 1 unlocks the root (1 step), fails (1) and exits (13): 15 steps after its lock. Worker 2 locks,
     // unlocks and fails in 3 steps; the 15th step of its exit closes the root, and the 17th says that it is gone. The
     // comment on `COUNTED` in steps.rt counts the steps of the exits.
@@ -36,7 +36,7 @@ const CASES: &[Case<'static>] = &[
         "worker 1, before its last step",
         Ok(LOCKING),
         Ok(
-            b"schedule 1\nworkers 2\nrows 4\ncall 1 f 1\ncall 2 f 1\nstep 0 ok 6\nstep 1 ok 1\nstep 2 fault 9\n\
+            b"schedule 1\nworkers 2\nrows 4\ncall 1 f 1\ncall 2 f 1\nstep 0 ok 5\nstep 1 ok 1\nstep 2 fault 9\n\
               step 1 ok 14\n",
         ),
         (MAIN_GONE, b"", 0),
@@ -45,7 +45,7 @@ const CASES: &[Case<'static>] = &[
         "worker 1, gone",
         Ok(LOCKING),
         Ok(
-            b"schedule 1\nworkers 2\nrows 4\ncall 1 f 1\ncall 2 f 1\nstep 0 ok 6\nstep 1 ok 1\nstep 2 fault 9\n\
+            b"schedule 1\nworkers 2\nrows 4\ncall 1 f 1\ncall 2 f 1\nstep 0 ok 5\nstep 1 ok 1\nstep 2 fault 9\n\
               step 1 ok 15\n",
         ),
         (ONE_GONE, b"", 0),
@@ -54,7 +54,7 @@ const CASES: &[Case<'static>] = &[
         "the root, before its last step",
         Ok(LOCKING),
         Ok(
-            b"schedule 1\nworkers 2\nrows 4\ncall 1 f 1\ncall 2 f 1\nstep 0 ok 6\nstep 1 ok 1\nstep 2 ok 9\n\
+            b"schedule 1\nworkers 2\nrows 4\ncall 1 f 1\ncall 2 f 1\nstep 0 ok 5\nstep 1 ok 1\nstep 2 ok 9\n\
               step 1 ok 15\nstep 2 ok 17\n",
         ),
         (ONE_GONE, b"", 0),
@@ -63,7 +63,7 @@ const CASES: &[Case<'static>] = &[
         "the root, closed",
         Ok(LOCKING),
         Ok(
-            b"schedule 1\nworkers 2\nrows 4\ncall 1 f 1\ncall 2 f 1\nstep 0 ok 6\nstep 1 ok 1\nstep 2 ok 9\n\
+            b"schedule 1\nworkers 2\nrows 4\ncall 1 f 1\ncall 2 f 1\nstep 0 ok 5\nstep 1 ok 1\nstep 2 ok 9\n\
               step 1 ok 15\nstep 2 ok 18\n",
         ),
         (ROOT_CLOSED, b"", 0),
@@ -72,7 +72,7 @@ const CASES: &[Case<'static>] = &[
         "worker 2, before its last step",
         Ok(LOCKING),
         Ok(
-            b"schedule 1\nworkers 2\nrows 4\ncall 1 f 1\ncall 2 f 1\nstep 0 ok 6\nstep 1 ok 1\nstep 2 ok 9\n\
+            b"schedule 1\nworkers 2\nrows 4\ncall 1 f 1\ncall 2 f 1\nstep 0 ok 5\nstep 1 ok 1\nstep 2 ok 9\n\
               step 1 ok 15\nstep 2 ok 19\n",
         ),
         (ROOT_CLOSED, b"", 0),
@@ -81,7 +81,7 @@ const CASES: &[Case<'static>] = &[
         "worker 2, gone",
         Ok(LOCKING),
         Ok(
-            b"schedule 1\nworkers 2\nrows 4\ncall 1 f 1\ncall 2 f 1\nstep 0 ok 6\nstep 1 ok 1\nstep 2 ok 9\n\
+            b"schedule 1\nworkers 2\nrows 4\ncall 1 f 1\ncall 2 f 1\nstep 0 ok 5\nstep 1 ok 1\nstep 2 ok 9\n\
               step 1 ok 15\nstep 2 ok 20\n",
         ),
         (ALL_GONE, b"", 0),
@@ -92,7 +92,7 @@ const CASES: &[Case<'static>] = &[
         "in turn: worker 1, before its last step",
         Ok(LOCKING),
         Ok(
-            b"schedule 1\nworkers 2\nrows 4\ncall 1 f 2\ncall 2 f 2\nstep 0 ok 6\nstep 1 ok 1\nstep 2 ok 5\n\
+            b"schedule 1\nworkers 2\nrows 4\ncall 1 f 2\ncall 2 f 2\nstep 0 ok 5\nstep 1 ok 1\nstep 2 ok 5\n\
               step 1 ok 2\nstep 2 ok 1\nstep 1 ok 7\nstep 2 ok 2\nstep 1 ok 1\nstep 2 ok 3\nstep 1 ok 2\n\
               step 2 ok 3\nstep 1 ok 12\n",
         ),
@@ -102,7 +102,7 @@ const CASES: &[Case<'static>] = &[
         "in turn: worker 1, gone",
         Ok(LOCKING),
         Ok(
-            b"schedule 1\nworkers 2\nrows 4\ncall 1 f 2\ncall 2 f 2\nstep 0 ok 6\nstep 1 ok 1\nstep 2 ok 5\n\
+            b"schedule 1\nworkers 2\nrows 4\ncall 1 f 2\ncall 2 f 2\nstep 0 ok 5\nstep 1 ok 1\nstep 2 ok 5\n\
               step 1 ok 2\nstep 2 ok 1\nstep 1 ok 7\nstep 2 ok 2\nstep 1 ok 1\nstep 2 ok 3\nstep 1 ok 2\n\
               step 2 ok 3\nstep 1 ok 13\n",
         ),
@@ -112,7 +112,7 @@ const CASES: &[Case<'static>] = &[
         "in turn: worker 2, before its last step",
         Ok(LOCKING),
         Ok(
-            b"schedule 1\nworkers 2\nrows 4\ncall 1 f 2\ncall 2 f 2\nstep 0 ok 6\nstep 1 ok 1\nstep 2 ok 5\n\
+            b"schedule 1\nworkers 2\nrows 4\ncall 1 f 2\ncall 2 f 2\nstep 0 ok 5\nstep 1 ok 1\nstep 2 ok 5\n\
               step 1 ok 2\nstep 2 ok 1\nstep 1 ok 7\nstep 2 ok 2\nstep 1 ok 1\nstep 2 ok 3\nstep 1 ok 2\n\
               step 2 ok 3\nstep 1 ok 13\nstep 2 ok 16\n",
         ),
@@ -122,7 +122,7 @@ const CASES: &[Case<'static>] = &[
         "in turn: worker 2, gone",
         Ok(LOCKING),
         Ok(
-            b"schedule 1\nworkers 2\nrows 4\ncall 1 f 2\ncall 2 f 2\nstep 0 ok 6\nstep 1 ok 1\nstep 2 ok 5\n\
+            b"schedule 1\nworkers 2\nrows 4\ncall 1 f 2\ncall 2 f 2\nstep 0 ok 5\nstep 1 ok 1\nstep 2 ok 5\n\
               step 1 ok 2\nstep 2 ok 1\nstep 1 ok 7\nstep 2 ok 2\nstep 1 ok 1\nstep 2 ok 3\nstep 1 ok 2\n\
               step 2 ok 3\nstep 1 ok 13\nstep 2 ok 17\n",
         ),

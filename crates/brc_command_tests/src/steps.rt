@@ -6,9 +6,9 @@ use crate::worked::NUMBER_REPORT;
 
 // Two workers call `f` once, and main exits first. The root's local count is 3, and only main changes it.
 //
-// Main releases its reference to the root and exits: load, store, exiting, a test of each of its two marks, gone: 6
-// steps. With `FIRST` a worker's retain of the root takes 2 steps (load, add), its drop 3 (load, shared load, exchange)
-// and `fail` 1.
+// Main releases its reference to the root and exits: load, store, exiting, a load of its mark word, gone: 5 steps. With
+// `FIRST` a worker's retain of the root takes 2 steps (load, add), its drop 3 (load, shared load, exchange) and `fail`
+// 1.
 //
 // The exit of worker 1 releases the root: load, shared load, exchange, which queues the root, then the mark, and a look
 // at main's word, which is gone. So the worker clears the mark, merges (local swap, shared load, exchange: 2 references
@@ -21,7 +21,7 @@ const COUNTED: &[Case<'static>] = &[
     (
         "main, before its last step",
         Ok(FIRST),
-        Ok(b"schedule 1\nworkers 2\nrows 4\ncall 1 f 1\ncall 2 f 1\nstep 0 ok 5\n"),
+        Ok(b"schedule 1\nworkers 2\nrows 4\ncall 1 f 1\ncall 2 f 1\nstep 0 ok 4\n"),
         (
             b"threads 2\nrunning 3\ncreated 1\nclosed 0\nalive 1\nhost faults 0\nclose faults 0\nleft 1 list\n",
             b"",
@@ -32,7 +32,7 @@ const COUNTED: &[Case<'static>] = &[
         "worker 1, before its last step",
         Ok(FIRST),
         Ok(
-            b"schedule 1\nworkers 2\nrows 4\ncall 1 f 1\ncall 2 f 1\nstep 0 ok 6\nstep 1 fault 18\n",
+            b"schedule 1\nworkers 2\nrows 4\ncall 1 f 1\ncall 2 f 1\nstep 0 ok 5\nstep 1 fault 18\n",
         ),
         (
             b"threads 2\nrunning 2\ncreated 1\nclosed 0\nalive 1\nhost faults 0\nclose faults 0\nleft 1 list\n",
@@ -44,7 +44,7 @@ const COUNTED: &[Case<'static>] = &[
         "the root, before its last step",
         Ok(FIRST),
         Ok(
-            b"schedule 1\nworkers 2\nrows 4\ncall 1 f 1\ncall 2 f 1\nstep 0 ok 6\nstep 1 fault 19\nstep 2 ok 20\n",
+            b"schedule 1\nworkers 2\nrows 4\ncall 1 f 1\ncall 2 f 1\nstep 0 ok 5\nstep 1 fault 19\nstep 2 ok 20\n",
         ),
         (
             b"threads 2\nrunning 1\ncreated 1\nclosed 0\nalive 1\nhost faults 0\nclose faults 0\nleft 1 list\n",
@@ -56,7 +56,7 @@ const COUNTED: &[Case<'static>] = &[
         "the root, closed",
         Ok(FIRST),
         Ok(
-            b"schedule 1\nworkers 2\nrows 4\ncall 1 f 1\ncall 2 f 1\nstep 0 ok 6\nstep 1 fault 19\nstep 2 ok 21\n",
+            b"schedule 1\nworkers 2\nrows 4\ncall 1 f 1\ncall 2 f 1\nstep 0 ok 5\nstep 1 fault 19\nstep 2 ok 21\n",
         ),
         (
             b"threads 2\nrunning 1\ncreated 1\nclosed 1\nalive 0\nhost faults 0\nclose faults 0\n",
@@ -68,7 +68,7 @@ const COUNTED: &[Case<'static>] = &[
         "worker 2, before its last step",
         Ok(FIRST),
         Ok(
-            b"schedule 1\nworkers 2\nrows 4\ncall 1 f 1\ncall 2 f 1\nstep 0 ok 6\nstep 1 fault 19\nstep 2 ok 22\n",
+            b"schedule 1\nworkers 2\nrows 4\ncall 1 f 1\ncall 2 f 1\nstep 0 ok 5\nstep 1 fault 19\nstep 2 ok 22\n",
         ),
         (
             b"threads 2\nrunning 1\ncreated 1\nclosed 1\nalive 0\nhost faults 0\nclose faults 0\n",
@@ -80,7 +80,7 @@ const COUNTED: &[Case<'static>] = &[
         "worker 2, gone",
         Ok(FIRST),
         Ok(
-            b"schedule 1\nworkers 2\nrows 4\ncall 1 f 1\ncall 2 f 1\nstep 0 ok 6\nstep 1 fault 19\nstep 2 ok 23\n",
+            b"schedule 1\nworkers 2\nrows 4\ncall 1 f 1\ncall 2 f 1\nstep 0 ok 5\nstep 1 fault 19\nstep 2 ok 23\n",
         ),
         (
             b"threads 2\nrunning 0\ncreated 1\nclosed 1\nalive 0\nhost faults 0\nclose faults 0\n",
@@ -192,7 +192,7 @@ const PUT_IN_AND_LOOK: &[u8] =
 
 // With `SET_PAST_THE_END` a call takes 13 steps: the number's birth 2, `lock` 1, `set` 8 (it reads how many cells the
 // root has and closes the number in 7 steps), `unlock` 1 and `fail` 1. The worker's exit takes 8: it queues the root in
-// 5, says that it leaves, looks at its one mark and says that it is gone. A worker that stops after `lock` unlocks in
+// 5, says that it leaves, loads its mark word and says that it is gone. A worker that stops after `lock` unlocks in
 // one step, and closes the number in 7.
 const STOPPED: &[Case<'static>] = &[
     (
@@ -350,7 +350,7 @@ const STOPPED: &[Case<'static>] = &[
     (
         "main doesn't stop",
         Ok(SMALLEST),
-        Ok(b"schedule 1\nworkers 1\nrows 4\ncall 1 f 1\nstop 0\nstep 0 ok 5\nstop 0\n"),
+        Ok(b"schedule 1\nworkers 1\nrows 4\ncall 1 f 1\nstop 0\nstep 0 ok 4\nstop 0\n"),
         (
             b"threads 1\nrunning 2\ncreated 1\nclosed 0\nalive 1\nhost faults 0\nclose faults 0\nleft 1 list\n",
             b"",
