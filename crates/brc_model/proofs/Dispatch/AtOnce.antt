@@ -1,5 +1,5 @@
 -- A thread does a lock, an unlock, a swap of a cell, and a duty that lends or returns a resource at the event that
--- dispatches it: no step leads to such a duty.
+-- dispatches it: no step adds such a duty to an agenda.
 use Rattle.std.proofs.Common.{◌≡◌, ℕ, ◌+◌, false, List, [], ◌∷◌, ◌++◌, Option, refl, ◌∙◌, arith}
 use Rattle.std.specs.Prelude.{sum_by}
 use Rattle.std.proofs.lemmas.List.Sums.{sum_by-cons, sum_by-append}

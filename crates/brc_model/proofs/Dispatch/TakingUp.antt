@@ -341,8 +341,8 @@ emptied_held bag t call s variables from row in_vars owned is holds k object =
       this_one (same_holding (ByVariable call.depth from) k) (row == object),
     )
 
--- A variable that owns nothing and comes to name an object that it doesn't own, or none, doesn't change what the thread
--- is to hold.
+-- If a variable owns nothing, and from now on names an object that it doesn't own, or none, then what the thread is to
+-- hold doesn't change.
 pub unowned_held : (bag : List Reference) (t : ℕ) (call : Activation) (s : State) (variables : List (Option ℕ))
     (to : ℕ) (var : VarState) (row : Option ℕ)
     → to < length s.vars → is_owned (var_of s to) ≡ false → is_owned var ≡ false

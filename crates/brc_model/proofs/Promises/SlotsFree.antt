@@ -226,7 +226,8 @@ slots_free p n m t a d rest u b x counts next takes found uses =
 
 -- ---- the threads that give a slot back
 
--- A duty that leaves the lock as it is leaves it so, if its thread hasn't locked the row.
+-- The duty doesn't change the thread's lock. If the thread hasn't locked the row before the duty, it hasn't locked it
+-- after the duty either.
 lock_left : (a : Actor) (d : Duty) (found x : ℕ) → locked_by a.locked d found ≡ a.locked
     → (a.locked ≡ Some x → ⊥) → Unlocks a d found x
 lock_left a d found x same unlocked = record {
