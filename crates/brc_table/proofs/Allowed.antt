@@ -46,7 +46,8 @@ pub record Knows (v : View) (d : Duty) (found : ℕ) : Type 0 where
   pub owner : FindsOwner v.layout d found
   pub finds : FindsKnown v (d ∷ []) found
 
--- What the slot of the object tells of the kind word that is loaded, if the hand has locked the object.
+-- If the hand loads the kind word of the object that it has locked, the object's slot has as many resources as the kind
+-- asks for.
 abbrev SlotTells : View → Duty → ℕ → Type 0
 SlotTells v (KindLoad x) found = v.actor.locked ≡ Some x → v.in_slot ≡ resources_of found
 SlotTells v _ found = Unit {0}
