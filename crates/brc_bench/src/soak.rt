@@ -53,8 +53,8 @@ fn made_by_all(times: u32, in_a_call: u32) -> u64 {
     tried.min(u64::from(ROWS)) * u64::from(WORKERS)
 }
 
-/// Runs one heap after another, for each module in turn, until so many calls have been made in all, or if none are
-/// asked for those of one heap for each module. Compares the counts of each heap, and prints what was done.
+/// Runs one heap after another, for each module in turn, until `asked` calls have been made in all. Without `asked` it
+/// runs one heap for each module. Compares the counts of each heap, and prints what was done.
 ///
 /// # Errors
 ///

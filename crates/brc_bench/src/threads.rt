@@ -171,7 +171,8 @@ fn workers_of<'a>(
     Ok(workers)
 }
 
-/// Lets so many threads of one heap do the work at once.
+/// Lets `threads` threads of one heap do the work at once, `times` times each. Returns how often they did it in all,
+/// and how long the slowest took.
 pub fn in_threads<R: Clock + Threads + Wait + Sync>(
     rt: &R,
     alloc: Global,

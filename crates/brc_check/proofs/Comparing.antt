@@ -110,7 +110,7 @@ pub some_on : (code : List Instr) (kept : List KeptEntry) (at : ℕ) (s : State)
 some_on code kept at s on here is =
     ap (kept_or (kept_at kept (at + 1))) (sym is ∙ ap (passed code at) (sym here)) ∙ sym (next_state code kept at)
 
--- a step leads to a point of the code, so its number is small
+-- A step goes on at a point of the code, if at any. So the point's number is below the number of instructions.
 pub leads_within : (code : List Instr) (at count : ℕ) (s : State) (exit : Exit) (p : PathEnd) → length code ≤ count
     → p ≡ follow code (At at s) exit → LeadsWithin count p
 leads_within code at count s exit (At next t) most is =

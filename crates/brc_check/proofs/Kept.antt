@@ -33,7 +33,8 @@ or_left false c e = absurd cc
 same_target : (o next : ℕ) (b : Bool) → Some o ≡ Some next → ((o == next) || b) ≡ true
 same_target o next b e = or_left (o == next) b (eq-eqb o next (same_Some o next e))
 
--- what is known of an exit that leads to the point
+-- The exit goes on at the point `next`: the `else`, `goto` or `again` of the instruction names it, or the success exit
+-- goes on there too and leaves the same state.
 abbrev Arrives : Instr → Exit → ℕ → ℕ → State → Type 0
 Arrives i exit at next s =
     (leads_to next i ≡ true)

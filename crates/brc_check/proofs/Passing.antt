@@ -30,7 +30,7 @@ pub visit_read : (list read : List Visit) (number : ℕ) (v : Visit) → read �
 visit_read list read number v same lt is =
     slice_get_read list (length list) number v refl lt (is ∙ ap (λ (r : List Visit). slice_index_or r number v) same)
 
--- the exit ends a path that isn't wanted, or leads to a point and a state that are visited
+-- The exit ends a path without what the search is for, or arrives at a point in a state that has a visit.
 pub passed-led : (code : List Instr) (at : ℕ) (c : CheckCode) (visits : Visits) (turn : ℕ) (from : Visit)
     (exit : Exit) (p : PathEnd)
     → IsSearchedTo code at c visits turn → slice_get visits.list turn ≡ Some from
@@ -39,7 +39,7 @@ pub passed-led : (code : List Instr) (at : ℕ) (c : CheckCode) (visits : Visits
 passed-led code at c visits turn from exit p searched here leads passed =
     passed-none code at c visits turn from exit searched here (subst (IsPassed visits.list at c) (sym leads) passed)
 
--- the exit leads to a point that has a place among the first visits
+-- If the exit arrives at a point, then `firsts` has a place for it.
 pub led-within : (code : List Instr) (at : ℕ) (c : CheckCode) (visits : Visits) (turn next : ℕ) (from : Visit)
     (s : State) (exit : Exit)
     → IsSearchedTo code at c visits turn → follow code (At from.at from.state) exit ≡ At next s

@@ -57,8 +57,8 @@ numbered =
     each_var _ refl (each_kind _ refl refl refl refl refl refl) (each_kind _ refl refl refl refl refl refl)
     (each_kind _ refl refl refl refl refl refl)
 
-var_decides : (E : VarState → VarState → Bool) → ((x y : VarState) → E x y ≡ (var_number x == var_number y)) → (x y : VarState)
-    → Decides (E x y) (x ≡ y)
+var_decides : (E : VarState → VarState → Bool) → ((x y : VarState) → E x y ≡ (var_number x == var_number y))
+    → (x y : VarState) → Decides (E x y) (x ≡ y)
 var_decides E is x y = (
   λ e. sym (numbered x) ∙ ap (λ (n : ℕ). slice_index_or all_vars n Empty)
       ((Decides-eqb (var_number x) (var_number y)).0 (sym (is x y) ∙ e)) ∙ numbered y,

@@ -163,7 +163,7 @@ alike-added list v at fresh alike s t is_s is_t =
       ]
     ]
 
--- the exit leads to a new visit
+-- The exit arrives at a point in a state that no visit has, and the search adds a visit of them.
 pub passed-added : (code : List Instr) (at : ℕ) (c : CheckCode) (visits : Visits) (turn : ℕ) (from v : Visit)
     → IsSearchedTo code at c visits turn → slice_get visits.list turn ≡ Some from → v.before ≡ turn
     → follow code (At from.at from.state) v.exit ≡ At v.at v.state
@@ -337,7 +337,7 @@ passes code at c visits turns searched all exits p e =
       is = record { same_point = refl; same_state = refl };
     }))
 
--- once there was a turn for each visit, no path leads to what is wanted
+-- If each visit has had its turn, then no path of the function reports what the search is for.
 pub searched-all : (code : List Instr) (at : ℕ) (c : CheckCode) (visits : Visits) (turns : ℕ)
     → IsSearchedTo code at c visits turns → length visits.list ≤ turns → IsReported code at c → ⊥
 searched-all code at c visits turns searched all reported =

@@ -37,7 +37,7 @@ within-passes code at (Some i) exit s =
     within-unless_reported code at (lowest i s) (arrives code at (target i exit at) (after i exit s))
     (within-arrives code at (target i exit at) (after i exit s))
 
--- each exit leads to a point of the code
+-- If an exit goes on at a point, the point is one of the code.
 pub arrives-within : (code : List Instr) (at next : ℕ) (s t : State) (exit : Exit)
     → follow code (At at s) exit ≡ At next t → next < length code
 arrives-within code at next s t exit e =

@@ -65,7 +65,8 @@ fn shown_of<'a>(
 ) -> Result<Shown<'a>, AllocError>
     requires fits { IsModule «module».now }
     requires refusal { IsRefusedFor «module».now.functions refused.now }
-    ensures { IfOk result (λ s. ShowsRefusal «module».now.functions refused.now s.function.now s.listing s.path s.steps) }
+    ensures { IfOk result (λ s. ShowsRefusal «module».now.functions refused.now s.function.now s.listing s.path
+        s.steps) }
 {
     let path = path_to(alloc, module, refused)?;
     let Some(function) = function_named(module.functions.as_slice(), &refused.function) else {

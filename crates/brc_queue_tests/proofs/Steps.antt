@@ -46,7 +46,7 @@ after_call {heap} {before} {after} {rows} {work} x left later has alone table le
   none = none;
 }
 
--- A hand that has nothing to do comes to settle,
+-- A hand that has nothing to do can settle,
 pub comes : {heap : TableState} {hand : HandState} {rows : List ℕ} → HasWork heap hand rows []
     → ComesToSettle hand.view []
 comes has = AtOnce has.status has.aside has.agenda

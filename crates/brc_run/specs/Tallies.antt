@@ -26,7 +26,8 @@ created_at_end end = count_by (was_born end) (counted_rows end)
 abbrev pub closed_at_end : EndState → ℕ
 closed_at_end end = count_by (is_closed end) (counted_rows end)
 
--- The tally of so many workers. No thread runs any more. `close_faults` are the closes of main that failed.
+-- The tally at the end, when no thread runs any more. `threads` is the number of workers, and `close_faults` how many
+-- closes of main failed.
 abbrev pub tally_at_end : EndState → ℕ → List Totals → ℕ → Tally
 tally_at_end end threads totals close_faults = record {
   threads = threads;

@@ -94,7 +94,7 @@ struct Turns {
 }
 
 impl Turns {
-    /// Waits until so many calls have ended.
+    /// Waits until `calls` calls have ended.
     fn wait(&self, calls: u64) {
         for _ in 0..MOST_TURNS {
             if self.ended.load(Ordering::SeqCst) >= calls {

@@ -149,7 +149,7 @@ only_one (y ∷ []) x one some = elim (cases_Bool (y == x)) [
 ]
 only_one (y ∷ z ∷ rows) x one some = absurd (omega (arith, one))
 
--- ---- what ledgers tell
+-- ---- what ledgers count
 
 -- A ledger counts for one row no more than in all.
 pub tells_whole : (ledger : LedgerState) (rows : List ℕ) → Tells ledger rows → IsWhole ledger
@@ -158,13 +158,13 @@ tells_whole ledger rows tells x = elim (cases_lt x (length ledger.counts)) [
   | inr out ↦ omega (arith, get_or-eq_default ledger.counts 0 out)
 ]
 
--- What it counts the hand holds.
+-- The hand holds the references that its ledger counts.
 pub tells_held : (ledger : LedgerState) (hand : HandState) (x n : ℕ) → Tells ledger hand.view.references → 1 ≤ n
     → n ≤ counted ledger x → n ≤ holds hand.view x
 tells_held ledger hand x n tells some counts =
     omega (arith, counts, tells.counts x (counts_within ledger.counts x (omega (arith, some, counts))))
 
--- A new ledger tells of no references.
+-- A new ledger counts no reference.
 pub tells_none : (ledger : LedgerState) (n : ℕ) → ledger.counts ≡ replicate n 0 → ledger.total ≡ 0 → Tells ledger []
 tells_none ledger n counts total = record {
   counts = λ x low. ap (λ (ns : List ℕ). slice_index_or ns x 0) counts ∙ get_or-replicate_default n x 0;

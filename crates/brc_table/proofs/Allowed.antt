@@ -46,8 +46,8 @@ pub record Knows (v : View) (d : Duty) (found : ℕ) : Type 0 where
   pub owner : FindsOwner v.layout d found
   pub finds : FindsKnown v (d ∷ []) found
 
--- If the hand loads the kind word of the object that it has locked, the object's slot has as many resources as the kind
--- asks for.
+-- If the hand has locked the object whose kind word it loads, the object's slot holds a resource exactly if the kind
+-- has one.
 abbrev SlotTells : View → Duty → ℕ → Type 0
 SlotTells v (KindLoad x) found = v.actor.locked ≡ Some x → v.in_slot ≡ resources_of found
 SlotTells v _ found = Unit {0}

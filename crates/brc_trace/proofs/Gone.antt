@@ -61,7 +61,7 @@ stays w t choice e = stays_among w t choice (slice_get w.actors t) e
 unseen : (w : World) (t : ℕ) (choice : Choice) → is_gone_at w t ≡ true → sight_at w t choice ≡ None
 unseen w t choice e = unseen_among w t choice (slice_get w.actors t) e
 
--- what is remembered after so many steps without a line
+-- what is remembered after n more steps without a line
 abbrev pub counted_past : Past → ℕ → Past
 counted_past past n = record { parts = past.parts; number = min (past.number + n) most_number }
 

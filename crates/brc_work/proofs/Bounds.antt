@@ -1,6 +1,6 @@
 -- How many instructions a hand's thread begins. Each beginning lowers what it can still begin, so that a call begins no
 -- more than the limit of its code, and the greatest bound stops no run.
-use Rattle.std.proofs.Common.{◌≡◌, ℕ, zero, suc, ◌+◌, ◌*◌, ◌^◌, ◌<◌, ◌≤◌, Bool, cond, List, [], ◌∷◌, length, inl, inr, Option, None, Some, refl, ap, subst, arith}
+use Rattle.std.proofs.Common.{◌≡◌, ℕ, zero, suc, ◌+◌, ◌*◌, ◌-◌, ◌^◌, ◌<◌, ◌≤◌, Bool, cond, List, [], ◌∷◌, length, inl, inr, Option, None, Some, refl, ap, subst, arith}
 use Rattle.std.specs.Prelude.{slice_get, sum_by}
 use Rattle.std.specs.List.{AllByRecursion}
 use Rattle.std.proofs.lemmas.Bool.Decides.{eqb_tells}
@@ -9,6 +9,7 @@ use Rattle.std.proofs.lemmas.Nat.{mul-le}
 use Rattle.brc_word.specs.Words.{free_word}
 use Rattle.brc_host.specs.HostCalls.{HostCall}
 use Rattle.brc_lang.specs.Grammar.{IsInstruction, IsFunction, IsModule}
+use Rattle.brc_lang.specs.Limits.{instruction_limit, turn_limit}
 use Rattle.brc_lang.specs.declared.module.Function.{Function}
 use Rattle.brc_lang.specs.declared.module.Module.{Module}
 use Rattle.brc_lang.specs.declared.module.Instr.{Instr}
@@ -120,6 +121,15 @@ calls_few code fits v u n begun cs (OneMore k i within ds closes more w x y call
 
 -- ---- the greatest bound
 
+-- The most calls of one run: their number is a u32.
+abbrev most_calls : ℕ
+most_calls = 2 ^ 32 - 1
+
+-- The most instructions that one call begins: each instruction of the function once, and once more in each turn of each
+-- `again`.
+abbrev most_in_call : ℕ
+most_in_call = instruction_limit * (1 + instruction_limit * turn_limit)
+
 -- Each instruction of a module's function is one of the grammar.
 pub each_fits : (p : Module) (n : ℕ) → IsModule p → AllByRecursion IsInstruction (code_of (slice_get p.functions n))
 each_fits p n fits = found (slice_get p.functions n) refl where
@@ -127,24 +137,24 @@ each_fits p n fits = found (slice_get p.functions n) refl where
   found None is = tt
   found (Some f) is = (all_of_found IsFunction p.functions n f fits.functions is).code
 
-turns_few : (code : List Instr) → AllByRecursion IsInstruction code → sum_by times_of code ≤ length code * 65535
+turns_few : (code : List Instr) → AllByRecursion IsInstruction code → sum_by times_of code ≤ length code * turn_limit
 turns_few [] each = omega arith
 turns_few (i ∷ code) each = omega (arith, sum_by-cons times_of i code, times_few i each.0, turns_few code each.1) where
-  times_few : (i : Instr) → IsInstruction i → times_of i ≤ 65535
+  times_few : (i : Instr) → IsInstruction i → times_of i ≤ turn_limit
   times_few (Again to times) is = is.2
   times_few _ is = omega arith
 
--- A call begins fewer than 2^32 instructions.
-limit_few : (code : List Instr) → FitsCode code → AllByRecursion IsInstruction code → call_limit code ≤ 4294902016
+limit_few : (code : List Instr) → FitsCode code → AllByRecursion IsInstruction code → call_limit code ≤ most_in_call
 limit_few code fits each =
     let turns = turns_few code each in
-    mul-le (length code) (1 + sum_by times_of code) 256 16776961 fits.few (omega (arith, turns, fits.few))
+    mul-le (length code) (1 + sum_by times_of code) instruction_limit (1 + instruction_limit * turn_limit) fits.few
+    (omega (arith, turns, fits.few))
 
-all_few : (made times limit : ℕ) → made < times → times < 2 ^ 32 → limit ≤ 4294902016
-    → (made + 1) * limit ≤ 4294967295 * 4294902016
-all_few made times limit low most few = mul-le (made + 1) limit 4294967295 4294902016 (omega (arith, low, most)) few
+all_few : (made times limit : ℕ) → made < times → times < 2 ^ 32 → limit ≤ most_in_call
+    → (made + 1) * limit ≤ most_calls * most_in_call
+all_few made times limit low most few = mul-le (made + 1) limit most_calls most_in_call (omega (arith, low, most)) few
 
-no_more : (made limit begun : ℕ) → (made + 1) * limit ≤ 4294967295 * 4294902016 → begun ≤ (made + 1) * limit
+no_more : (made limit begun : ℕ) → (made + 1) * limit ≤ most_calls * most_in_call → begun ≤ (made + 1) * limit
     → begun ≡ greatest_bound → ⊥
 no_more made limit begun most low is = absurd (omega (arith, most, low, is))
 

@@ -61,7 +61,8 @@ pub(crate) struct WorkerPromise<T: Drop, H> {
 
 impl<T: Drop, H: Host<Res = T>> Promise<Remains<T>> for WorkerPromise<T, H> {
     ghost kept_by = { λ p done. Ends H.answers H.counts
-        (job p.heap.value p.checked.value.«module» p.function p.times p.steps p.thread) done.hand done.ran done.called };
+        (job p.heap.value p.checked.value.«module» p.function p.times p.steps p.thread)
+        done.hand done.ran done.called };
 }
 
 impl<'a, T: Drop, H: Host<Res = T>, G: Gate> Task<'a, T, H, G> {

@@ -18,8 +18,8 @@ const OWN_AND_OTHER: &[u8] =
       func other\nnone v1\nlock v0\nput v0 0 v1 else @3\nfetch v2 v0 1 else @5\nset v0 0 v2 else @5\nunlock v0\n\
       ret v1\nend\n";
 
-/// `own` uses 64 rows, and stores the number of its 65th row in the root: that row's mark is the first one of the second
-/// mark word. `clear` takes the number out.
+/// `own` uses 64 rows, and stores the number of its 65th row in the root: that row's mark is the first one of the
+/// second mark word. `clear` takes the number out.
 const SECOND_WORD: &[u8] =
     b"module 1\nfunc own\nnum v1 1 else @9\ndrop v1\nagain @0 63\nnum v1 7 else @9\nlock v0\nput v0 0 v1 else @6\n\
       unlock v0\ndrop v1\ngoto @9\nfail\nend\n\

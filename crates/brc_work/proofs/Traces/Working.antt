@@ -325,7 +325,7 @@ module _ {later : Bool} {n : ℕ} (code : List Instr) (p : Place) (ds : List Dut
       with_duties code p q ds (ready u.actor.head (settle_if later)) [] v u
       (ap (λ (head : ℕ). ready head (settle_if later)) empty ∙ nothing_behind later) (with_agenda u [] none on)
 
--- A hand with nothing else to do comes to settle, as its thread does behind its agenda.
+-- The hand has done all its duties, and its thread still has to settle. Then to settle is the hand's next duty.
 pub comes_to_settle : {n : ℕ} {cs : List HostCall} (code : List Instr) (p : Place) (ds : List Duty) (v : View)
     (q : Place) (u : View) → u.actor.agenda ≡ [] → WorksOn true n cs code p ds v q u
     → WorksOn false n cs code p ds v q (to_settle [] u)

@@ -20,8 +20,8 @@ pub(super) fn go(target: u8, thread: &mut Thread, left: u32, start: &mut Start)
 }
 
 /// Begins `again`: the thread goes back to the target, if the instruction has gone back less than `times` times in this
-/// call (`again_once_more`), and otherwise passes on. The count is of the whole call: an outer loop that comes to the
-/// instruction once more finds it used up. So each call ends after a number of instructions that its text bounds.
+/// call (`again_once_more`), and otherwise passes on. The count is of the whole call: if an outer loop reaches the
+/// instruction again, its turns are used up. So each call ends after a number of instructions that its text bounds.
 #[inline(always)]
 pub(super) fn again(target: u8, times: u16, thread: &mut Thread, left: u32, start: &mut Start)
     requires { CanDispatch thread.old }

@@ -1,4 +1,4 @@
--- The steps of so many lines are taken, and their lines are written.
+-- The steps of the schedule's first `line-index` lines are taken, and what the trace shows of them is written.
 use Rattle.std.proofs.Common.{◌≡◌, length, take}
 use Rattle.brc_world.specs.Runs.{events_of}
 use Rattle.brc_world.specs.Worlds.{model_of}
