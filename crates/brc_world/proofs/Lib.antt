@@ -2,7 +2,9 @@ pub mod Stopping
 pub mod Calling
 pub mod Storing
 pub mod Dispatching
+pub mod Starting
 pub mod Acting
+pub mod Claiming
 pub mod Peeking
 pub mod Stepping
 pub mod Waiting

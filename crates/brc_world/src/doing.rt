@@ -1,18 +1,17 @@
-//! One step of one thread: it changes a word, the thread, or both.
+//! The next step of one thread, which does a duty or dispatches: it changes a word, the thread, or both.
 
-ghost use Rattle.std.specs.Prelude.{◌≡◌, ◌≢◌, ◌+◌, ◌<◌, ◌≤◌, ◌==◌, true, false, if◌then◌else◌, length, OnOk, OnErr, IfOk, IfErr};
+ghost use Rattle.std.specs.Prelude.{◌≡◌, ◌≢◌, ◌+◌, ◌≤◌, ◌==◌, false, if◌then◌else◌, length, OnOk, OnErr, IfOk, IfErr};
 ghost use Rattle.std.specs.Prelude.{[], reverse, vec_len, vec_capacity};
 ghost use Rattle.brc_word.specs.Words.{free_word};
 ghost use Rattle.brc_model.specs.declared.actor.Status.TheVariants.{Gone};
 ghost use Rattle.brc_model.specs.Duties.{address_of, new_word};
 ghost use Rattle.brc_model.specs.Machine.{is_running, used_by};
-ghost use Rattle.brc_model.specs.Actions.{may_claim, status_action};
+ghost use Rattle.brc_model.specs.Actions.{status_action};
 ghost use Rattle.brc_model.specs.Limits.{worker_limit, total_limit};
 ghost use Rattle.brc_model.specs.StepMachine.{at_place};
 ghost use Rattle.brc_model.specs.Within.{IsThere, Suits};
 ghost use Rattle.brc_world.specs.Storage.{word_in, AreOf, IsStored};
-ghost use Rattle.brc_world.specs.Actors.{actor_of, context_in, found_by, actor_after, memory_by, actor_by, faults_by, waits, answer_by, CanAct, finds_mark, memory_claimed, actor_claimed, did_claim, CanClaim, action_stopped, is_silent, silently, did_stop};
-ghost use Rattle.brc_check.specs.Tables.{states_of};
+ghost use Rattle.brc_world.specs.Actors.{actor_of, context_in, found_by, actor_after, memory_by, actor_by, faults_by, waits, answer_by, CanAct};
 ghost use Rattle.brc_world.specs.Starts.{let_in};
 
 use crate::agenda::{pass_over, push};
@@ -23,13 +22,11 @@ use crate::host_call::end_call;
 use crate::memory::Memory;
 use crate::no_memory::NoMemory;
 use crate::question::answer;
-use crate::thread::{Mode, ROOM, Thread, owned_rows};
-use brc_check::Checked;
+use crate::thread::{ROOM, Thread};
 use brc_effect::{Blocks, Doer, access_of, address_of};
 use brc_lang::Function;
 use brc_model::{Duty, Exit, Status};
-use brc_word::mark_at;
-use brc_word::values::{FREE, UNSET};
+use brc_word::values::FREE;
 
 /// Does the thread's duty, which is no longer in its agenda, on the duty's word. Returns the value that it found there.
 // Inside the step its values would have no registers, and the step would take longer. Each arm makes the same call,
@@ -186,12 +183,6 @@ pub fn doer(blocks: Blocks, thread: &Thread, number: u8, rows: u32) -> Doer
     }
 }
 
-fn is_running(status: Status) -> bool
-    ensures { result ≡ is_running status }
-{
-    matches!(status, Status::Running)
-}
-
 /// Takes the thread's next step, and returns what it did. If the step is a host call or a close, it ends by the exit.
 /// Returns `NoMemory`, with nothing changed, if memory is refused.
 #[inline(always)]
@@ -304,124 +295,4 @@ fn act_by_dispatch(
             enter(thread, *left, *next, found)
         }
     }
-}
-
-/// Takes the row's mark if the thread may claim the row and the mark is set, and returns what the step did. Returns
-/// `NoMemory`, with nothing changed, if memory is refused.
-#[inline(never)]
-pub fn claim(
-    memory: &mut Memory,
-    blocks: Blocks,
-    number: u8,
-    thread: &mut Thread,
-    row: u32,
-) -> Result<Did, NoMemory>
-    requires columns { AreOf blocks memory.old }
-    requires small { length memory.old.local ≤ total_limit }
-    requires known { number ≤ worker_limit }
-    requires can { CanClaim blocks number (length memory.old.local) (word_in memory.old)
-        (actor_of thread.old) row }
-    ensures did { IfOk result (λ did. did ≡ did_claim blocks number (word_in memory.old) (actor_of thread.old) row
-        thread.old.status) }
-    ensures words { OnOk result (word_in memory.new
-        ≡ memory_claimed blocks number (word_in memory.old) (actor_of thread.old) row) }
-    ensures actor { OnOk result (actor_of thread.new
-        ≡ actor_claimed blocks number (word_in memory.old) (actor_of thread.old) row) }
-    ensures refused { IfErr result (λ _. finds_mark blocks number (word_in memory.old) (actor_of thread.old) row
-        ≡ true) }
-    ensures same_words { OnErr result (memory.new ≡ memory.old) }
-    ensures same_actor { OnErr result (actor_of thread.new ≡ actor_of thread.old) }
-    ensures as_many_rows { length memory.new.local ≡ length memory.old.local }
-    ensures as_many_threads { length memory.new.thread ≡ length memory.old.thread }
-{
-    if let Status::Gone = thread.status {
-        return Ok(Did::Gone);
-    }
-    if !finds_mark(memory, blocks, number, thread, row) {
-        return Ok(Did::Same);
-    }
-    thread.agenda.reserve(ROOM)?;
-    do_duty(memory, blocks, number, thread, &Duty::ClaimMark { row });
-    Ok(Did::Moved)
-}
-
-fn finds_mark(memory: &Memory, blocks: Blocks, number: u8, thread: &Thread, row: u32) -> bool
-    requires columns { AreOf blocks memory.now }
-    requires can { CanClaim blocks number (length memory.now.local) (word_in memory.now)
-        (actor_of thread.now) row }
-    ensures { result ≡ finds_mark blocks number (word_in memory.now) (actor_of thread.now) row }
-{
-    if !may_claim(blocks, number, thread, row) {
-        return false;
-    }
-    let word = memory.load(blocks.mark_place(row));
-    mark_at(word, blocks.mark_bit(row)) != UNSET
-}
-
-/// Returns whether the thread may claim the row: it runs, is in no call, has nothing to do, and has used the row of its
-/// block. It may claim no other thread's row, because only the owner may merge an object while it runs
-/// (`claim_of_any_row`).
-pub fn may_claim(blocks: Blocks, number: u8, thread: &Thread, row: u32) -> bool
-    ensures { result ≡ may_claim blocks number (actor_of thread.now) row }
-{
-    match thread.mode {
-        Mode::Idle => {
-            let (block, index) = blocks.locate(row);
-            is_running(thread.status)
-                && thread.agenda.is_empty()
-                && block == u32::from(number)
-                && index < thread.used
-        }
-        Mode::InCall | Mode::Inside(_) | Mode::Stopping { .. } | Mode::Exiting => false,
-    }
-}
-
-/// Returns whether a stop changes the thread: it runs, has nothing to do, and is before a call or before an
-/// instruction. At a point that no path of its function reaches it can't stop, because nobody knows what it holds
-/// there.
-pub fn stops(checked: &Checked, thread: &Thread) -> bool
-    ensures { result ≡ is_silent (action_stopped (states_of checked.now.module checked.now.table)
-        (actor_of thread.now)) }
-{
-    if !is_running(thread.status) || !thread.agenda.is_empty() {
-        return false;
-    }
-    match thread.mode {
-        Mode::Idle => thread.left != 0,
-        Mode::InCall => checked.entry(thread.function, thread.at).is_some(),
-        Mode::Inside(_) | Mode::Stopping { .. } | Mode::Exiting => false,
-    }
-}
-
-/// Stops the thread, if it is between two instructions, and returns what the step did. What the module's table says is
-/// locked at its point it has then to unlock, and what the table says its variables own it has to give up; what they
-/// borrow isn't its own (`stop_releases_borrowed`). It takes no memory.
-#[inline(never)]
-pub fn stop(checked: &Checked, thread: &mut Thread) -> Did
-    ensures did { result ≡ did_stop (states_of checked.now.module checked.now.table) (actor_of thread.old)
-        thread.old.status }
-    ensures actor { actor_of thread.new ≡ silently (actor_of thread.old)
-        (action_stopped (states_of checked.now.module checked.now.table) (actor_of thread.old)) }
-{
-    if let Status::Gone = thread.status {
-        return Did::Gone;
-    }
-    if !stops(checked, thread) {
-        return Did::Same;
-    }
-    match thread.mode {
-        Mode::InCall => {
-            let entry = checked.entry(thread.function, thread.at);
-            if let Some(state) = entry {
-                let locked = match state.locked {
-                    Some(variable) => thread.row_of(variable),
-                    None => None,
-                };
-                thread.variables = owned_rows(&state.vars, &thread.variables);
-                thread.stop(locked);
-            }
-        }
-        _ => thread.rest(0),
-    }
-    Did::Moved
 }

@@ -3,6 +3,7 @@
 #![tactic(auto)]
 
 mod agenda;
+mod claim_and_stop;
 mod did;
 mod dispatch;
 mod doing;

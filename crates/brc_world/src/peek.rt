@@ -11,8 +11,8 @@ ghost use Rattle.brc_world.specs.Sights.{is_leave, is_scan, leaves_next, exit_pa
 ghost use Rattle.brc_world.specs.Storage.{word_in, AreOf};
 ghost use Rattle.brc_check.specs.Tables.{states_of};
 
+use crate::claim_and_stop::{may_claim, stops};
 use crate::dispatch::{Start, first_duty};
-use crate::doing::{may_claim, stops};
 use crate::event::{Event, ExitPart, Part, Sight};
 use crate::memory::Memory;
 use crate::no_memory::NoMemory;

@@ -13,8 +13,9 @@ ghost use Rattle.brc_world.specs.MachineTallies.{IsMachineTally};
 ghost use Rattle.brc_world.specs.Answers.{is_gone_at, IsAnswer};
 ghost use Rattle.brc_model.specs.Layout.{row_count};
 
+use crate::claim_and_stop::{claim, stop};
 use crate::did::Did;
-use crate::doing::{act, claim, stop};
+use crate::doing::act;
 use crate::event::Sight;
 use crate::faults::Faults;
 use crate::first::first_threads;

@@ -2,7 +2,8 @@
 use Rattle.std.proofs.Common.{◌≡◌, ℕ, length, Some, refl, ap, ◌∙◌, subst}
 use Rattle.brc_model.specs.declared.duty.Duty.{Duty}
 use Rattle.brc_model.specs.declared.duty.Duty.TheVariants.{LockGate}
-use Rattle.brc_world.proofs.Acting.{HasStarted, duty_of, entering, dispatched, stuck_step, moved_step, called_step, duty_step, goes_on, can_do, answerable}
+use Rattle.brc_world.proofs.Starting.{duty_of, entering}
+use Rattle.brc_world.proofs.Acting.{HasStarted, dispatched, stuck_step, moved_step, called_step, duty_step, goes_on, can_do, answerable}
 use Rattle.brc_world.specs.declared.dispatch.Start.{Start}
 use Rattle.brc_world.specs.declared.dispatch.Start.TheVariants as starts
 use Rattle.brc_model.specs.StepMachine.{at_place}
