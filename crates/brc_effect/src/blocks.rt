@@ -67,7 +67,9 @@ impl Blocks {
     }
 
     /// Returns the thread whose block has the row, and the row's index in the block.
-    #[inline(always)]
+    ///
+    /// It isn't `#[inline(always)]`: that would put it six times into each step, for duties of marks alone.
+    #[inline]
     pub fn locate(self, row: u32) -> (u32, u32)
         ensures block { result.0 ≡ block_of self row }
         ensures index { result.1 ≡ index_of self (block_of self row) row }

@@ -1,7 +1,7 @@
 -- What the steps leave by which a hand finalises an object.
 use Rattle.std.proofs.Common.{◌≡◌, ◌≢◌, ℕ, zero, suc, ◌+◌, ◌-◌, ◌<◌, Bool, true, false, List, [], ◌∷◌, ◌++◌, Some, refl, sym, ap, ◌∙◌, subst, arith}
 use Rattle.std.proofs.Math.Nat.{lt_irrefl, le_refl}
-use Rattle.std.proofs.lemmas.Bool.{lt-ltb, le-ltb}
+use Rattle.std.proofs.lemmas.Bool.{eq-eqb, lt-ltb, le-ltb}
 use Rattle.std.specs.Prelude.{◌==◌, ◌&&◌, nat_lt, if◌then◌else◌}
 use Rattle.brc_host.specs.HostCalls.{HostCall, Close}
 use Rattle.brc_model.specs.declared.actor.Status.TheVariants.{Running, Gone}
@@ -15,7 +15,7 @@ use Rattle.brc_table.specs.Calls.{MaySettle, SettlesFrom}
 use Rattle.brc_free.specs.Works.{Works, Next, HasWorked, ComesToSettle, AtOnce, InWork, to_settle, closes_by}
 use Rattle.brc_heap.specs.Steps.{Keeps}
 use Rattle.brc_heap.proofs.Keeping.{keeps_then, keeps_beside, did_keeps}
-use Rattle.brc_heap.proofs.Stepping.{gate_apart}
+use Rattle.brc_heap.proofs.Stepping.{finalising_unlocked, gate_apart}
 use Rattle.brc_free.proofs.Working.{head_unlocked, worked_first, worked_on, worked_then}
 use Rattle.brc_free.proofs.FirstDuties.{settle_kind_first, settle_cell_first, take_slot_first, settle_end_first}
 
@@ -108,6 +108,15 @@ cells_first head x i n rest = first (nat_lt i n) where
   first true = settle_cell_first head x i n rest
   first false = settle_end_first head x rest
 
+-- The hand that is to do them hasn't locked the list.
+pub cells_unlocked : (v : View) (x n : ℕ) (rest : List Duty) → RowsAreThere v
+    → v.actor.agenda ≡ cells_from x 0 n ++ rest → v.actor.locked ≢ Some x
+cells_unlocked v x n rest there is = first (nat_lt 0 n) is where
+  first : (more : Bool)
+      → v.actor.agenda ≡ (if more then SettleCell x 0 n ∷ [] else SettleEnd x ∷ []) ++ rest → v.actor.locked ≢ Some x
+  first true is = finalising_unlocked v (SettleCell x 0 n) rest x there is (eq-eqb x x refl)
+  first false is = finalising_unlocked v (SettleEnd x) rest x there is (eq-eqb x x refl)
+
 -- The next cell that is left.
 pub cell_next : (x i n : ℕ) (rest : List Duty) → i < n → cells_from x i n ++ rest ≡ SettleCell x i n ∷ rest
 cell_next x i n rest low =
@@ -139,13 +148,13 @@ item_found (suc y) some = ap (λ (x : ℕ). ReleaseLoad x InFlight ∷ []) (one_
   one_less : (y : ℕ) → y ≡ suc y - 1
   one_less y = omega (arith)
 
--- All cells are empty now.
-pub all_emptied : (v u w : View) (x n : ℕ) (rest : List Duty) → HasWorked v [] (cells_from x 0 n ++ Settle ∷ rest) u
-    → ((later : List Duty) → u.actor.agenda ≡ cells_from x 0 n ++ later → HasWorked u [] (SettleEnd x ∷ later) w)
-    → HasWorked v [] (SettleEnd x ∷ Settle ∷ rest) w
-all_emptied v u w x n rest at emptied =
-    worked_then v u w [] [] (cells_from x 0 n ++ Settle ∷ rest) (SettleEnd x ∷ Settle ∷ rest) at
-    (emptied (Settle ∷ rest) (at.agenda ∙ cells_first u.actor.head x 0 n (Settle ∷ rest)))
+-- All cells are empty now, and the list is closed.
+pub all_closed : (v u w : View) (x n : ℕ) (rest : List Duty) → HasWorked v [] (cells_from x 0 n ++ Settle ∷ rest) u
+    → ((later : List Duty) → u.actor.agenda ≡ cells_from x 0 n ++ later → HasWorked u [] later w)
+    → HasWorked v [] (Settle ∷ rest) w
+all_closed v u w x n rest at closed =
+    worked_then v u w [] [] (cells_from x 0 n ++ Settle ∷ rest) (Settle ∷ rest) at
+    (closed (Settle ∷ rest) (at.agenda ∙ cells_first u.actor.head x 0 n (Settle ∷ rest)))
 
 -- After the last cell the object is closed.
 pub cells_end : (x n : ℕ) (rest : List Duty) → cells_from x n n ++ rest ≡ SettleEnd x ∷ rest

@@ -185,8 +185,7 @@ impl<'h, T: Drop, Q: Marker<T>> Finaliser<'h, T, Q> {
         if has_resource(kind) {
             return Self::close_resource(self.heap, hand, host, row);
         }
-        Self::empty_cells(self.heap, self.queue, rt, hand, row, cells_of(kind));
-        words.gate_close(hand, row);
+        Self::close_cells(self.heap, self.queue, rt, hand, row, cells_of(kind));
         0
     }
 
@@ -218,9 +217,35 @@ impl<'h, T: Drop, Q: Marker<T>> Finaliser<'h, T, Q> {
         faults_of(&closed)
     }
 
+    /// Does the next duties, behind which others may come: empties the cells of a dying list, gives up the references
+    /// that were there, and closes the list.
+    #[inline(never)]
+    fn close_cells<R: Wait>(
+        heap: &'h Heap<T>,
+        queue: &'h Q,
+        rt: &R,
+        hand: &mut Hand<T>,
+        row: u32,
+        cells: u32,
+    )
+        requires same { Q.heap queue.now ≡ heap.now }
+        requires table { IsOf heap.now hand.old }
+        requires alive { hand.old.view.actor.status ≢ Gone }
+        requires duty { EmptiesNext row cells hand.old.view.actor.agenda }
+        requires slot { FirstSlot hand.old.slots row 0 }
+        ensures table { hand.new.table ≡ hand.old.table }
+        ensures carried { hand.new.carried ≡ hand.old.carried }
+        ensures slots { hand.new.slots ≡ behind_slot hand.old.slots }
+        ensures work { (rest : List Duty) → hand.old.view.actor.agenda ≡ cells_from row 0 cells ++ rest
+            → HasWorked hand.old.view [] rest hand.new.view }
+    {
+        hand.rows_are_there();
+        Self::empty_cells(heap, queue, rt, hand, row, cells);
+        heap.words().gate_close(hand, row);
+    }
+
     /// Does the next duties, behind which others may come: empties the cells of a dying list, and gives up the
     /// references that were there.
-    #[inline(never)]
     fn empty_cells<R: Wait>(
         heap: &'h Heap<T>,
         queue: &'h Q,

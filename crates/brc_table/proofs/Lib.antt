@@ -27,6 +27,7 @@ mod Locking
 mod SlotSteps
 mod Bare
 mod NextDuty
+mod GoingOn
 mod StoredSteps
 mod Permitted
 mod Swapping

@@ -9,7 +9,7 @@ ghost use Rattle.brc_table.specs.Places.{HasWord};
 ghost use Rattle.brc_model.specs.SlotLaws.{use_of};
 ghost use Rattle.brc_model.specs.Stores.{Overwrites};
 ghost use Rattle.brc_table.specs.declared.view.View.{View};
-ghost use Rattle.brc_table.specs.Views.{view_after, turned};
+ghost use Rattle.brc_table.specs.Views.{view_after};
 ghost use Rattle.brc_table.specs.Homes.{TableStands};
 ghost use Rattle.brc_table.specs.Plays.{SuitsFirst, FirstFindsOwner, FindsKnown, overwritten};
 ghost use Rattle.brc_table.specs.Uses.{first_due, held_after};
@@ -20,7 +20,6 @@ ghost use Rattle.brc_effect.specs.Effects.{IsIndexed};
 ghost use Rattle.brc_table.specs.Accesses.{HasAccess, HasCell, HasChain, HasUsedRow, IsNext, row_of};
 ghost use Rattle.brc_table.specs.Begins.{Becomes};
 ghost use Rattle.brc_table.specs.Hands.{IsOf};
-ghost use Rattle.brc_table.specs.Calls.{CanAct};
 
 use crate::after::{head_after, runs_after, said_by, used_after};
 use crate::hand::Hand;
@@ -88,41 +87,38 @@ impl<T: Drop> Words<T> {
         ensures finds { FindsKnown (turned_to work hand.old.view (row_of duty))
             (turned_to work hand.old.view (row_of duty)).actor.agenda result }
     {
-        match work {
-            Work::Next => self.step(hand, duty),
-            Work::Aside => self.resume(hand, duty),
-        }
-    }
-
-    /// Turns to the work about the duty's row, and does the duty, which is that work. Returns what `step` does.
-    #[inline(always)]
-    pub(crate) fn resume(&self, hand: &mut Hand<T>, duty: Duty) -> u64
-        requires table { IsOf self.now hand.old }
-        requires acts { CanAct hand.old.view }
-        requires known { HasAccess duty }
-        requires cell { HasCell duty }
-        requires chain { HasChain duty hand.old.view.actor.head }
-        requires row { HasUsedRow duty hand.old.view.actor.used }
-        requires next { IsNext duty (turned hand.old.view (row_of duty)).actor.agenda }
-        requires due { DueSlot (use_of duty 0) hand.old.slots (turned hand.old.view (row_of duty)) }
-        ensures table { hand.new.table ≡ hand.old.table }
-        ensures carried { hand.new.carried ≡ hand.old.carried }
-        ensures slots { hand.new.slots
-            ≡ held_after hand.old.slots (use_of duty 0) (first_due (duty ∷ []) result) }
-        ensures view { hand.new.view ≡ view_after (turned hand.old.view (row_of duty)) result }
-        ensures overwrites { Overwrites hand.old.view.thread duty result }
-        ensures suits { SuitsFirst (turned hand.old.view (row_of duty))
-            (turned hand.old.view (row_of duty)).actor.agenda result }
-        ensures owner { FirstFindsOwner (turned hand.old.view (row_of duty))
-            (turned hand.old.view (row_of duty)).actor.agenda result }
-        ensures finds { FindsKnown (turned hand.old.view (row_of duty))
-            (turned hand.old.view (row_of duty)).actor.agenda result }
-    {
         work_is_put_aside();
         work_is_taken_back();
         self.layout_is_plain();
         hand.rows_are_there();
-        self.step_from::<Brand>(hand, &duty)
+        self.step_of::<Brand>(hand, work, &duty)
+    }
+
+    /// Does what `step_from` does, where what `B` begins with depends on which work it is. The code doesn't: a hand's
+    /// agenda isn't in memory.
+    #[inline(always)]
+    fn step_of<B: Begins>(&self, hand: &mut Hand<T>, _work: Work, duty: &Duty) -> u64
+        requires table { IsOf self.now hand.old }
+        requires begins { Becomes self.now.layout hand.old.view (B.begins hand.old.view) }
+        requires alive { (B.begins hand.old.view).actor.status ≢ Gone }
+        requires known { HasAccess duty.now }
+        requires there { HasWord self.now.layout
+            (address_of self.now.layout hand.old.view.thread hand.old.view.actor.head duty.now) }
+        requires chain { HasChain duty.now hand.old.view.actor.head }
+        requires indexed { IsIndexed duty.now }
+        requires next { IsNext duty.now (B.begins hand.old.view).actor.agenda }
+        requires due { DueSlot (use_of duty.now 0) hand.old.slots (B.begins hand.old.view) }
+        ensures table { hand.new.table ≡ hand.old.table }
+        ensures carried { hand.new.carried ≡ hand.old.carried }
+        ensures slots { hand.new.slots
+            ≡ held_after hand.old.slots (use_of duty.now 0) (first_due (duty.now ∷ []) result) }
+        ensures view { hand.new.view ≡ view_after (B.begins hand.old.view) result }
+        ensures overwrites { Overwrites hand.old.view.thread duty.now result }
+        ensures suits { SuitsFirst (B.begins hand.old.view) (B.begins hand.old.view).actor.agenda result }
+        ensures owner { FirstFindsOwner (B.begins hand.old.view) (B.begins hand.old.view).actor.agenda result }
+        ensures finds { FindsKnown (B.begins hand.old.view) (B.begins hand.old.view).actor.agenda result }
+    {
+        self.step_from::<B>(hand, duty)
     }
 
     /// Becomes what `B` begins with, and does the duty, which then comes next.

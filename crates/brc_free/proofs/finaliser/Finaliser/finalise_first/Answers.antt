@@ -9,7 +9,7 @@ use Rattle.brc_table.specs.Calls.{ClosesRow}
 use Rattle.brc_free.specs.Works.{HasWorked, ComesToSettle, to_settle, behind}
 use Rattle.brc_free.proofs.FirstDuties.{settle_kind_first, take_slot_first, settle_end_first}
 use Rattle.brc_free.proofs.Working.{head_unlocked, worked_call}
-use Rattle.brc_free.proofs.SettleDuties.{comes_alive, taken_off, kind_has_resource, cells_next, cells_first, all_emptied, ended}
+use Rattle.brc_free.proofs.SettleDuties.{comes_alive, taken_off, kind_has_resource, cells_next, cells_first, all_closed, ended}
 use Rattle.brc_host.specs.HostCalls.{NoCall}
 use Rattle.brc_free.proofs.finaliser.Finaliser.finalise_first.Given as given
 use Rattle.brc_free.proofs.finaliser.Finaliser.finalise_first.Goals.{After-step-kind, After-cells_of}
@@ -47,17 +47,8 @@ cells : (g : given.Over) (c : After-cells_of g) (rest : List Duty) → ComesToSe
     c.step-kind.new.hand.view
 cells g c rest comes =
     cells_next _ _ _ _ c.step-kind.result _ rest
-    (off g (goal.at.empty_cells-requires-clause-duty g c).After-step-kind rest comes)
+    (off g (goal.at.close_cells-requires-clause-duty g c).After-step-kind rest comes)
     c.step-kind.ensures.view (sym c.has_resource.ensures ∙ c.if-has_resource.false) c.cells_of.ensures
-
--- Once they are empty, the object is closed next.
-emptied_all : (g : given.Over) (c : After-cells_of g) (w : View) (rest : List Duty)
-    → ((later : List Duty) → c.step-kind.new.hand.view.actor.agenda
-    ≡ cells_from (c.head-row.result - 1) 0 c.cells_of.result ++ later
-    → HasWorked c.step-kind.new.hand.view [] (SettleEnd (c.head-row.result - 1) ∷ later) w)
-    → ComesToSettle c.args.hand.now.view rest
-    → HasWorked (to_settle rest c.args.hand.now.view) [] (SettleEnd (c.head-row.result - 1) ∷ Settle ∷ rest) w
-emptied_all g c w rest emptied comes = all_emptied _ _ w _ c.cells_of.result rest (cells g c rest comes) emptied
 
 pub step-kind-requires-clause-alive : goal.step-kind-requires-clause-alive
 step-kind-requires-clause-alive g c = λ gone.
@@ -124,46 +115,21 @@ returns-then-has_resource-clause-work g c = λ rest comes.
     let one = c.close_resource.ensures.work in
     (one.0, worked_call _ _ _ one.0 _ behind at (take_slot_first _ _ _) one.1, one.2, one.3)
 
-pub empty_cells-requires-clause-alive : goal.empty_cells-requires-clause-alive
-empty_cells-requires-clause-alive g c = λ gone.
+pub close_cells-requires-clause-alive : goal.close_cells-requires-clause-alive
+close_cells-requires-clause-alive g c = λ gone.
     comes_alive _ _ c.requires.duty.1 (sym (cells g c _ c.requires.duty.1).keeps.status ∙ gone)
 
-pub empty_cells-requires-clause-duty : goal.empty_cells-requires-clause-duty
-empty_cells-requires-clause-duty g c = record {
+pub close_cells-requires-clause-duty : goal.close_cells-requires-clause-duty
+close_cells-requires-clause-duty g c = record {
   rest = Settle ∷ c.requires.duty.0;
   next = (cells g c _ c.requires.duty.1).agenda ∙ cells_first _ _ 0 c.cells_of.result _;
 }
 
-pub gate_close-requires-2-clause-table : goal.gate_close-requires-2-clause-table
-gate_close-requires-2-clause-table g c =
-    let at = emptied_all g (goal.at.gate_close-requires-2-clause-table g c).After-cells_of c.empty_cells.new.hand.view _
-    c.empty_cells.ensures.work c.requires.duty.1 in
-    let words = c.words-words.ensures ∙ c.self.view_is in (
-      c.empty_cells.ensures.kept.table ∙ (c.step-kind.ensures.table
-          ∙ (c.gate_load.ensures.kept.table ∙ (c.requires.table.0 ∙ sym (ap (λ (t : TableState). t.table) words)))),
-      at.keeps.layout ∙ (c.requires.table.1 ∙ sym (ap (λ (t : TableState). t.layout) words)),
-    )
-
-pub gate_close-requires-2-clause-alive : goal.gate_close-requires-2-clause-alive
-gate_close-requires-2-clause-alive g c = λ gone.
-    let at = emptied_all g (goal.at.gate_close-requires-2-clause-alive g c).After-cells_of c.empty_cells.new.hand.view _
-    c.empty_cells.ensures.work c.requires.duty.1 in
-    comes_alive _ _ c.requires.duty.1 (sym at.keeps.status ∙ gone)
-
-pub gate_close-requires-2-clause-duty : goal.gate_close-requires-2-clause-duty
-gate_close-requires-2-clause-duty g c =
-    let at = emptied_all g (goal.at.gate_close-requires-2-clause-duty g c).After-cells_of c.empty_cells.new.hand.view _
-    c.empty_cells.ensures.work c.requires.duty.1 in
-    subst (ClosesRow (c.head-row.result - 1)) (sym (at.agenda ∙ settle_end_first _ _ _)) refl
-
 pub returns-clause-work : goal.returns-clause-work
-returns-clause-work g c = λ rest comes.
-    let at = emptied_all g (goal.at.returns-clause-work g c).After-cells_of c.empty_cells.new.hand.view rest
-    c.empty_cells.ensures.work comes in (
+returns-clause-work g c = λ rest comes. (
       [],
-      ended _ _ _ [] _ c.gate_close-2.result (Settle ∷ rest) at c.gate_close-2.ensures.view
-          (head_unlocked c.args.hand.now.view _ c.rows_are_there.ensures c.requires.chain
-          (ap (λ (n : ℕ). n - 1) c.head-row.ensures)),
+      all_closed _ _ _ _ c.cells_of.result rest
+          (cells g (goal.at.returns-clause-work g c).After-cells_of rest comes) c.close_cells.ensures.work,
       refl,
       NoCall,
     )

@@ -1,6 +1,0 @@
-use Rattle.brc_table.specs.Accesses.{row_of}
-use Rattle.brc_table.specs.Views.{turned}
-use Rattle.brc_table.proofs.words.Words.resume.Given as goal
-
-abbrev pub ghosts-step_from : goal.ghosts-step_from
-ghosts-step_from g a = record { begins = λ v. turned v (row_of a.duty.now) }
