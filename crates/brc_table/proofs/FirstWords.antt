@@ -1,8 +1,13 @@
 -- The first words say what the words of the first machine of hands are.
-use Rattle.std.proofs.Common.{◌≡◌, ◌≢◌, ℕ, zero, suc, ◌+◌, ◌*◌, ◌/◌, ◌%◌, ◌-◌, ◌<◌, Bool, true, false, List, refl, sym, ap, ◌∙◌, arith}
+use Rattle.std.proofs.Common.{◌≡◌, ◌≢◌, ℕ, zero, suc, ◌+◌, ◌*◌, ◌/◌, ◌%◌, ◌-◌, ◌<◌, ◌≤◌, ◌⊎◌, Bool, true, false, List, ◌++◌, length, inl, inr, refl, sym, ap, ◌∙◌, arith}
 use Rattle.std.specs.Prelude.{◌==◌, nat_lt, if◌then◌else◌, slice_index}
+use Rattle.std.specs.List.{slice_range}
+use Rattle.std.proofs.Math.ListN.{get_or}
 use Rattle.std.proofs.Math.Nat.{div-add-mod, mod-lt}
-use Rattle.std.proofs.lemmas.Bool.{ne_eqb, le-leb, le-ltb, lt-ltb}
+use Rattle.std.proofs.Math.ListN.{drop}
+use Rattle.std.proofs.Math.Seq.{get_or-append_right}
+use Rattle.std.proofs.lemmas.Bool.{cases_lt, ne_eqb, le-leb, le-ltb, lt-ltb}
+use Rattle.std.proofs.lemmas.List.{get_or-drop, get_or-take, get_or_append_left, length-append, length-drop, length-take-le}
 use Rattle.brc_word.specs.Words.{free_word, fresh_word}
 use Rattle.brc_model.specs.declared.address.Address.{Address}
 use Rattle.brc_model.specs.declared.address.Address.TheVariants.{Local, Shared, Gate, KindOf, Marks, Cell, Slot, Resource, ThreadWord}
@@ -50,6 +55,61 @@ line_zero l high =
 first_else : (index : ℕ) → index ≢ in_tile 0 none_row → index ≢ in_tile 0 root_row → index ≢ in_tile 3 none_row
     → index ≢ in_tile 3 root_row → first_word index ≡ blank_word index
 first_else index a b c d = rw (ne_eqb index _ a, ne_eqb index _ b, ne_eqb index _ c, ne_eqb index _ d) refl
+
+-- ---- tiles without a born row
+
+-- Behind the first tile, the first value of a word is that of its line.
+tile_first : (q j : ℕ) → 0 < q → j < tile → first_word (front + tile * q + j) ≡ blank_line (j / line)
+tile_first q j some low =
+    let index = front + tile * q + j in
+    let n = index - front in
+    let one = div-add-mod n tile in let below = mod-lt n (let h : 0 < tile = omega arith in h) in
+    let column : n % tile ≡ j = omega (arith, one, below, low) in
+    let behind : nat_lt index front ≡ false = le-ltb index front (omega arith) in
+    first_else index (λ e. omega (arith, e, some)) (λ e. omega (arith, e, some)) (λ e. omega (arith, e, some))
+    (λ e. omega (arith, e, some))
+    ∙ ap (λ (b : Bool). if b then (if index == 0 then 1 else 0) else blank_line (n % tile / line)) behind
+    ∙ ap (λ (m : ℕ). blank_line (m / line)) column
+
+-- First words, with a copy of the second tile behind them, are the first words of one tile more.
+module _ (ws : List ℕ) (q : ℕ) (two : 2 ≤ q) (long : length ws ≡ front + tile * q)
+    (first : (k : ℕ) → k < length ws → slice_index ws k ≡ first_word k) where
+  abbrev pub second : List ℕ
+  second = slice_range ws (front + tile) (front + 2 * tile)
+
+  behind_second : length (drop (front + tile) ws) ≡ length ws - (front + tile)
+  behind_second = length-drop (front + tile) ws
+
+  second_length : length second ≡ tile
+  second_length =
+      length-take-le (front + 2 * tile - (front + tile)) (drop (front + tile) ws)
+      (let is = behind_second in omega (arith, is, long, two))
+
+  pub copied_length : length (ws ++ second) ≡ front + tile * (q + 1)
+  copied_length = let is = second_length in let both = length-append ws second in omega (arith, both, is, long)
+
+  -- a word of the copy
+  copied_word : (j : ℕ) → j < tile → get_or second j 0 ≡ first_word (front + tile * q + j)
+  copied_word j low =
+      get_or-take (front + 2 * tile - (front + tile)) (drop (front + tile) ws) j 0 (omega (arith, low))
+      ∙ get_or-drop (front + tile) ws j 0
+      ∙ first (front + tile + j) (omega (arith, low, long, two))
+      ∙ tile_first 1 j (omega arith) low
+      ∙ sym (tile_first q j (omega (arith, two)) low)
+
+  pub copied_first : (k : ℕ) → k < length (ws ++ second) → slice_index (ws ++ second) k ≡ first_word k
+  copied_first k low = at (cases_lt k (length ws)) where
+    at : (k < length ws) ⊎ (length ws ≤ k) → slice_index (ws ++ second) k ≡ first_word k
+    at (inl before) = get_or_append_left ws second 0 k before ∙ first k before
+    at (inr behind) =
+        let here : k < front + tile * (q + 1) = let is = copied_length in omega (arith, low, is) in
+        let j = k - length ws in
+        let is : front + tile * q + j ≡ k = omega (arith, behind, long) in
+        get_or-append_right ws second k 0 behind
+        ∙ copied_word j (omega (arith, here, behind, long))
+        ∙ ap first_word is
+
+-- ---- addresses
 
 -- The same of an address.
 module _ (layout : Layout) (plain : IsPlainLayout layout) where

@@ -4,7 +4,7 @@ ghost use Rattle.std.specs.Prelude.{◌≡◌, IfOk};
 ghost use Rattle.brc_table.specs.Opening.{blank_line, blank_word, first_word, AreFirst};
 
 use crate::place::{FRONT, GATE, KIND, LINE, LOCAL, SHARED, TILE, in_line};
-use crate::size::{CELLS, word_count};
+use crate::size::{CELLS, tile_count, word_count};
 use brc_effect::rows::{NONE_ROW, ROOT};
 use brc_model::Layout;
 use brc_word::values::{FREE, LIST, NONE, RUNNING};
@@ -66,13 +66,19 @@ fn first_word(index: usize) -> u64
 }
 
 /// Returns the words of a table before any step, or `AllocError` if memory is refused.
+///
+/// No row of the second tile is born, and each tile behind it has the same words.
 pub(crate) fn first_words(alloc: Global, layout: Layout) -> Result<Vec<u64>, AllocError>
     ensures { IfOk result (λ words. AreFirst layout words.items) }
 {
-    let count = word_count(layout);
-    let mut words = Vec::with_capacity(alloc, count)?;
-    for index in 0..count {
+    let mut words = Vec::with_capacity(alloc, word_count(layout))?;
+    let tiles = tile_count(layout);
+    let computed = if tiles < 2 { tiles } else { 2 };
+    for index in 0..FRONT + TILE * computed {
         words.push(first_word(index))?;
+    }
+    for _tile in 2..tiles {
+        words.extend_from_within(FRONT + TILE..FRONT + 2 * TILE)?;
     }
     Ok(words)
 }

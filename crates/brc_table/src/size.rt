@@ -2,7 +2,7 @@
 
 ghost use Rattle.std.specs.Prelude.{◌≡◌};
 ghost use Rattle.brc_model.specs.Layout.{mark_words_of};
-ghost use Rattle.brc_table.specs.Places.{word_count};
+ghost use Rattle.brc_table.specs.Places.{tiles, word_count};
 
 use crate::place::{FRONT, LINE, TILE};
 use brc_effect::rows::{block_size, row_count};
@@ -12,11 +12,18 @@ use brc_word::MARKS_OF_WORD;
 /// The cells of each row.
 pub(crate) const CELLS: u8 = 8;
 
-/// Returns the number of all words. The last tile may have fewer rows than eight.
+/// Returns the number of tiles. The last one may have fewer rows than eight.
+pub(crate) fn tile_count(layout: Layout) -> usize
+    ensures { result ≡ tiles layout }
+{
+    (row_count(layout) + (LINE - 1)) / LINE
+}
+
+/// Returns the number of all words.
 pub(crate) fn word_count(layout: Layout) -> usize
     ensures { result ≡ word_count layout }
 {
-    FRONT + TILE * ((row_count(layout) + (LINE - 1)) / LINE)
+    FRONT + TILE * tile_count(layout)
 }
 
 /// Returns the number of mark words of the thread's block.
