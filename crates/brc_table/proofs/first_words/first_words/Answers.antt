@@ -1,7 +1,6 @@
 use Rattle.std.proofs.Common.{◌≡◌, ℕ, ◌+◌, ◌*◌, ◌<◌, length, List, ◌++◌, ap, ◌∙◌, subst, arith}
 use Rattle.std.specs.List.{slice_range}
 use Rattle.std.specs.Prelude.{slice_index}
-use Rattle.brc_table.specs.Opening.{first_word}
 use Rattle.brc_table.specs.Places.{front, tile}
 use Rattle.brc_table.proofs.FirstWords.{copied_first, copied_length}
 use Rattle.brc_table.proofs.first_words.first_words.Goals as goal
