@@ -13,7 +13,7 @@ use Rattle.brc_table.specs.KnownWords.{KnowsCell}
 use Rattle.brc_table.specs.Swaps.{with_item}
 use Rattle.brc_table.specs.Hands.{TableState, HandState, IsOf, IsRunning, HasNoWork}
 use Rattle.brc_heap.specs.Calls.{HasBorn}
-use Rattle.brc_list.specs.Calls.{Keeps, word_of}
+use Rattle.brc_list.specs.Calls.{KeepsWork, word_of}
 use Rattle.brc_bench.specs.Ready.{IsReady}
 use Rattle.brc_bench.specs.Swaps.{IsAtRest, IsAtPlace, HoldsBeside, IsReadyToSwap}
 use Rattle.brc_bench.proofs.AtRest.{some_counted}
@@ -156,7 +156,7 @@ no_work_at_rest x rest = ap (filter (is_about x)) rest.rests
 -- Once the hand has asked how many cells the list has, it may swap an item of it,
 pub swaps_begin : {heap : TableState} {before : HandState} {row cell : ℕ} {held : Option ℕ} {others : List ℕ}
     (after : HandState) → IsAtRest heap before → IsCounted before.view.layout row
-    → HoldsBeside before row held others → IsOf heap after → Keeps before.view after.view
+    → HoldsBeside before row held others → IsOf heap after → KeepsWork before.view after.view
     → after.view.actor.locked ≡ before.view.actor.locked → KnowsCell after.view row cell
     → IsReadyToSwap heap after row cell held
 swaps_begin {heap} {before} {row} {cell} {held} {others} after rest counted has table keeps locked knows =
@@ -178,7 +178,7 @@ swaps_begin {heap} {before} {row} {cell} {held} {others} after rest counted has 
 -- or retain and release the list.
 pub pairs_begin : {heap : TableState} {before : HandState} {row : ℕ} {held : Option ℕ} {others : List ℕ}
     (after : HandState) → IsAtRest heap before → IsCounted before.view.layout row
-    → HoldsBeside before row held others → IsOf heap after → Keeps before.view after.view
+    → HoldsBeside before row held others → IsOf heap after → KeepsWork before.view after.view
     → after.view.actor.locked ≡ before.view.actor.locked → IsReady heap after row
 pairs_begin {heap} {before} {row} {held} {others} after rest counted has table keeps locked =
     let still = holds_still {before = before} {after = after} keeps.references keeps.layout has in

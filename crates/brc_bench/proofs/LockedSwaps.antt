@@ -11,7 +11,7 @@ use Rattle.brc_model.specs.OpenWork.{is_about}
 use Rattle.brc_table.specs.Views.{holds, without_one}
 use Rattle.brc_table.specs.Swaps.{with_item, without_item, MayPut}
 use Rattle.brc_table.specs.Hands.{TableState, HandState, IsOf, HasNoWork, HasNoRetain, HoldsOne, most_references}
-use Rattle.brc_list.specs.Calls.{Keeps, KeepsButSlot, KeepsBesides, SwapsItem, row_in, word_of}
+use Rattle.brc_list.specs.Calls.{KeepsWork, KeepsButSlot, KeepsBesides, SwapsItem, row_in, word_of}
 use Rattle.brc_bench.specs.Swaps.{IsAtList, HasBack, HoldsBeside}
 
 -- ---- references
@@ -129,7 +129,7 @@ may_put {heap} {hand} {row} {cell} (Some y) at_list =
 -- A hand stays at its list after a call that keeps all but the references and what it knows of the list's slot.
 still_there : {heap : TableState} {before after : HandState} {row cell : ℕ} {held locked next now : Option ℕ}
     (references : List ℕ) (slot : ℕ) → IsAtList heap before row cell held locked → IsOf heap after
-    → Keeps (record before.view { references = references; in_slot = slot }) after.view
+    → KeepsWork (record before.view { references = references; in_slot = slot }) after.view
     → after.view.actor.locked ≡ now → HasBack after now → (others : List ℕ)
     → 1 ≤ count_by (λ y. y == row) others → length others + 1 < most_references
     → references ≡ with_item before.view.layout (word_of next) others → IsAtList heap after row cell next now
@@ -200,7 +200,7 @@ after_swap {heap} {before} {row} {cell} {found} {held} {next} after at_list tabl
     ∙ ap (λ (n : ℕ). with_item v.layout n at_list.others) (sym word))))
 
 pub after_unlock : {heap : TableState} {before : HandState} {row cell : ℕ} {held : Option ℕ} (after : HandState)
-    → IsAtList heap before row cell held (Some row) → IsOf heap after → Keeps before.view after.view
+    → IsAtList heap before row cell held (Some row) → IsOf heap after → KeepsWork before.view after.view
     → after.view.actor.locked ≡ None → IsAtList heap after row cell held None
 after_unlock {heap} {before} after at_list table keeps is =
     still_there before.view.references before.view.in_slot at_list table keeps is tt at_list.others at_list.list

@@ -12,7 +12,7 @@ use Rattle.brc_table.specs.Hands.{MayWait}
 -- The hand's thread, its references, what it knows of the slot of the object that it has locked, its chain and its
 -- other work are as before, and so are its used rows and the hands that it has given out. It still knows the kinds that
 -- it has seen.
-pub record Keeps (v u : View) : Type 0 where
+pub record KeepsWork (v u : View) : Type 0 where
   pub layout : u.layout ≡ v.layout
   pub thread : u.thread ≡ v.thread
   pub status : u.actor.status ≡ v.actor.status
@@ -46,11 +46,11 @@ word_of (Some row) = suc row
 
 -- Beside the hand's references everything is kept.
 abbrev pub KeepsBesides : View → View → Type 0
-KeepsBesides v u = Keeps (record v { references = u.references }) u
+KeepsBesides v u = KeepsWork (record v { references = u.references }) u
 
 -- Beside what the locked object's slot had everything is kept.
 abbrev pub KeepsButSlot : View → View → Type 0
-KeepsButSlot v u = Keeps (record v { in_slot = u.in_slot }) u
+KeepsButSlot v u = KeepsWork (record v { in_slot = u.in_slot }) u
 
 -- The hand has loaded the list's cell. It has what the hand last saw or stored there since it locked or chained the
 -- list, if it did, and now the hand has seen it. What it has seen of the other cells is as before.

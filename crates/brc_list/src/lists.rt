@@ -10,7 +10,7 @@ ghost use Rattle.brc_table.specs.KnownWords.{knows_kind, KnowsCell};
 ghost use Rattle.brc_table.specs.Swaps.{MayPut};
 ghost use Rattle.brc_table.specs.Uses.{FirstSlot, behind_slot};
 ghost use Rattle.brc_table.specs.Hands.{most_references, IsOf, IsRunning, HoldsOne, Borrows, MayRead, MayLoad, MayChange, HasNoWork, HasNoRetain};
-ghost use Rattle.brc_list.specs.Calls.{Keeps, KeepsBesides, KeepsButSlot, SeesItem, SwapsItem, HasSlot, row_in, word_of};
+ghost use Rattle.brc_list.specs.Calls.{KeepsWork, KeepsBesides, KeepsButSlot, SeesItem, SwapsItem, HasSlot, row_in, word_of};
 
 use brc_heap::{Hand, Heap};
 use brc_word::values::{FREE, LIST};
@@ -80,7 +80,7 @@ impl<'h, T: Drop> Lists<'h, T> {
         ensures events { hand.new.view
             ≡ view_after (unlocking hand.old.view row) (overwritten (unlocking hand.old.view row)) }
         ensures unlocked { hand.new.view.actor.locked ≡ None }
-        ensures keeps { Keeps hand.old.view hand.new.view }
+        ensures keeps { KeepsWork hand.old.view hand.new.view }
     {
         self.heap.words().gate_unlock(hand, row);
     }
@@ -100,7 +100,7 @@ impl<'h, T: Drop> Lists<'h, T> {
             → word ≡ before) }
         ensures cells { (i : ℕ) → i < result → KnowsCell hand.new.view row i }
         ensures locked { hand.new.view.actor.locked ≡ hand.old.view.actor.locked }
-        ensures keeps { Keeps hand.old.view hand.new.view }
+        ensures keeps { KeepsWork hand.old.view hand.new.view }
     {
         let word = self.heap.words().kind_load(hand, row);
         if kind_number(word) == LIST {
@@ -126,7 +126,7 @@ impl<'h, T: Drop> Lists<'h, T> {
         ensures sees { (word : ℕ) × SeesItem row cell word hand.old.view hand.new.view × (result ≡ row_in word) }
         ensures borrows { (x : ℕ) → result ≡ Some x → hand.old.view.actor.locked ≡ Some row → Borrows hand.new.view x }
         ensures locked { hand.new.view.actor.locked ≡ hand.old.view.actor.locked }
-        ensures keeps { Keeps hand.old.view hand.new.view }
+        ensures keeps { KeepsWork hand.old.view hand.new.view }
     {
         let words = self.heap.words();
         words.layout_is_plain();

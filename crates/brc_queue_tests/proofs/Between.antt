@@ -13,7 +13,7 @@ use Rattle.brc_table.specs.Swaps.{with_item, without_item}
 use Rattle.brc_table.specs.Hands.{TableState, HandState, IsOf, IsRunning, MayWait}
 use Rattle.brc_table.specs.Calls.{IsFree}
 use Rattle.brc_heap.specs.Calls.{HasBorn, HasGiven, Leaves}
-use Rattle.brc_list.specs.Calls.{Keeps, KeepsButSlot, KeepsBesides, SwapsItem, row_in, word_of}
+use Rattle.brc_list.specs.Calls.{KeepsWork, KeepsButSlot, KeepsBesides, SwapsItem, row_in, word_of}
 use Rattle.brc_free.specs.Works.{HasReleased, HasWorked, ComesToSettle, AtOnce, to_settle}
 use Rattle.brc_heap.specs.Steps as steps
 use Rattle.brc_queue_tests.specs.Resting.{HasBack}
@@ -141,7 +141,7 @@ after_call {heap} {before} {after} {item} {locked} next x rest table leaves head
 -- A call that keeps all but the references and what the hand knows of the locked object's slot,
 after_list : {heap : TableState} {before after : HandState} {item locked next now : Option ℕ}
     (references : List ℕ) (slot : ℕ) → IsResting heap before item locked → IsOf heap after
-    → Keeps (record before.view { references = references; in_slot = slot }) after.view
+    → KeepsWork (record before.view { references = references; in_slot = slot }) after.view
     → after.view.actor.locked ≡ now → HasBack after now
     → references ≡ with_item before.view.layout (word_of next) (root_row ∷ []) → IsResting heap after next now
 after_list references slot rest table keeps is back all =
@@ -150,7 +150,7 @@ after_list references slot rest table keeps is back all =
 
 -- as one that asks,
 pub after_asking : {heap : TableState} {before after : HandState} {item locked : Option ℕ}
-    → IsResting heap before item locked → IsOf heap after → Keeps before.view after.view
+    → IsResting heap before item locked → IsOf heap after → KeepsWork before.view after.view
     → after.view.actor.locked ≡ before.view.actor.locked → after.slots ≡ before.slots → IsResting heap after item locked
 after_asking {heap} {before} {after} {item} {locked} rest table keeps same slots =
     after_list before.view.references before.view.in_slot rest table keeps (same ∙ rest.locked_is)
@@ -192,7 +192,7 @@ after_swap {heap} {before} {after} {item} row cell found next rest table keeps s
 
 -- or an unlock.
 pub after_unlock : {heap : TableState} {before after : HandState} {item : Option ℕ} (row : ℕ)
-    → IsResting heap before item (Some row) → IsOf heap after → Keeps before.view after.view
+    → IsResting heap before item (Some row) → IsOf heap after → KeepsWork before.view after.view
     → after.view.actor.locked ≡ None → Holds heap after item
 after_unlock {heap} {before} {after} row rest table keeps locked =
     after_list before.view.references before.view.in_slot rest table keeps locked tt rest.references
@@ -223,7 +223,7 @@ after_release {heap} {before} {after} {between} x rest released table head worke
 
 -- So it does after it has looked through its queue.
 pub after_looking : {heap : TableState} {before after : HandState} → Holds heap before None → IsOf heap after
-    → IsFree after.view → after.view.actor.head ≡ 0 → steps.Keeps before.view after.view → Holds heap after None
+    → IsFree after.view → after.view.actor.head ≡ 0 → steps.KeepsWork before.view after.view → Holds heap after None
 after_looking {heap} {before} {after} rest table free head keeps =
     rests_again rest table keeps.layout keeps.status (subst MayWait (sym free.agenda) tt)
     (ap (λ (ds : List Duty). ds ++ after.view.actor.aside) free.agenda ∙ free.aside) head

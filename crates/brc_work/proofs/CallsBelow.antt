@@ -14,7 +14,7 @@ use Rattle.brc_table.specs.Hands.{HandState}
 use Rattle.brc_heap.specs.Calls.{Leaves, HasBorn}
 use Rattle.brc_heap.specs.Steps.{Keeps}
 use Rattle.brc_heap.proofs.Keeping.{keeps_first, keeps_then, keeps_beside}
-use Rattle.brc_list.specs.Calls.{Keeps as KeepsInList}
+use Rattle.brc_list.specs.Calls.{KeepsWork}
 use Rattle.brc_free.specs.Works.{HasReleased, HasWorked, to_settle}
 use Rattle.brc_work.specs.Acts.{KeepsCells, Acts, ActsElsewhere}
 use Rattle.brc_work.specs.Fits.{Rests, IsLater}
@@ -100,7 +100,7 @@ born_acts hand after rests born table carried slots =
     (no_second after.view.actor.agenda after.view.actor.aside none) (born.head ∙ rests.settled) table carried slots
 
 -- What a call on a list leaves, whatever becomes of the lock.
-pub kept_rests : (hand after : HandState) → Rests hand → KeepsInList hand.view after.view → Rests after
+pub kept_rests : (hand after : HandState) → Rests hand → KeepsWork hand.view after.view → Rests after
 kept_rests hand after rests kept =
     let none = kept.work ∙ no_work hand rests in
     record {
@@ -110,7 +110,7 @@ kept_rests hand after rests kept =
       settled = kept.head ∙ rests.settled;
     }
 
-pub kept_follows : (hand after : HandState) → KeepsInList hand.view after.view → after.table ≡ hand.table
+pub kept_follows : (hand after : HandState) → KeepsWork hand.view after.view → after.table ≡ hand.table
     → after.carried ≡ hand.carried → IsLater hand after
 kept_follows hand after kept table carried = record {
   table = table;
@@ -122,7 +122,7 @@ kept_follows hand after kept table carried = record {
 }
 
 -- One that changes no reference.
-pub kept_acts : (hand after : HandState) → Rests hand → KeepsInList hand.view after.view → after.table ≡ hand.table
+pub kept_acts : (hand after : HandState) → Rests hand → KeepsWork hand.view after.view → after.table ≡ hand.table
     → after.carried ≡ hand.carried → after.slots ≡ hand.slots → after.view.actor.locked ≡ hand.view.actor.locked
     → Acts hand after
 kept_acts hand after rests kept table carried slots locked = record {

@@ -18,7 +18,7 @@ use Rattle.brc_table.specs.Swaps.{MayPut}
 use Rattle.brc_table.specs.Views.{holds, without_one, with_reference, without_reference, asking, view_after}
 use Rattle.brc_table.specs.Hands.{HandState, HoldsOne, HasNoWork, KeepsLock}
 use Rattle.brc_table.proofs.Accounts.{count_with_reference}
-use Rattle.brc_list.specs.Calls.{Keeps, KeepsBesides, SeesItem, SwapsItem, row_in}
+use Rattle.brc_list.specs.Calls.{KeepsWork, KeepsBesides, SeesItem, SwapsItem, row_in}
 use Rattle.brc_work.specs.Acts.{KeepsCells, Acts, ActsElsewhere}
 use Rattle.brc_work.specs.Fits.{Base, Rests, Fits}
 use Rattle.brc_work.proofs.CallsBelow.{no_work, kept_acts, asked_cells, with_references, beside_acts, acts_then}
@@ -51,7 +51,7 @@ on_list base s rows hand list row fits is named =
 -- ---- looks at the list
 
 -- The hand has asked how many cells the list has,
-pub sized_acts : (hand after : HandState) (x word : ℕ) → Rests hand → Keeps hand.view after.view
+pub sized_acts : (hand after : HandState) (x word : ℕ) → Rests hand → KeepsWork hand.view after.view
     → after.table ≡ hand.table → after.carried ≡ hand.carried → after.slots ≡ hand.slots
     → after.view.actor.locked ≡ hand.view.actor.locked → after.view ≡ view_after (asking hand.view x) word
     → ActsElsewhere hand after
@@ -73,7 +73,7 @@ item_cells v u x cell word locks sees y i before locked seen =
       | inr apart ↦ sees.others i apart.1 ∙ here
     ]
 
-pub item_acts : (hand after : HandState) (x cell word : ℕ) → Rests hand → Keeps hand.view after.view
+pub item_acts : (hand after : HandState) (x cell word : ℕ) → Rests hand → KeepsWork hand.view after.view
     → after.table ≡ hand.table → after.carried ≡ hand.carried → after.slots ≡ hand.slots
     → hand.view.actor.locked ≡ Some x → after.view.actor.locked ≡ Some x → SeesItem x cell word hand.view after.view
     → ActsElsewhere hand after
@@ -238,7 +238,7 @@ out_is hand after x cell item old found result swaps is this =
 
 -- The worker has asked how many cells its list has.
 pub sized_fits : (base : Base) (s : State) (rows : List (Option ℕ)) (hand after : HandState) (x word : ℕ)
-    → Fits base s rows hand → Keeps hand.view after.view → after.table ≡ hand.table → after.carried ≡ hand.carried
+    → Fits base s rows hand → KeepsWork hand.view after.view → after.table ≡ hand.table → after.carried ≡ hand.carried
     → after.slots ≡ hand.slots → after.view.actor.locked ≡ hand.view.actor.locked → after.view
     ≡ view_after (asking hand.view x) word
     → Fits base s rows after

@@ -17,7 +17,7 @@ use Rattle.brc_table.specs.KnownWords.{knows_kind}
 use Rattle.brc_table.specs.Views.{holds}
 use Rattle.brc_table.specs.Uses.{behind_slot}
 use Rattle.brc_table.specs.Hands.{HandState}
-use Rattle.brc_list.specs.Calls.{Keeps, KeepsButSlot}
+use Rattle.brc_list.specs.Calls.{KeepsWork, KeepsButSlot}
 use Rattle.brc_work.specs.Acts.{KnowsMore}
 use Rattle.brc_work.specs.Fits.{Base, SlotFits, owns, lists, over_variables, LockFits, LocksAs, Fits}
 use Rattle.brc_work.proofs.CallsBelow.{with_slot, slot_rests, kept_rests, kept_follows}
@@ -128,7 +128,7 @@ module _ (base : Base) (s : State) (rows : List (Option ℕ)) (hand after : Hand
 -- ---- an unlock
 
 pub unlocks : (base : Base) (s : State) (rows : List (Option ℕ)) (hand after : HandState) (i : ℕ)
-    → Fits base s rows hand → LockFits base.first.slots s rows hand i → Keeps hand.view after.view
+    → Fits base s rows hand → LockFits base.first.slots s rows hand i → KeepsWork hand.view after.view
     → after.table ≡ hand.table → after.carried ≡ hand.carried → after.slots ≡ behind_slot hand.slots
     → after.view.actor.locked ≡ None → Fits base (with_lock (without_items s) None) rows after
 unlocks base s rows hand after i fits lock kept table carried slots unlocked = record {
