@@ -85,9 +85,10 @@ fn gate_locked(thread: u64) -> u64 {
     thread + 2
 }
 
-/// The words of all threads and rows.
+/// The words of all threads and rows, and how many rows each worker has.
 struct Block {
     words: Vec<AtomicU64>,
+    rows_each: u64,
 }
 
 impl Block {
@@ -96,7 +97,9 @@ impl Block {
         assert!(workers < THREAD_WORDS);
         let rows = FIRST_WORKER_ROW + workers * rows_each;
         let len = FRONT + TILE_WORDS * rows.div_ceil(TILE_ROWS);
-        let block = Block { words: (0..len).map(|_| AtomicU64::new(0)).collect() };
+        let words = (0..len).map(|_| AtomicU64::new(0)).collect();
+        // A counter is for blocks of any number of rows, so the compiler isn't to know it.
+        let block = Block { words, rows_each: black_box(rows_each) };
         for row in 0..rows {
             block.word(Field::Local, row).store(NO_OWNER, SeqCst);
             block.word(Field::Shared, row).store(ZERO_DEFAULT, SeqCst);
@@ -308,9 +311,10 @@ fn settle(hand: &mut Hand, block: &Block) {
 }
 
 /// Sets the mark of `row`, which a release queued, and looks whether its owner runs. Returns whether it does.
-fn post(block: &Block, row: u64, rows_each: u64) -> bool {
+fn post(block: &Block, row: u64) -> bool {
     // The mark comes first: an owner that leaves says so before it looks for marks (`post_without_look`).
-    let (owner, index) = ((row - FIRST_WORKER_ROW) / rows_each + 1, (row - FIRST_WORKER_ROW) % rows_each);
+    let back = row - FIRST_WORKER_ROW;
+    let (owner, index) = (back / block.rows_each + 1, back % block.rows_each);
     block.marks(owner, index / MARKS_OF_WORD).fetch_or(1 << (index % MARKS_OF_WORD), SeqCst);
     block.words[owner as usize].load(SeqCst) == RUNNING
 }
@@ -531,7 +535,7 @@ fn turn(owner: &mut Hand, other: &mut Hand, block: &Block, argument: u64) -> Opt
     let item = birth(owner, block, KIND, black_box(argument))?;
     assert_eq!(at_root(owner, block, Some(item)), None);
     let row = at_root(other, block, None)?;
-    Some(release(other, block, row) == Release::Queued && post(block, row, BIRTH_ROWS))
+    Some(release(other, block, row) == Release::Queued && post(block, row))
 }
 
 /// Makes `n` turns of two workers, over as many blocks as it takes. At the end of a block its owner merges what was
@@ -562,7 +566,7 @@ fn turns(n: u64) -> Run {
 fn posts(hand: &mut Hand, block: &Block, row: u64) -> bool {
     release_local(hand, block, row) == LocalRelease::Share
         && try_release_shared(hand, block, row) == SharedRelease::Queued
-        && post(block, row, BIRTH_ROWS)
+        && post(block, row)
 }
 
 /// How a batch was posted, and how it was merged.

@@ -129,9 +129,11 @@ fn write(number: &Object) {
     }
 }
 
-/// Puts a reference into the first cell, and drops the one that was there once the list is unlocked.
+/// Puts a reference into the first cell, and drops the one that was there, before the list is unlocked, as a module's
+/// `set` does in its section.
 fn set(list: &Object, item: Reference) {
-    let old = list.cells().lock().unwrap()[0].replace(item);
+    let mut cells = list.cells().lock().unwrap();
+    let old = cells[0].replace(item);
     drop(old);
 }
 
