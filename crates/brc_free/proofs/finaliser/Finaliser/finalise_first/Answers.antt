@@ -2,7 +2,6 @@ use Rattle.std.proofs.Common.{◌≡◌, ℕ, ◌-◌, true, false, List, [], �
 use Rattle.brc_model.specs.declared.duty.Duty.{Duty}
 use Rattle.brc_model.specs.declared.duty.Duty.TheVariants.{Settle, SettleKind, SettleEnd, TakeSlot}
 use Rattle.brc_model.specs.Duties.{has_resource, cells_of, cells_from}
-use Rattle.brc_table.specs.declared.view.View.{View}
 use Rattle.brc_table.specs.Hands.{TableState}
 use Rattle.brc_table.specs.Accesses.{IsNext}
 use Rattle.brc_table.specs.Calls.{ClosesRow}
@@ -127,9 +126,9 @@ close_cells-requires-clause-duty g c = record {
 
 pub returns-clause-work : goal.returns-clause-work
 returns-clause-work g c = λ rest comes. (
-      [],
-      all_closed _ _ _ _ c.cells_of.result rest
-          (cells g (goal.at.returns-clause-work g c).After-cells_of rest comes) c.close_cells.ensures.work,
-      refl,
-      NoCall,
-    )
+  [],
+  all_closed _ _ _ _ c.cells_of.result rest
+      (cells g (goal.at.returns-clause-work g c).After-cells_of rest comes) c.close_cells.ensures.work,
+  refl,
+  NoCall,
+)
