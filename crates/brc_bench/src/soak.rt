@@ -53,6 +53,18 @@ fn made_by_all(times: u32, in_a_call: u32) -> u64 {
     tried.min(u64::from(ROWS)) * u64::from(WORKERS)
 }
 
+/// How many words the piece of memory has that `keep_memory` gives back: more than a heap takes.
+const KEPT_WORDS: usize = 1 << 20;
+
+/// Makes glibc's allocator keep the memory of a heap for the next one. What is free at its end it gives back to the
+/// system only above twice the largest piece that the program gave back. Otherwise each heap takes new pages, which the
+/// system clears, and that takes longer than to fill them.
+fn keep_memory(alloc: Global) -> std::result::Result<(), AllocError> {
+    let piece: Vec<u64> = Vec::with_capacity(alloc, KEPT_WORDS)?;
+    drop(piece);
+    Ok(())
+}
+
 /// Runs one heap after another, for each module in turn, until `asked` calls have been made in all. Without `asked` it
 /// runs one heap for each module. Compares the counts of each heap, and prints what was done.
 ///
@@ -67,6 +79,7 @@ pub fn soak<R: Threads + Wait + Sync + Clock + Print>(
 ) -> Result<()> {
     let start = Instant::now(rt)?;
     let wanted_calls = asked.unwrap_or(ONE_HEAP_EACH);
+    keep_memory(alloc)?;
     let (mut heaps, mut calls, mut births, mut closes) = (0u64, 0u64, 0u64, 0u64);
     // Each heap makes at least one call.
     for _ in 0..wanted_calls {
