@@ -223,7 +223,7 @@ after_release {heap} {before} {after} {between} x rest released table head worke
 
 -- So it does after it has looked through its queue.
 pub after_looking : {heap : TableState} {before after : HandState} → Holds heap before None → IsOf heap after
-    → IsFree after.view → after.view.actor.head ≡ 0 → steps.KeepsWork before.view after.view → Holds heap after None
+    → IsFree after.view → after.view.actor.head ≡ 0 → steps.Keeps before.view after.view → Holds heap after None
 after_looking {heap} {before} {after} rest table free head keeps =
     rests_again rest table keeps.layout keeps.status (subst MayWait (sym free.agenda) tt)
     (ap (λ (ds : List Duty). ds ++ after.view.actor.aside) free.agenda ∙ free.aside) head
