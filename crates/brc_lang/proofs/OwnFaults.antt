@@ -18,7 +18,7 @@ use Rattle.brc_lang.specs.Fault.{instruction_in, again_in, targets_fit}
 use Rattle.brc_lang.specs.Fault.{Beginning, heading_fault_of, end_fault_of, next_instruction_fault_of, line_fault_of}
 use Rattle.brc_lang.specs.Fault.{is_whole, is_line_feed, fault_of, HasFault, IsOwn, IsOwnFault}
 use Rattle.brc_lang.specs.Limits.{function_limit, instruction_limit, last_variable, last_target, value_limit}
-use Rattle.brc_lang.specs.Limits.{cell_limit, last_index, last_path, last_peer, read_limit, turn_limit}
+use Rattle.brc_lang.specs.Limits.{text_cells, last_index, last_path, last_peer, read_limit, turn_limit}
 use Rattle.brc_lang.proofs.Headings.{has_name}
 
 -- ---- results and options whose fault, if any, is the text's own
@@ -237,7 +237,7 @@ instruction_own (w ∷ ws) =
     own_either (bytes_eq w (codes "num")) _ _
     (own_then (birth_in 0 value_limit ws) _ (birth_own 0 value_limit ws) (λ v. tt))
     (own_either (bytes_eq w (codes "list")) _ _
-    (own_then (birth_in 1 cell_limit ws) _ (birth_own 1 cell_limit ws) (λ v. tt))
+    (own_then (birth_in 1 text_cells ws) _ (birth_own 1 text_cells ws) (λ v. tt))
     (own_either (bytes_eq w (codes "none")) _ _ (own_then (one_variable_in ws) _ (one_variable_own ws) (λ v. tt))
     (own_either (bytes_eq w (codes "newref")) _ _ (own_then (two_variables_in ws) _ (two_variables_own ws) (λ v. tt))
     (own_either (bytes_eq w (codes "move")) _ _ (own_then (two_variables_in ws) _ (two_variables_own ws) (λ v. tt))

@@ -22,7 +22,7 @@ use Rattle.brc_lang.specs.declared.module.Module.{Module}
 use Rattle.brc_lang.specs.Grammar.{is_name, IsInstruction, jump, turn, IsFunction, AreNamedApart, heading}
 use Rattle.brc_lang.specs.Grammar.{instructions, functions, first_line}
 use Rattle.brc_lang.specs.Limits.{function_limit, instruction_limit, last_variable, last_target, value_limit}
-use Rattle.brc_lang.specs.Limits.{cell_limit, last_index, last_path, last_peer, read_limit, turn_limit}
+use Rattle.brc_lang.specs.Limits.{text_cells, last_index, last_path, last_peer, read_limit, turn_limit}
 use Rattle.brc_lang.specs.Modes.{reads, writes, creates, mode_of}
 
 -- ---- one line
@@ -190,7 +190,7 @@ abbrev pub instruction_in : List (List ℕ) → Result Instr FaultCode
 instruction_in [] = Err UnknownWord
 instruction_in (w ∷ ws) =
     if bytes_eq w (codes "num") then (birth_in 0 value_limit ws >>= λ b. Ok (Num b.0 b.1 b.2))
-    else if bytes_eq w (codes "list") then (birth_in 1 cell_limit ws >>= λ b. Ok (ListObject b.0 b.1 b.2))
+    else if bytes_eq w (codes "list") then (birth_in 1 text_cells ws >>= λ b. Ok (ListObject b.0 b.1 b.2))
     else if bytes_eq w (codes "none") then (one_variable_in ws >>= λ d. Ok (NoneObject d))
     else if bytes_eq w (codes "newref") then (two_variables_in ws >>= λ v. Ok (Newref v.0 v.1))
     else if bytes_eq w (codes "move") then (two_variables_in ws >>= λ v. Ok (Move v.0 v.1))

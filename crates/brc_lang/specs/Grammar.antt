@@ -11,7 +11,7 @@ use Rattle.brc_lang.specs.declared.module.Instr.{Instr}
 use Rattle.brc_lang.specs.declared.module.Instr.TheVariants.{Num, List as ListObject, NoneObject, Newref, Move}
 use Rattle.brc_lang.specs.declared.module.Instr.TheVariants.{Drop, Lock, Unlock, Borrow, Fetch, Set, Put, As}
 use Rattle.brc_lang.specs.declared.module.Instr.TheVariants.{Open, Connect, Read, Write, Goto, Again, Ret, Fail}
-use Rattle.brc_lang.specs.Limits.{function_limit, instruction_limit, variable_count, target_count, cell_limit}
+use Rattle.brc_lang.specs.Limits.{function_limit, instruction_limit, variable_count, target_count, text_cells}
 use Rattle.brc_lang.specs.Limits.{index_count, path_count, peer_count, read_limit, turn_limit, name_rest_limit}
 use Rattle.brc_lang.specs.Modes.{mode_name, IsMode}
 
@@ -115,7 +115,7 @@ is_name (c ∷ cs) = is_letter c && list_all is_name_byte cs && nat_le (length c
 abbrev pub IsInstruction : Instr → Type 0
 IsInstruction (Num to value otherwise) = (to < variable_count) × (value < 2 ^ 32) × (otherwise < target_count)
 IsInstruction (ListObject to cells otherwise) =
-    (to < variable_count) × (0 < cells) × (cells ≤ cell_limit) × (otherwise < target_count)
+    (to < variable_count) × (0 < cells) × (cells ≤ text_cells) × (otherwise < target_count)
 IsInstruction (NoneObject to) = to < variable_count
 IsInstruction (Newref to from) = (to < variable_count) × (from < variable_count)
 IsInstruction (Move to from) = (to < variable_count) × (from < variable_count)

@@ -26,9 +26,9 @@ last_target = 255
 abbrev pub value_limit : ℕ
 value_limit = 2 ^ 32 - 1
 
--- the most cells of a list
-abbrev pub cell_limit : ℕ
-cell_limit = 8
+-- the most cells of a list in a text
+abbrev pub text_cells : ℕ
+text_cells = 8
 
 -- the index of an item, from 0; a list may have fewer cells
 abbrev pub index_count : ℕ
