@@ -8,7 +8,7 @@ use Rattle.brc_model.specs.declared.actor.Status.TheVariants.{Running}
 use Rattle.brc_model.specs.declared.address.Address.TheVariants.{Cell}
 use Rattle.brc_model.specs.declared.layout.Layout.{Layout}
 use Rattle.brc_model.specs.Layout.{front_rows, root_row}
-use Rattle.brc_model.specs.Limits.{cell_limit, worker_limit, row_limit}
+use Rattle.brc_model.specs.Limits.{root_cells, cell_limit, worker_limit, row_limit}
 use Rattle.brc_model.specs.AbstractState.{same_holding}
 use Rattle.brc_model.specs.References.{one_if}
 use Rattle.brc_model.specs.Accounts.{Account, Accounts}
@@ -94,7 +94,8 @@ pub record IsPlainLayout (layout : Layout) : Type 0 where
   pub few_workers : layout.workers ≤ worker_limit
   pub some_rows : 0 < layout.rows
   pub few_rows : layout.rows ≤ row_limit
-  pub cells : layout.cells ≡ cell_limit
+  pub some_cells : root_cells ≤ layout.cells
+  pub few_cells : layout.cells ≤ cell_limit
   pub immortals : layout.immortal_lists ≡ 0
 
 -- Main holds the root, and no worker holds anything. All threads count as running, whether they are started or not.

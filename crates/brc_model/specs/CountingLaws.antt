@@ -15,7 +15,6 @@ use Rattle.brc_model.specs.References.{held, reference_of, word_holds}
 use Rattle.brc_model.specs.Duties.{address_of, cells_of}
 use Rattle.brc_model.specs.Moves.{gain}
 use Rattle.brc_model.specs.Layout.{row_count, row_at, block_of, mark_words_of, is_immortal_row, IsCounted}
-use Rattle.brc_model.specs.Limits.{cell_limit}
 use Rattle.brc_model.specs.declared.actor.Actor.{Actor}
 use Rattle.brc_model.specs.Machine.{Machine, Unborn, has_room, is_running, used_by, with_actor, with_moves, machine_by_duty}
 use Rattle.brc_model.specs.BadDuties.{is_bad_duty}
@@ -121,7 +120,7 @@ ReleasesBegin = (p : Accounts) (n : ℕ) (m : Machine) (t : ℕ) (a : Actor) (x 
 abbrev pub BirthsBegin : Type 0
 BirthsBegin = (p : Accounts) (n : ℕ) (m : Machine) (t : ℕ) (a : Actor) (word : ℕ) → Counts p n m → IsReady m t a
     → 0 < t → has_room m.layout t a.used ≡ true → is_counted_kind (kind_of_word word) ≡ true
-    → cells_of word ≤ cell_limit
+    → cells_of word ≤ m.layout.cells
     → Counts (with_account p t (with_one_more (p t) AsCaller (row_at m.layout t a.used))) n
     (with_actor m t (working a (BirthKind (row_at m.layout t a.used) AsCaller word ∷ []) a.aside))
 
@@ -218,13 +217,13 @@ abbrev pub HasNoVariables : Machine → ℕ → Type 0
 HasNoVariables m x =
     (t depth v : ℕ) → held (reference_of t (ByVariable depth v) x) m.abstract.references ≡ 0
 
--- The sum of a number over the cells that lists may have: over the rows below `rows`, and in each the first cells.
-abbrev pub over_cells : (ℕ → ℕ → ℕ) → ℕ → ℕ
-over_cells f rows = over_threads (λ y. over_threads (f y) cell_limit) rows
+-- The sum of a number over the cells that lists may have: over all rows, and over the cells of each.
+abbrev pub over_cells : (ℕ → ℕ → ℕ) → Layout → ℕ
+over_cells f layout = over_threads (λ y. over_threads (f y) layout.cells) (row_count layout)
 
 -- how many references to the object the machine's cells hold
 abbrev pub cell_references : Machine → ℕ → ℕ
-cell_references m x = over_cells (λ y i. word_holds (m.memory (Cell y i)) x) (row_count m.layout)
+cell_references m x = over_cells (λ y i. word_holds (m.memory (Cell y i)) x) m.layout
 
 -- The references to an object are those of the threads, and those that cells hold.
 abbrev pub SharesOfThreads : Type 0

@@ -6,7 +6,6 @@ use Rattle.brc_word.specs.Words.{closed_word}
 use Rattle.brc_model.specs.declared.actor.Status.TheVariants.{Gone}
 use Rattle.brc_model.specs.declared.address.Address.TheVariants.{Gate, KindOf, Cell}
 use Rattle.brc_model.specs.Layout.{row_count, IsCounted}
-use Rattle.brc_model.specs.Limits.{cell_limit}
 use Rattle.brc_model.specs.declared.actor.Actor.{Actor}
 use Rattle.brc_model.specs.Machine.{Machine, idle_actor}
 use Rattle.brc_model.specs.Accounts.{Accounts, HoldsNone}
@@ -22,7 +21,7 @@ pub record IsNamed (m : Machine) (x : ℕ) : Type 0 where
   pub list : ℕ
   pub cell : ℕ
   pub there : list < row_count m.layout
-  pub low : cell < cell_limit
+  pub low : cell < m.layout.cells
   pub names : m.memory (Cell list cell) ≡ x + 1
   pub not_closed : m.memory (Gate list) ≢ closed_word
 

@@ -1,8 +1,16 @@
 -- The limits of a machine.
 use Rattle.std.specs.Prelude.{ℕ, ◌+◌, ◌*◌, ◌-◌, ◌^◌}
 use Rattle.brc_model.specs.Layout.{front_rows}
--- the most cells of a list
-pub use Rattle.brc_lang.specs.Limits.{cell_limit}
+-- the most cells of a list in a text
+pub use Rattle.brc_lang.specs.Limits.{text_cells}
+
+-- the most cells of a list in any machine: each has its own limit, which is at most this
+abbrev pub cell_limit : ℕ
+cell_limit = 64
+
+-- the cells of the root
+abbrev pub root_cells : ℕ
+root_cells = 8
 
 abbrev pub worker_limit : ℕ
 worker_limit = 32

@@ -7,7 +7,7 @@ use Rattle.brc_model.specs.Duties.{cells_of}
 use Rattle.brc_model.specs.declared.actor.Actor.{Actor}
 use Rattle.brc_model.specs.Machine.{Machine}
 use Rattle.brc_model.specs.OpenWork.{is_about}
-use Rattle.brc_model.specs.Limits.{cell_limit}
+use Rattle.brc_model.specs.declared.layout.Layout.{Layout}
 use Rattle.brc_model.specs.Layout.{row_count}
 
 -- the number of cells that a duty names
@@ -18,18 +18,18 @@ cells_named (CellLoad x i) = i + 1
 cells_named (CellSwap x i y h) = i + 1
 cells_named _ = 0
 
--- The duty's row is below the limit, and it names at most eight cells.
-pub record IsSmall (k : ℕ) (d : Duty) : Type 0 where
-  pub row : (x : ℕ) → is_about x d ≡ true → x < k
-  pub cells : cells_named d ≤ cell_limit
+-- The layout has the duty's row, and as many cells as the duty names.
+pub record IsSmall (layout : Layout) (d : Duty) : Type 0 where
+  pub row : (x : ℕ) → is_about x d ≡ true → x < row_count layout
+  pub cells : cells_named d ≤ layout.cells
 
-abbrev pub AreSmall : ℕ → List Duty → Type 0
-AreSmall k [] = Unit {0}
-AreSmall k (d ∷ rest) = IsSmall k d × AreSmall k rest
+abbrev pub AreSmall : Layout → List Duty → Type 0
+AreSmall layout [] = Unit {0}
+AreSmall layout (d ∷ rest) = IsSmall layout d × AreSmall layout rest
 
 -- No kind word names more cells than a list may have.
 abbrev pub HasFewCells : Machine → Type 0
-HasFewCells m = (x : ℕ) → cells_of (m.memory (KindOf x)) ≤ cell_limit
+HasFewCells m = (x : ℕ) → cells_of (m.memory (KindOf x)) ≤ m.layout.cells
 
 -- 1 if the duty stores a reference in a cell, else 0.
 abbrev pub swaps : Duty → ℕ
@@ -38,5 +38,5 @@ swaps _ = 0
 
 pub record Ranges (n : ℕ) (m : Machine) : Type 0 where
   pub kinds : HasFewCells m
-  pub each : (t : ℕ) (a : Actor) → slice_get m.actors t ≡ Some a → AreSmall (row_count m.layout) a.agenda
-  pub aside : (t : ℕ) (a : Actor) → slice_get m.actors t ≡ Some a → AreSmall (row_count m.layout) a.aside
+  pub each : (t : ℕ) (a : Actor) → slice_get m.actors t ≡ Some a → AreSmall m.layout a.agenda
+  pub aside : (t : ℕ) (a : Actor) → slice_get m.actors t ≡ Some a → AreSmall m.layout a.aside

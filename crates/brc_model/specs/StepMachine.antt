@@ -19,7 +19,7 @@ use Rattle.brc_model.specs.declared.state.Exit.{Exit}
 use Rattle.brc_model.specs.declared.state.Exit.TheVariants.{Success, Fault}
 use Rattle.brc_model.specs.declared.address.Address.{Address}
 use Rattle.brc_model.specs.declared.address.Address.TheVariants.{Local, Shared, Gate, KindOf, Marks, Cell, Slot, Resource, ThreadWord}
-use Rattle.brc_model.specs.Limits.{cell_limit, most_faults}
+use Rattle.brc_model.specs.Limits.{text_cells, root_cells, most_faults}
 use Rattle.brc_model.specs.AbstractState.{AbstractState, Reference, Move, ByThread, moved}
 use Rattle.brc_model.specs.declared.layout.Layout.{Layout}
 use Rattle.brc_model.specs.Layout.{root_row, front_rows, by_row}
@@ -164,7 +164,7 @@ abbrev pub rooted_memory : ℕ → ℕ → Address → ℕ
 rooted_memory workers callers (Local x) = by_row (local_word 0 immortal_local) (local_word 0 callers) 0 x
 rooted_memory workers callers (Shared x) = fresh_word
 rooted_memory workers callers (Gate x) = FREE
-rooted_memory workers callers (KindOf x) = by_row (NONE * half) (LIST * half + cell_limit) 0 x
+rooted_memory workers callers (KindOf x) = by_row (NONE * half) (LIST * half + root_cells) 0 x
 rooted_memory workers callers (Marks t w) = 0
 rooted_memory workers callers (Cell x i) = EMPTY
 rooted_memory workers callers (Slot x) = EMPTY
@@ -192,7 +192,7 @@ callers_below (suc n) = caller_reference n ∷ callers_below n
 
 -- one worker for each call, with `rows` rows each
 abbrev pub first_layout : ℕ → List Call → Layout
-first_layout rows calls = record { workers = length calls; rows = rows; cells = cell_limit; immortal_lists = 0 }
+first_layout rows calls = record { workers = length calls; rows = rows; cells = text_cells; immortal_lists = 0 }
 
 abbrev pub first_machine : Module → (ℕ → ℕ → Option State) → ℕ → List Call → StepMachine
 first_machine m states rows calls = record {

@@ -13,7 +13,6 @@ use Rattle.brc_model.specs.declared.actor.Actor.{Actor}
 use Rattle.brc_model.specs.Machine.{used_by, is_running}
 use Rattle.brc_model.specs.World.{World}
 use Rattle.brc_model.specs.Actions.{StepActor, Does, action_of}
-use Rattle.brc_model.specs.Limits.{cell_limit}
 use Rattle.brc_model.specs.declared.layout.Layout.{Layout}
 use Rattle.brc_model.specs.Layout.{row_count, block_of, mark_words_of}
 
@@ -24,7 +23,7 @@ IsThere layout (Shared x) = x < row_count layout
 IsThere layout (Gate x) = x < row_count layout
 IsThere layout (KindOf x) = x < row_count layout
 IsThere layout (Marks t w) = (t < 1 + layout.workers) × (w < mark_words_of layout t)
-IsThere layout (Cell x i) = (x < row_count layout) × (i < cell_limit)
+IsThere layout (Cell x i) = (x < row_count layout) × (i < layout.cells)
 IsThere layout (Slot x) = x < row_count layout
 IsThere layout (Resource x) = x < row_count layout
 IsThere layout (ThreadWord t) = t < 1 + layout.workers

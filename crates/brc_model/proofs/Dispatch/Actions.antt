@@ -30,7 +30,6 @@ use Rattle.brc_model.proofs.Keeping.CodeInvariant.{CodeInvariant}
 use Rattle.brc_model.proofs.Basics.Blocks.{used_row}
 use Rattle.brc_model.proofs.Limits.Ranges.{row_small}
 use Rattle.brc_model.proofs.Dispatch.Claims.{claimer, stopper}
-use Rattle.brc_model.specs.Layout.{row_count}
 use Rattle.brc_model.proofs.Dispatch.Decided.{stopping_decides}
 use Rattle.brc_model.proofs.Dispatch.TakingStops.{stop_taken}
 use Rattle.brc_model.proofs.Dispatch.Passing.{passes_on}
@@ -62,7 +61,7 @@ claim_fits p n m t a row whole found may =
       lent = (whole.coded t a found).lent;
       doing = sits_down (ClaimMark row) [] (c t) whole.kept at sits tt;
       small = λ _ _. (
-        row_small (row_count m.layout) row (ClaimMark row) (used_row t a.actor row core there claims.block claims.low)
+        row_small m.layout row (ClaimMark row) (used_row t a.actor row core there claims.block claims.low)
             (λ y. refl) (omega arith),
         tt,
       );

@@ -27,7 +27,7 @@ use Rattle.brc_model.specs.declared.duty.Holding.{Holding}
 use Rattle.brc_model.specs.AbstractState.{Reference}
 use Rattle.brc_lang.specs.declared.module.Instr.{Instr}
 use Rattle.brc_lang.specs.declared.module.Function.{Function}
-use Rattle.brc_model.specs.Limits.{cell_limit}
+use Rattle.brc_model.specs.Limits.{text_cells}
 use Rattle.brc_model.proofs.Frame.Aside.{HoldsAlone}
 use Rattle.brc_model.proofs.Dispatch.Holds.{of_variables, of_inside, holds_variables, holds_inside, call_of}
 use Rattle.brc_model.proofs.Dispatch.Guards.{guards_held}
@@ -60,7 +60,7 @@ use Rattle.brc_model.specs.Knowledge.{ByReference, ByItem}
 use Rattle.brc_model.proofs.Frame.Alive.{backed_referenced}
 use Rattle.brc_model.proofs.Limits.Ranges.{row_small, settle_small, leave_small, referenced_small}
 use Rattle.brc_model.specs.declared.layout.Layout.{Layout}
-use Rattle.brc_model.specs.Layout.{row_count, row_at}
+use Rattle.brc_model.specs.Layout.{row_at}
 
 -- A silent step of a thread at rest, with the thread's account afterwards.
 pub record SilentFits (p : Module) (c : Accounts) (n : ℕ) (m : StepMachine) (t : ℕ) (a : StepActor) (moves : List Move)
@@ -90,8 +90,8 @@ pub record DutyFits (p : Module) (c : Accounts) (n : ℕ) (m : StepMachine) (t :
       ≡ lent_at (code_of (slice_get p.functions a.function)) place
   pub doing : Doing (with_account c t account) n (with_actor (counting m) t (sitting a.actor (d ∷ rest))) t
       (sitting a.actor (d ∷ rest)) d rest
-  pub small : HasFewCells (counting m) → AreSmall (row_count m.layout) a.actor.agenda
-      → AreSmall (row_count m.layout) (d ∷ rest)
+  pub small : HasFewCells (counting m) → AreSmall m.layout a.actor.agenda
+      → AreSmall m.layout (d ∷ rest)
   pub plain : sum_by at_once rest ≡ 0
 
 abbrev pub ActionFits : Module → Accounts → ℕ → StepMachine → ℕ → StepActor → Action → Type 0
@@ -135,7 +135,7 @@ duty_fits p n m t a d rest whole found alive is =
         agenda = refl;
         alive = alive;
       };
-      small = λ few was. subst (AreSmall (row_count m.layout)) is was;
+      small = λ few was. subst (AreSmall m.layout) is was;
       plain = omega (arith, plain, sum_by-cons at_once d rest);
     }
 
@@ -143,42 +143,44 @@ duty_fits p n m t a d rest whole found alive is =
 
 module _ {p : Accounts} {n : ℕ} {m : Machine} where
   backs_small : (t row : ℕ) (a : Actor) (d : Duty) → CoreInvariant p n m → Backs (scene_of m t a) row
-      → ((y : ℕ) → is_about y d ≡ (row == y)) → cells_named d ≤ cell_limit → IsSmall (row_count m.layout) d
+      → ((y : ℕ) → is_about y d ≡ (row == y)) → cells_named d ≤ m.layout.cells → IsSmall m.layout d
   backs_small t row a d core (ByOwn by some) about few =
-      row_small (row_count m.layout) row d
+      row_small m.layout row d
       (referenced_small row core (backed_referenced p n m t a row core (ByReference by some))) about few
   backs_small t row a d core (ByList list cell has holds) about few =
-      row_small (row_count m.layout) row d
+      row_small m.layout row d
       (referenced_small row core (backed_referenced p n m t a row core (ByItem list cell has holds))) about few
 
   pub starts_small : (t : ℕ) (a : Actor) (d : Duty) (rest : List Duty) → CoreInvariant p n m → HasFewCells m
-      → slice_get m.actors t ≡ Some a → MayBegin (scene_of m t a) d rest → IsSmall (row_count m.layout) d
-  starts_small t a d rest core few found (Gives row h behind some) =
-      row_small (row_count m.layout) row d (referenced_small row core some) (λ y. refl) (omega arith)
-  starts_small t a d rest core few found (Takes row h behind backs) =
+      → text_cells ≤ m.layout.cells
+      → slice_get m.actors t ≡ Some a → MayBegin (scene_of m t a) d rest → IsSmall m.layout d
+  starts_small t a d rest core few wide found (Gives row h behind some) =
+      row_small m.layout row d (referenced_small row core some) (λ y. refl) (omega arith)
+  starts_small t a d rest core few wide found (Takes row h behind backs) =
       backs_small t row a d core backs (λ y. refl) (omega arith)
-  starts_small t a d rest core few found (Bears h w room below said) =
-      row_small (row_count m.layout) (row_at m.layout t a.used) d (next_within t a core found room) (λ y. refl) below
-  starts_small t a d rest core few found (Asks row backs) = backs_small t row a d core backs (λ y. refl) (omega arith)
-  starts_small t a d rest core few found (Locks row backs counted none) =
+  starts_small t a d rest core few wide found (Bears h w room below said) =
+      row_small m.layout (row_at m.layout t a.used) d (next_within t a core found room) (λ y. refl)
+      (omega (arith, below, wide))
+  starts_small t a d rest core few wide found (Asks row backs) = backs_small t row a d core backs (λ y. refl) (omega arith)
+  starts_small t a d rest core few wide found (Locks row backs counted none) =
       backs_small t row a d core backs (λ y. refl) (omega arith)
-  starts_small t a d rest core few found (Unlocks row backs has none) =
+  starts_small t a d rest core few wide found (Unlocks row backs has none) =
       backs_small t row a d core backs (λ y. refl) (omega arith)
-  starts_small t a d rest core few found (Loads row i backs has within) =
+  starts_small t a d rest core few wide found (Loads row i backs has within) =
       backs_small t row a d core backs (λ y. refl) (omega (arith, within, few row))
-  starts_small t a d rest core few found (Swaps row i item h behind backs has within some) =
+  starts_small t a d rest core few wide found (Swaps row i item h behind backs has within some) =
       backs_small t row a d core backs (λ y. refl) (omega (arith, within, few row))
-  starts_small t a d rest core few found (Lends row backs has none some) =
+  starts_small t a d rest core few wide found (Lends row backs has none some) =
       backs_small t row a d core backs (λ y. refl) (omega arith)
-  starts_small t a d rest core few found (Returns row backs lent) =
+  starts_small t a d rest core few wide found (Returns row backs lent) =
       backs_small t row a d core backs (λ y. refl) (omega arith)
 
-follows_small : (k : ℕ) (layout : Layout) (t used : ℕ) (place : Place) (rest : List Duty)
+follows_small : (layout : Layout) (t used : ℕ) (place : Place) (rest : List Duty)
     → MayFollow layout t used place rest
-    → AreSmall k rest
-follows_small k layout t used place rest (Nothing stays) = tt
-follows_small k layout t used place rest (Settles stays) = (settle_small k, tt)
-follows_small k layout t used place rest (Exits leaves) = (settle_small k, (leave_small k 0 used, tt))
+    → AreSmall layout rest
+follows_small layout t used place rest (Nothing stays) = tt
+follows_small layout t used place rest (Settles stays) = (settle_small layout, tt)
+follows_small layout t used place rest (Exits leaves) = (settle_small layout, (leave_small layout 0 used, tt))
 
 -- A silent step leaves the thread what it has locked.
 place_held : (code : List Instr) (bag : List Reference) (t x : ℕ) (locked : Option ℕ) (place : Place)
@@ -285,8 +287,8 @@ taken_fits p n m t a (Does d rest place) whole found at taken lent =
       lent = lent word (finds_full (with_account c t here.account) n m t a d rest doing);
       doing = doing;
       small = λ few _. (
-        starts_small t a.actor d rest at.core few at.found begun.starts,
-        follows_small (row_count m.layout) m.layout t a.actor.used there rest begun.follows,
+        starts_small t a.actor d rest at.core few whole.wide at.found begun.starts,
+        follows_small m.layout t a.actor.used there rest begun.follows,
       );
       plain = follows_plain m.layout t a.actor.used there rest begun.follows;
     }

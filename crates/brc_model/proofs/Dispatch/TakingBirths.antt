@@ -21,7 +21,7 @@ use Rattle.brc_model.specs.declared.actor.Context.{Context}
 use Rattle.brc_model.specs.declared.actor.Place.TheVariants.{InCall}
 use Rattle.brc_model.specs.Kinds.{kind_numbered, kind_of_word, is_counted_kind}
 use Rattle.brc_model.specs.Duties.{cells_of}
-use Rattle.brc_model.specs.Limits.{cell_limit}
+use Rattle.brc_model.specs.Limits.{text_cells}
 use Rattle.brc_model.specs.Layout.{block_size, row_at}
 use Rattle.brc_model.specs.Machine.{has_room}
 use Rattle.brc_model.specs.Actions.{birth_action, dispatch_instruction, number_word, list_word, by_variable}
@@ -35,7 +35,7 @@ use Rattle.brc_model.proofs.Dispatch.TakingUp.{Scene, StandsAt, Bears, Nothing, 
 use Rattle.brc_model.proofs.Dispatch.Standing.{keeps_all}
 
 -- A number has no cells.
-pub number_cells : (value : ℕ) → value < half → cells_of (number_word value) ≤ cell_limit
+pub number_cells : (value : ℕ) → value < half → cells_of (number_word value) ≤ text_cells
 number_cells value low =
     let kind : (kind_part (number_word value) == 3) ≡ false =
     ne_eqb (kind_part (number_word value)) 3 (λ e. absurd (omega (arith, low, e))) in
@@ -50,7 +50,7 @@ number_counts value low =
     ap (λ (k : ℕ). is_counted_kind (kind_numbered k)) number
 
 -- A list has the cells that its instruction names.
-list_cells : (cells : ℕ) → cells ≤ cell_limit → cells_of (list_word cells) ≤ cell_limit
+list_cells : (cells : ℕ) → cells ≤ text_cells → cells_of (list_word cells) ≤ text_cells
 list_cells cells few =
     let kind : kind_part (list_word cells) ≡ 3 = omega (arith, few) in
     let all : cells_of (list_word cells) ≡ argument_part (list_word cells) =
@@ -58,7 +58,7 @@ list_cells cells few =
     omega (arith, few, all)
 
 -- A list is an object of a counted kind.
-list_counts : (cells : ℕ) → cells ≤ cell_limit → is_counted_kind (kind_of_word (list_word cells)) ≡ true
+list_counts : (cells : ℕ) → cells ≤ text_cells → is_counted_kind (kind_of_word (list_word cells)) ≡ true
 list_counts cells few =
     let list : kind_part (list_word cells) ≡ 3 = omega (arith, few) in
     ap (λ (k : ℕ). is_counted_kind (kind_numbered k)) list
@@ -79,7 +79,7 @@ pub record BearsAt (code : List Instr) (context : Context) (g : Scene) (at : ℕ
       → HeldBeside g.bag g.thread x (BirthKind (row_at g.layout g.thread g.used) (by_variable context to) word)
   pub variable : to < variable_count
   pub free : is_owned (var_of s to) ≡ false
-  pub few_cells : cells_of word ≤ cell_limit
+  pub few_cells : cells_of word ≤ text_cells
   pub counted : is_counted_kind (kind_of_word word) ≡ true
   pub owned_next : path_end code (inside.exits ++ Success ∷ []) ≡ At (at + 1) (put s to (Owned kind))
   pub empty_next : path_end code (inside.exits ++ Fault ∷ []) ≡ At otherwise (put s to Empty)

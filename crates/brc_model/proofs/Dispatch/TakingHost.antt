@@ -25,7 +25,7 @@ use Rattle.brc_model.specs.Paths.{At, path_end}
 use Rattle.brc_model.specs.Threads.{row_of}
 use Rattle.brc_model.specs.KnownKinds.{IsTrueKind}
 use Rattle.brc_model.specs.Duties.{cells_of, has_resource}
-use Rattle.brc_model.specs.Limits.{cell_limit}
+use Rattle.brc_model.specs.Limits.{text_cells}
 use Rattle.brc_model.specs.Layout.{row_at}
 use Rattle.brc_model.specs.Machine.{has_room}
 use Rattle.brc_model.specs.Actions.{Does, Silent, always, number_word, file_word, sock_word, grant_action, granted_birth, lend_action, return_action, dispatch_instruction, dispatch_inside, by_variable}
@@ -160,7 +160,7 @@ module _ (code : List Instr) (g : Scene) (context : Context) (at : ℕ) (rows : 
 
   granted_taken : (i : Instr) (to word otherwise : ℕ) (kind : Kind)
       → (here : StandsInside code context g at rows s Granted i) → in_flight (Some i) Granted rows ≡ None
-      → names s.locked to ≡ false → to < 16 → is_owned (var_of s to) ≡ false → cells_of word ≤ cell_limit
+      → names s.locked to ≡ false → to < 16 → is_owned (var_of s to) ≡ false → cells_of word ≤ text_cells
       → is_counted_kind (kind_of_word word) ≡ true
       → path_end code (here.inside.exits ++ Success ∷ []) ≡ At (at + 1) (put s to (Owned kind))
       → path_end code (here.inside.exits ++ Fault ∷ []) ≡ At otherwise (put s to Empty)

@@ -41,7 +41,7 @@ use Rattle.brc_model.proofs.Dispatch.Rooms.{awaits_inside}
 use Rattle.brc_model.proofs.Dispatch.Coded.{has_stage, in_flight, PlaceFits}
 use Rattle.brc_model.specs.Duties.{cells_of, has_resource}
 use Rattle.brc_model.specs.Kinds.{kind_of_word, is_counted_kind}
-use Rattle.brc_model.specs.Limits.{cell_limit}
+use Rattle.brc_model.specs.Limits.{text_cells}
 use Rattle.brc_model.specs.declared.layout.Layout.{Layout}
 use Rattle.brc_model.specs.Layout.{block_size, row_at, IsCounted}
 
@@ -143,7 +143,7 @@ pub data MayBegin (g : Scene) : Duty → List Duty → Type 0 where
   Gives : (row : ℕ) (h : Holding) (rest : List Duty) → 0 < references_to row g.bag
       → MayBegin g (ReleaseLoad row h) rest
   Takes : (row : ℕ) (h : Holding) (rest : List Duty) → Backs g row → MayBegin g (RetainLoad row h) rest
-  Bears : (h : Holding) (w : ℕ) → g.used < block_size g.layout g.thread → cells_of w ≤ cell_limit
+  Bears : (h : Holding) (w : ℕ) → g.used < block_size g.layout g.thread → cells_of w ≤ text_cells
       → is_counted_kind (kind_of_word w) ≡ true
       → MayBegin g (BirthKind (row_at g.layout g.thread g.used) h w) []
   Asks : (row : ℕ) → Backs g row → MayBegin g (KindLoad row) []

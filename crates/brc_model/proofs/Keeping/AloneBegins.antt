@@ -72,7 +72,7 @@ pub record TakesAlone (p : Accounts) (m : Machine) (t : ℕ) (a : Actor) (d : Du
   pub knows : HeadFits (with_actor m t (working a (d ∷ []) a.aside)) t (working a (d ∷ []) a.aside) d []
   pub fits : Agenda a.used Running (d ∷ [])
   pub settled : IsSettled a.head (d ∷ [])
-  pub small : IsSmall (row_count m.layout) d
+  pub small : IsSmall m.layout d
 
 -- The thread still holds the list that it has locked, whatever it does that makes no reference.
 pub same_locks : (account : Account) (m : Machine) (t : ℕ) (a : Actor) (d : Duty) → LocksFit account m t a
@@ -151,7 +151,7 @@ claims_begin p n m t a x counts ready none own there =
       knows = own;
       fits = refl;
       settled = tt;
-      small = row_small (row_count m.layout) x (ClaimMark x) there (λ y. refl) (omega arith);
+      small = row_small m.layout x (ClaimMark x) there (λ y. refl) (omega arith);
     })
 
 -- The invariant and the ranges hold after a ready thread begins to load a mark word of its block.
@@ -214,5 +214,5 @@ kinds_asked p n m t a x counts ready alone asks =
       locks = same_locks (p t) m t a (KindLoad x) (core.each t a ready.found).0.locks (λ k y. refl);
       knows = looks_still m t a x (KindLoad x) looks;
       small =
-          row_small (row_count m.layout) x (KindLoad x) (asked_row x core ready alone asks) (λ y. refl) (omega arith);
+          row_small m.layout x (KindLoad x) (asked_row x core ready alone asks) (λ y. refl) (omega arith);
     }))

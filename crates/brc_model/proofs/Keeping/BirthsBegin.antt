@@ -4,7 +4,7 @@ use Rattle.std.proofs.Common.{◌≡◌, ℕ, ◌<◌, refl, subst, arith, [], �
 use Rattle.std.proofs.lemmas.Bool.{ltb-true}
 use Rattle.brc_model.specs.declared.duty.Holding.TheVariants.{AsCaller}
 use Rattle.brc_model.specs.declared.duty.Duty.TheVariants.{BirthKind}
-use Rattle.brc_model.specs.Layout.{block_of, block_size, row_at, row_count}
+use Rattle.brc_model.specs.Layout.{block_of, block_size, row_at}
 use Rattle.brc_model.specs.declared.actor.Actor.{Actor}
 use Rattle.brc_model.specs.Machine.{Life, Machine}
 use Rattle.brc_model.specs.References.{reference_of}
@@ -76,6 +76,6 @@ births_begin p n m t a word counts ready worker has_room counted_kind few =
         counted_kind,
       );
       small =
-          row_small (row_count m.layout) x (BirthKind x AsCaller word) (next_within t a core ready.found room)
+          row_small m.layout x (BirthKind x AsCaller word) (next_within t a core ready.found room)
           (λ y. refl) few;
     })

@@ -62,6 +62,7 @@ silent_keeps p n m t a moves place whole found fits kinds items rooms =
         functions = whole.functions;
         states_true = whole.states_true;
         mortal = whole.mortal;
+        wide = whole.wide;
         kinds = kinds;
         items = items;
         rooms = rooms;
@@ -98,6 +99,7 @@ action_keeps p n m t a exit (Calls row place) whole found fits kinds items rooms
         functions = quiet.functions;
         states_true = quiet.states_true;
         mortal = quiet.mortal;
+        wide = quiet.wide;
         kinds = kinds;
         items = items;
         rooms = rooms;
@@ -122,6 +124,7 @@ action_keeps p n m t a exit (Does d rest place) whole found fits kinds items roo
         functions = whole.functions;
         states_true = whole.states_true;
         mortal = whole.mortal;
+        wide = whole.wide;
         kinds = kinds;
         items = items;
         rooms = rooms;

@@ -33,7 +33,7 @@ hands_rooted layout plain = record {
   few_workers = plain.few_workers;
   some_rows = plain.some_rows;
   few_rows = plain.few_rows;
-  few_cells = omega (arith, plain.cells);
+  few_cells = plain.few_cells;
   no_lists = plain.immortals;
 }
 
@@ -51,6 +51,6 @@ hands_begin layout plain = record {
   kept =
       rooted_kept hands_accounts layout 1 (hands_rooted layout plain)
       (record { each = λ t le k object. hands_hold t k object });
-  ranges = rooted_ranges layout 1;
+  ranges = rooted_ranges layout 1 plain.some_cells;
   no_flight = hands_flight;
 }

@@ -6,7 +6,6 @@ use Rattle.brc_model.specs.declared.duty.Holding.TheVariants.{AsCaller}
 use Rattle.brc_model.specs.declared.duty.Duty.{Duty}
 use Rattle.brc_model.specs.declared.duty.Duty.TheVariants.{LockGate, UnlockGate, CellLoad}
 use Rattle.brc_model.specs.Layout.{row_count, IsCounted}
-use Rattle.brc_model.specs.Limits.{cell_limit}
 use Rattle.brc_model.specs.declared.actor.Actor.{Actor}
 use Rattle.brc_model.specs.Machine.{Machine, with_actor}
 use Rattle.brc_model.specs.References.{one_if}
@@ -28,7 +27,7 @@ module _ {p : Accounts} {n : ℕ} {m : Machine} {t : ℕ} {a : Actor} where
   -- A ready thread takes up such work about an object that has a row.
   look_begins : (x : ℕ) (d : Duty) → Counts p n m → IsReady m t a → HasNoneAbout a x → x < row_count m.layout
       → BeginsWork x d → ((k : Holding) (y : ℕ) → lacks d k y ≡ false)
-      → ((k : Holding) (y : ℕ) → extra d k y ≡ false) → cells_named d ≤ cell_limit
+      → ((k : Holding) (y : ℕ) → extra d k y ≡ false) → cells_named d ≤ m.layout.cells
       → HeadFits (with_actor m t (working a (d ∷ []) a.aside)) t (working a (d ∷ []) a.aside) d []
       → Counts p n (with_actor m t (working a (d ∷ []) a.aside))
   look_begins x d counts ready alone there begins no_lack no_extra few knows =
@@ -48,7 +47,7 @@ module _ {p : Accounts} {n : ℕ} {m : Machine} {t : ℕ} {a : Actor} where
         bounded = (core.each t a ready.found).0.bounded;
         locks = same_locks (p t) m t a d (core.each t a ready.found).0.locks no_lack;
         knows = knows;
-        small = row_small (row_count m.layout) x d there begins.about few;
+        small = row_small m.layout x d there begins.about few;
       }))
 
   -- A reference that the thread holds as the caller backs the object, while new work begins.

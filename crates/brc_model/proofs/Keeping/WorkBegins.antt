@@ -109,7 +109,7 @@ pub record TakesUp (m : Machine) (t : ℕ) (a : Actor) (x : ℕ) (d : Duty) (acc
   pub bounded : IsBounded m.layout account
   pub locks : LocksFit account m t (working a (d ∷ []) a.aside)
   pub knows : HeadFits (with_actor m t (working a (d ∷ []) a.aside)) t (working a (d ∷ []) a.aside) d []
-  pub small : IsSmall (row_count m.layout) d
+  pub small : IsSmall m.layout d
 
 -- The duties put aside are about other rows than the new work.
 apart_from : (a : Actor) (x : ℕ) (d : Duty) → BeginsWork x d → HasNoneAbout a x
@@ -215,7 +215,7 @@ retains_begin p n m t a x counts ready alone at_hand few =
           refl (λ k y. omega (arith, one_makes k y (RetainLoad x AsCaller)));
       knows = backed_still m t a x (RetainLoad x AsCaller) backed;
       small =
-          row_small (row_count m.layout) x (RetainLoad x AsCaller) (backed_row t a x core backed)
+          row_small m.layout x (RetainLoad x AsCaller) (backed_row t a x core backed)
           (λ y. refl) (omega arith);
     })
 
@@ -240,6 +240,6 @@ releases_begin p n m t a x counts ready alone some may =
           )) may;
       knows = tt;
       small =
-          row_small (row_count m.layout) x (ReleaseLoad x AsCaller) (held_row x core ready alone some)
+          row_small m.layout x (ReleaseLoad x AsCaller) (held_row x core ready alone some)
           (λ y. refl) (omega arith);
     })

@@ -6,7 +6,7 @@ use Rattle.std.proofs.lemmas.Bool.Decides.{eqb_tells}
 use Rattle.brc_word.specs.declared.values.TheConstants.{EMPTY}
 use Rattle.brc_model.specs.declared.address.Address.TheVariants.{Cell}
 use Rattle.brc_model.specs.Layout.{row_count}
-use Rattle.brc_model.specs.Limits.{cell_limit}
+use Rattle.brc_model.specs.declared.layout.Layout.{Layout}
 use Rattle.brc_model.specs.AbstractState.{Holder, ByThread, ByCell, Reference, same, same_holder}
 use Rattle.brc_model.specs.References.{held, one_if, word_holds, cell_reference}
 use Rattle.brc_model.specs.Machine.{Machine, Life, Unborn, Live, Dying, Closed}
@@ -42,35 +42,35 @@ over_at f u (suc t) low none = elim (eqb_tells t u) [
   | inr apart ↦ omega (arith, over_at f u t (omega (arith, low, apart.1)) none, none t apart.1)
 ]
 
-cells_each : (f g : ℕ → ℕ → ℕ) (rows : ℕ) → ((y i : ℕ) → f y i ≡ g y i) → over_cells f rows ≡ over_cells g rows
-cells_each f g rows each =
-    over_each (λ y. over_threads (f y) cell_limit) (λ y. over_threads (g y) cell_limit) rows
-    (λ y. over_each (f y) (g y) cell_limit (each y))
+cells_each : (f g : ℕ → ℕ → ℕ) (layout : Layout) → ((y i : ℕ) → f y i ≡ g y i) → over_cells f layout ≡ over_cells g layout
+cells_each f g layout each =
+    over_each (λ y. over_threads (f y) layout.cells) (λ y. over_threads (g y) layout.cells) (row_count layout)
+    (λ y. over_each (f y) (g y) layout.cells (each y))
 
-cells_sum : (f g : ℕ → ℕ → ℕ) (rows : ℕ)
-    → over_cells (λ y i. f y i + g y i) rows ≡ over_cells f rows + over_cells g rows
-cells_sum f g rows =
-    over_each (λ y. over_threads (λ i. f y i + g y i) cell_limit)
-    (λ y. over_threads (f y) cell_limit + over_threads (g y) cell_limit) rows
-    (λ y. over_sum (f y) (g y) cell_limit)
-    ∙ over_sum (λ y. over_threads (f y) cell_limit) (λ y. over_threads (g y) cell_limit) rows
+cells_sum : (f g : ℕ → ℕ → ℕ) (layout : Layout)
+    → over_cells (λ y i. f y i + g y i) layout ≡ over_cells f layout + over_cells g layout
+cells_sum f g layout =
+    over_each (λ y. over_threads (λ i. f y i + g y i) layout.cells)
+    (λ y. over_threads (f y) layout.cells + over_threads (g y) layout.cells) (row_count layout)
+    (λ y. over_sum (f y) (g y) layout.cells)
+    ∙ over_sum (λ y. over_threads (f y) layout.cells) (λ y. over_threads (g y) layout.cells) (row_count layout)
 
-cells_none : (f : ℕ → ℕ → ℕ) (rows : ℕ) → ((y i : ℕ) → f y i ≡ 0) → over_cells f rows ≡ 0
-cells_none f rows none =
-    over_zero (λ y. over_threads (f y) cell_limit) rows (λ y low. over_zero (f y) cell_limit (λ i under. none y i))
+cells_none : (f : ℕ → ℕ → ℕ) (layout : Layout) → ((y i : ℕ) → f y i ≡ 0) → over_cells f layout ≡ 0
+cells_none f layout none =
+    over_zero (λ y. over_threads (f y) layout.cells) (row_count layout) (λ y low. over_zero (f y) layout.cells (λ i under. none y i))
 
-cells_at : (f : ℕ → ℕ → ℕ) (u j rows : ℕ) → u < rows → j < cell_limit → ((y i : ℕ) → y ≢ u → f y i ≡ 0)
-    → ((i : ℕ) → i ≢ j → f u i ≡ 0) → over_cells f rows ≡ f u j
-cells_at f u j rows low under rest others =
-    over_at (λ y. over_threads (f y) cell_limit) u rows low
-    (λ y ne. over_zero (f y) cell_limit (λ i there. rest y i ne))
-    ∙ over_at (f u) j cell_limit under others
+cells_at : (f : ℕ → ℕ → ℕ) (u j : ℕ) (layout : Layout) → u < row_count layout → j < layout.cells → ((y i : ℕ) → y ≢ u → f y i ≡ 0)
+    → ((i : ℕ) → i ≢ j → f u i ≡ 0) → over_cells f layout ≡ f u j
+cells_at f u j layout low under rest others =
+    over_at (λ y. over_threads (f y) layout.cells) u (row_count layout) low
+    (λ y ne. over_zero (f y) layout.cells (λ i there. rest y i ne))
+    ∙ over_at (f u) j layout.cells under others
 
 -- ---- one reference
 
--- The cells outside the machine's rows, and past the most that a list has, hold nothing.
-abbrev pub HasNoOthers : ℕ → ℕ → List Reference → Type 0
-HasNoOthers x rows bag = (y i : ℕ) → (rows ≤ y) ⊎ (cell_limit ≤ i) → held (cell_reference y i x) bag ≡ 0
+-- The cells outside the layout's rows, and past the most that a list has, hold nothing.
+abbrev pub HasNoOthers : ℕ → Layout → List Reference → Type 0
+HasNoOthers x layout bag = (y i : ℕ) → (row_count layout ≤ y) ⊎ (layout.cells ≤ i) → held (cell_reference y i x) bag ≡ 0
 
 -- how often a reference is the cell's to the object
 abbrev is_cells : ℕ → Reference → ℕ → ℕ → ℕ
@@ -96,22 +96,22 @@ all_same true false c one two three = absurd cc
 all_same true true false one two three = absurd cc
 
 -- A reference to the object is in one cell, once, if a cell holds it.
-holder_in : (x rows : ℕ) (h : Holder) (bag : List Reference)
-    → HasNoOthers x rows (record { holder = h; object = x } ∷ bag)
-    → over_cells (is_cells x (record { holder = h; object = x })) rows ≡ one_if (is_in_cell h)
-holder_in x rows (ByThread t k) bag none = cells_none (is_cells x (record { holder = ByThread t k; object = x })) rows
+holder_in : (x : ℕ) (layout : Layout) (h : Holder) (bag : List Reference)
+    → HasNoOthers x layout (record { holder = h; object = x } ∷ bag)
+    → over_cells (is_cells x (record { holder = h; object = x })) layout ≡ one_if (is_in_cell h)
+holder_in x layout (ByThread t k) bag none = cells_none (is_cells x (record { holder = ByThread t k; object = x })) layout
     (λ y i. refl)
-holder_in x rows (ByCell u j) bag none =
+holder_in x layout (ByCell u j) bag none =
     let here = held_itself (cell_reference u j x) bag in
-    let low : u < rows = elim (cases_lt u rows) [
+    let low : u < row_count layout = elim (cases_lt u (row_count layout)) [
       | inl low ↦ low
       | inr past ↦ absurd (omega (arith, here, none u j (inl past)))
     ] in
-    let under : j < cell_limit = elim (cases_lt j cell_limit) [
+    let under : j < layout.cells = elim (cases_lt j layout.cells) [
       | inl under ↦ under
       | inr past ↦ absurd (omega (arith, here, none u j (inr past)))
     ] in
-    cells_at (is_cells x (cell_reference u j x)) u j rows low under
+    cells_at (is_cells x (cell_reference u j x)) u j layout low under
     (λ y i ne. both_apart (y == u) (i == j) (x == x) (ne_eqb y u ne))
     (λ i ne. other_apart (u == u) (i == j) (x == x) (ne_eqb i j ne))
     ∙ all_same (u == u) (j == j) (x == x) (eq-eqb u u refl) (eq-eqb j j refl) (eq-eqb x x refl)
@@ -124,17 +124,17 @@ pub this_object : (b c : Bool) → c ≡ true → one_if (b && c) ≡ one_if b
 this_object true c e = ap one_if e
 this_object false c e = refl
 
-reference_in : (x rows : ℕ) (q : Reference) (bag : List Reference) → HasNoOthers x rows (q ∷ bag)
-    → over_cells (is_cells x q) rows ≡ one_if (is_in_cell q.holder && (q.object == x))
-reference_in x rows q bag none = elim (eqb_tells q.object x) [
+reference_in : (x : ℕ) (layout : Layout) (q : Reference) (bag : List Reference) → HasNoOthers x layout (q ∷ bag)
+    → over_cells (is_cells x q) layout ≡ one_if (is_in_cell q.holder && (q.object == x))
+reference_in x layout q bag none = elim (eqb_tells q.object x) [
   | inl this ↦
-      let here : HasNoOthers x rows (record { holder = q.holder; object = x } ∷ bag) =
-      subst (λ (y : ℕ). HasNoOthers x rows (record { holder = q.holder; object = y } ∷ bag)) this.1 none in
-      subst (λ (y : ℕ). over_cells (is_cells x (record { holder = q.holder; object = y })) rows
-      ≡ one_if (is_in_cell q.holder)) (sym this.1) (holder_in x rows q.holder bag here)
+      let here : HasNoOthers x layout (record { holder = q.holder; object = x } ∷ bag) =
+      subst (λ (y : ℕ). HasNoOthers x layout (record { holder = q.holder; object = y } ∷ bag)) this.1 none in
+      subst (λ (y : ℕ). over_cells (is_cells x (record { holder = q.holder; object = y })) layout
+      ≡ one_if (is_in_cell q.holder)) (sym this.1) (holder_in x layout q.holder bag here)
       ∙ sym (this_object (is_in_cell q.holder) (q.object == x) this.0)
   | inr apart ↦
-      cells_none (is_cells x q) rows
+      cells_none (is_cells x q) layout
       (λ y i. elsewhere (same_holder (ByCell y i) q.holder) x q.object (λ e. apart.1 (sym e)))
       ∙ sym (no_object (is_in_cell q.holder) (q.object == x) apart.0)
 ]
@@ -145,22 +145,22 @@ pub in_cells-cons : (x : ℕ) (q : Reference) (bag : List Reference)
     → in_cells x (q ∷ bag) ≡ one_if (is_in_cell q.holder && (q.object == x)) + in_cells x bag
 in_cells-cons x q bag = count_by-cons (λ (r : Reference). is_in_cell r.holder && (r.object == x)) q bag
 
-cells_in : (x rows : ℕ) (bag : List Reference) → HasNoOthers x rows bag
-    → in_cells x bag ≡ over_cells (λ y i. held (cell_reference y i x) bag) rows
-cells_in x rows [] none = sym (cells_none (λ y i. 0) rows (λ y i. refl))
-cells_in x rows (q ∷ bag) none =
-    let rest : HasNoOthers x rows bag =
+cells_in : (x : ℕ) (layout : Layout) (bag : List Reference) → HasNoOthers x layout bag
+    → in_cells x bag ≡ over_cells (λ y i. held (cell_reference y i x) bag) layout
+cells_in x layout [] none = sym (cells_none (λ y i. 0) layout (λ y i. refl))
+cells_in x layout (q ∷ bag) none =
+    let rest : HasNoOthers x layout bag =
     λ y i past. omega (arith, none y i past, held-cons (cell_reference y i x) q bag) in
     let both =
     cells_each (λ y i. held (cell_reference y i x) (q ∷ bag))
-    (λ y i. is_cells x q y i + held (cell_reference y i x) bag) rows
+    (λ y i. is_cells x q y i + held (cell_reference y i x) bag) layout
     (λ y i. held-cons (cell_reference y i x) q bag)
-    ∙ cells_sum (is_cells x q) (λ y i. held (cell_reference y i x) bag) rows in
+    ∙ cells_sum (is_cells x q) (λ y i. held (cell_reference y i x) bag) layout in
     omega (
       arith,
       in_cells-cons x q bag,
-      cells_in x rows bag rest,
-      reference_in x rows q bag none,
+      cells_in x layout bag rest,
+      reference_in x layout q bag none,
       both,
     )
 
@@ -176,7 +176,7 @@ unborn_by (Dying t) = inr (λ e. absurd cc)
 unborn_by Closed = inr (λ e. absurd cc)
 
 module _ {p : Accounts} {n : ℕ} {m : Machine} where
-  pub no_others : (x : ℕ) → Counts p n m → HasNoOthers x (row_count m.layout) m.abstract.references
+  pub no_others : (x : ℕ) → Counts p n m → HasNoOthers x m.layout m.abstract.references
   no_others x counts y i past =
       let core = counts.kept.core in
       let empty : m.memory (Cell y i) ≡ EMPTY = elim past [
@@ -190,6 +190,6 @@ module _ {p : Accounts} {n : ℕ} {m : Machine} where
 
 pub cells_hold : CellsHold
 cells_hold p n m x counts =
-    cells_in x (row_count m.layout) m.abstract.references (no_others x counts)
+    cells_in x m.layout m.abstract.references (no_others x counts)
     ∙ cells_each (λ y i. held (cell_reference y i x) m.abstract.references)
-    (λ y i. word_holds (m.memory (Cell y i)) x) (row_count m.layout) (λ y i. counts.kept.core.cells_hold y i x)
+    (λ y i. word_holds (m.memory (Cell y i)) x) m.layout (λ y i. counts.kept.core.cells_hold y i x)

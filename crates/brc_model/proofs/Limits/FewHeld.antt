@@ -187,7 +187,7 @@ module _ {p : Accounts} {n : ℕ} {m : Machine} where
             (λ unborn. full (subst (λ (l : Life). CellFits l (m.memory (Cell y i))) unborn (core.cells y i))),
         elim (cases_lt i cell_limit) [
           | inl low ↦ low
-          | inr past ↦ absurd (full (core.cells_end y i (omega (arith, past, few y))))
+          | inr past ↦ absurd (full (core.cells_end y i (omega (arith, past, few y, core.few_cells))))
         ],
       )
 

@@ -26,7 +26,6 @@ use Rattle.brc_model.proofs.Frame.CellsHeld.{cell_held}
 use Rattle.brc_model.proofs.Basics.Lists.{written_actor}
 use Rattle.brc_model.proofs.Basics.Blocks.{born_within}
 use Rattle.brc_model.proofs.Stepping.Exits.{marked_born}
-use Rattle.brc_model.specs.Limits.{cell_limit}
 use Rattle.brc_model.specs.declared.layout.Layout.{Layout}
 use Rattle.std.proofs.lemmas.Bool.{cases_Bool}
 use Rattle.brc_word.specs.declared.values.TheConstants.{SET}
@@ -34,115 +33,115 @@ use Rattle.brc_model.specs.Layout.{row_count, block_of, mark_bit, is_immortal_ro
 
 -- ---- duties
 
-pub row_small : (k x : ℕ) (d : Duty) → x < k → ((y : ℕ) → is_about y d ≡ (x == y)) → cells_named d ≤ cell_limit
-    → IsSmall k d
-row_small k x d low about few = record {
-  row = λ y e. subst (λ (z : ℕ). z < k) (eqb-true x y (sym (about y) ∙ e)) low;
+pub row_small : (layout : Layout) (x : ℕ) (d : Duty) → x < row_count layout → ((y : ℕ) → is_about y d ≡ (x == y)) → cells_named d ≤ layout.cells
+    → IsSmall layout d
+row_small layout x d low about few = record {
+  row = λ y e. subst (λ (z : ℕ). z < row_count layout) (eqb-true x y (sym (about y) ∙ e)) low;
   cells = few;
 }
 
 -- What the step must find so that the duties that follow are small.
-abbrev pub FindsSmall : ℕ → Layout → ℕ → ℕ → Duty → ℕ → Type 0
-FindsSmall k layout t head Settle found = head - 1 < k
-FindsSmall k layout t head (SettleKind x) found = cells_of found ≤ cell_limit
-FindsSmall k layout t head (SettleCell x i n) found = (y : ℕ) → found ≡ suc y → y < k
-FindsSmall k layout t head (CellSwap x i y h) found = (z : ℕ) → found ≡ suc z → z < k
-FindsSmall k layout t head (TakeFound w marks) found =
-    mark_at found (mark_bit layout (found_row layout t w marks)) ≡ 1 → found_row layout t w marks < k
-FindsSmall k layout t head _ found = Unit {0}
+abbrev pub FindsSmall : Layout → ℕ → ℕ → Duty → ℕ → Type 0
+FindsSmall layout t head Settle found = head - 1 < row_count layout
+FindsSmall layout t head (SettleKind x) found = cells_of found ≤ layout.cells
+FindsSmall layout t head (SettleCell x i n) found = (y : ℕ) → found ≡ suc y → y < row_count layout
+FindsSmall layout t head (CellSwap x i y h) found = (z : ℕ) → found ≡ suc z → z < row_count layout
+FindsSmall layout t head (TakeFound w marks) found =
+    mark_at found (mark_bit layout (found_row layout t w marks)) ≡ 1 → found_row layout t w marks < row_count layout
+FindsSmall layout t head _ found = Unit {0}
 
 -- ---- the duties that follow a step
 
-both_small : (k : ℕ) (l r : List Duty) → AreSmall k l → AreSmall k r → AreSmall k (l ++ r)
-both_small k [] r first second = second
-both_small k (d ∷ l) r first second = (first.0, both_small k l r first.1 second)
+both_small : (layout : Layout) (l r : List Duty) → AreSmall layout l → AreSmall layout r → AreSmall layout (l ++ r)
+both_small layout [] r first second = second
+both_small layout (d ∷ l) r first second = (first.0, both_small layout l r first.1 second)
 
 -- Settling and exits are about no row.
-pub settle_small : (k : ℕ) → IsSmall k Settle
-settle_small k = record { row = λ x e. absurd cc; cells = omega arith }
+pub settle_small : (layout : Layout) → IsSmall layout Settle
+settle_small layout = record { row = λ x e. absurd cc; cells = omega arith }
 
-pub leave_small : (k i n : ℕ) → IsSmall k (Leave i n)
-leave_small k i n = record { row = λ x e. absurd cc; cells = omega arith }
+pub leave_small : (layout : Layout) (i n : ℕ) → IsSmall layout (Leave i n)
+leave_small layout i n = record { row = λ x e. absurd cc; cells = omega arith }
 
-scan_small : (k w n : ℕ) → IsSmall k (Scan w n)
-scan_small k w n = record { row = λ x e. absurd cc; cells = omega arith }
+scan_small : (layout : Layout) (w n : ℕ) → IsSmall layout (Scan w n)
+scan_small layout w n = record { row = λ x e. absurd cc; cells = omega arith }
 
-take_small : (k w marks : ℕ) → IsSmall k (TakeFound w marks)
-take_small k w marks = record { row = λ x e. absurd cc; cells = omega arith }
+take_small : (layout : Layout) (w marks : ℕ) → IsSmall layout (TakeFound w marks)
+take_small layout w marks = record { row = λ x e. absurd cc; cells = omega arith }
 
-finish_small : (k : ℕ) → IsSmall k Finish
-finish_small k = record { row = λ x e. absurd cc; cells = omega arith }
+finish_small : (layout : Layout) → IsSmall layout Finish
+finish_small layout = record { row = λ x e. absurd cc; cells = omega arith }
 
 -- The cells that are emptied are those that the kind word says.
-cells_small : (k : ℕ) (layout : Layout) (t head : ℕ) (d : Duty) (found : ℕ) → IsSmall k d
-    → FindsSmall k layout t head d found → cells_by d found ≤ cell_limit
-cells_small k layout t head (SettleKind x) found small finds = finds
-cells_small k layout t head (SettleCell x i n) found small finds = small.cells
-cells_small k layout t head _ found small finds = omega arith
+cells_small : (layout : Layout) (t head : ℕ) (d : Duty) (found : ℕ) → IsSmall layout d
+    → FindsSmall layout t head d found → cells_by d found ≤ layout.cells
+cells_small layout t head (SettleKind x) found small finds = finds
+cells_small layout t head (SettleCell x i n) found small finds = small.cells
+cells_small layout t head _ found small finds = omega arith
 
-origin_small : (k : ℕ) (d : Duty) (found : ℕ) (e : Duty) → Origin d found e → cells_by d found ≤ cell_limit
-    → cells_named e ≤ cell_limit
-origin_small k d found (SettleCell x i n) origin few = omega (arith, origin, few)
-origin_small k d found (BirthKind x h w) origin few = absurd origin
-origin_small k d found (CellLoad x i) origin few = absurd origin
-origin_small k d found (CellSwap x i y h) origin few = absurd origin
-origin_small k d found _ origin few = omega arith
+origin_small : (layout : Layout) (d : Duty) (found : ℕ) (e : Duty) → Origin d found e → cells_by d found ≤ layout.cells
+    → cells_named e ≤ layout.cells
+origin_small layout d found (SettleCell x i n) origin few = omega (arith, origin, few)
+origin_small layout d found (BirthKind x h w) origin few = absurd origin
+origin_small layout d found (CellLoad x i) origin few = absurd origin
+origin_small layout d found (CellSwap x i y h) origin few = absurd origin
+origin_small layout d found _ origin few = omega arith
 
-next_small : (k : ℕ) {layout : Layout} {t head found : ℕ} (d : Duty) (next : List Duty)
-    → Continuation layout t head found d next → IsSmall k d → FindsSmall k layout t head d found → AreSmall k next
-next_small k d next (Ends inner) small finds = tt
-next_small k d next Finishes small finds = tt
-next_small k {layout = layout} {t = t} {head = head} {found = found} d next (GoesOn e leads) small finds = (
+next_small : (layout : Layout) {t head found : ℕ} (d : Duty) (next : List Duty)
+    → Continuation layout t head found d next → IsSmall layout d → FindsSmall layout t head d found → AreSmall layout next
+next_small layout d next (Ends inner) small finds = tt
+next_small layout d next Finishes small finds = tt
+next_small layout {t = t} {head = head} {found = found} d next (GoesOn e leads) small finds = (
   record {
     row = λ x about. small.row x (ap (λ (s : Traits). s.about x) (sym leads.same) ∙ about);
-    cells = origin_small k d found e leads.origin (cells_small k layout t head d found small finds);
+    cells = origin_small layout d found e leads.origin (cells_small layout t head d found small finds);
   },
   tt,
 )
-next_small k {layout = layout} {t = t} {head = head} {found = found} d next (Frees x i n y e some leads) small finds = (
-  row_small k y (ReleaseLoad y InFlight) (finds y some) (λ z. refl) (omega arith),
+next_small layout {t = t} {head = head} {found = found} d next (Frees x i n y e some leads) small finds = (
+  row_small layout y (ReleaseLoad y InFlight) (finds y some) (λ z. refl) (omega arith),
   (
     record {
       row = λ z about. small.row z (ap (λ (s : Traits). s.about z) (sym leads.same) ∙ about);
-      cells = origin_small k d found e leads.origin (cells_small k layout t head d found small finds);
+      cells = origin_small layout d found e leads.origin (cells_small layout t head d found small finds);
     },
     tt,
   ),
 )
-next_small k d next (FreesOld x i y z h some) small finds =
-    (row_small k z (ReleaseLoad z InFlight) (finds z some) (λ v. refl) (omega arith), tt)
-next_small k {head = head} d next SettlesRow small finds =
-    (row_small k (head - 1) (SettleKind (head - 1)) finds (λ y. refl) (omega arith), (settle_small k, tt))
-next_small k d next (Claims x set) small finds =
-    (record { row = small.row; cells = omega arith }, (settle_small k, tt))
-next_small k d next (ClaimsNone x) small finds = (settle_small k, tt)
-next_small k d next (Exits i n) small finds = (scan_small k i n, (finish_small k, tt))
-next_small k d next (Scans w n) small finds = (take_small k w _, (scan_small k (w + 1) (n - marks_of_word), tt))
-next_small k {layout = layout} {t = t} d next (Takes w marks set) small finds = (
-  row_small k (found_row layout t w marks) (MergeSwap (found_row layout t w marks) Handed) (finds set) (λ y. refl)
+next_small layout d next (FreesOld x i y z h some) small finds =
+    (row_small layout z (ReleaseLoad z InFlight) (finds z some) (λ v. refl) (omega arith), tt)
+next_small layout {head = head} d next SettlesRow small finds =
+    (row_small layout (head - 1) (SettleKind (head - 1)) finds (λ y. refl) (omega arith), (settle_small layout, tt))
+next_small layout d next (Claims x set) small finds =
+    (record { row = small.row; cells = omega arith }, (settle_small layout, tt))
+next_small layout d next (ClaimsNone x) small finds = (settle_small layout, tt)
+next_small layout d next (Exits i n) small finds = (scan_small layout i n, (finish_small layout, tt))
+next_small layout d next (Scans w n) small finds = (take_small layout w _, (scan_small layout (w + 1) (n - marks_of_word), tt))
+next_small layout {t = t} d next (Takes w marks set) small finds = (
+  row_small layout (found_row layout t w marks) (MergeSwap (found_row layout t w marks) Handed) (finds set) (λ y. refl)
       (omega arith),
-  (settle_small k, (take_small k w _, tt)),
+  (settle_small layout, (take_small layout w _, tt)),
 )
-next_small k d next (TakesNone w marks) small finds = (settle_small k, (take_small k w _, tt))
+next_small layout d next (TakesNone w marks) small finds = (settle_small layout, (take_small layout w _, tt))
 
-ready_step : (k : ℕ) (head : ℕ) (d : Duty) (rest : List Duty) → AreSmall k (d ∷ rest) → AreSmall k (ready head rest)
-    → AreSmall k (ready head (d ∷ rest))
-ready_step k zero Settle rest small later = later
-ready_step k (suc head) Settle rest small later = small
-ready_step k zero (Scan x zero) rest small later = later
-ready_step k zero (Scan x (suc n)) rest small later = small
-ready_step k (suc head) (Scan x zero) rest small later = later
-ready_step k (suc head) (Scan x (suc n)) rest small later = small
-ready_step k zero (TakeFound x zero) rest small later = later
-ready_step k zero (TakeFound x (suc n)) rest small later = small
-ready_step k (suc head) (TakeFound x zero) rest small later = later
-ready_step k (suc head) (TakeFound x (suc n)) rest small later = small
-ready_step k zero _ rest small later = small
-ready_step k (suc head) _ rest small later = small
+ready_step : (layout : Layout) (head : ℕ) (d : Duty) (rest : List Duty) → AreSmall layout (d ∷ rest) → AreSmall layout (ready head rest)
+    → AreSmall layout (ready head (d ∷ rest))
+ready_step layout zero Settle rest small later = later
+ready_step layout (suc head) Settle rest small later = small
+ready_step layout zero (Scan x zero) rest small later = later
+ready_step layout zero (Scan x (suc n)) rest small later = small
+ready_step layout (suc head) (Scan x zero) rest small later = later
+ready_step layout (suc head) (Scan x (suc n)) rest small later = small
+ready_step layout zero (TakeFound x zero) rest small later = later
+ready_step layout zero (TakeFound x (suc n)) rest small later = small
+ready_step layout (suc head) (TakeFound x zero) rest small later = later
+ready_step layout (suc head) (TakeFound x (suc n)) rest small later = small
+ready_step layout zero _ rest small later = small
+ready_step layout (suc head) _ rest small later = small
 
-ready_small : (k : ℕ) (head : ℕ) (agenda : List Duty) → AreSmall k agenda → AreSmall k (ready head agenda)
-ready_small k head [] small = tt
-ready_small k head (d ∷ rest) small = ready_step k head d rest small (ready_small k head rest small.1)
+ready_small : (layout : Layout) (head : ℕ) (agenda : List Duty) → AreSmall layout agenda → AreSmall layout (ready head agenda)
+ready_small layout head [] small = tt
+ready_small layout head (d ∷ rest) small = ready_step layout head d rest small (ready_small layout head rest small.1)
 
 -- ---- rows
 
@@ -187,7 +186,7 @@ module _ {p : Accounts} {n : ℕ} {m : Machine} where
   -- ---- machines
 
   finds_small : (t : ℕ) (a : Actor) (d : Duty) → CoreInvariant p n m → Ranges n m → a.head ≤ row_count m.layout
-      → FindsSmall (row_count m.layout) m.layout t a.head d (m.memory (address_of m.layout t a.head d))
+      → FindsSmall m.layout t a.head d (m.memory (address_of m.layout t a.head d))
   finds_small t a Settle core ranges head = omega (arith, head)
   finds_small t a (SettleKind x) core ranges head = ranges.kinds x
   finds_small t a (SettleCell x i k) core ranges head = λ y is. cell_small x i y core is
@@ -195,40 +194,40 @@ module _ {p : Accounts} {n : ℕ} {m : Machine} where
   finds_small t a (TakeFound w marks) core ranges head = λ set. marked_small (found_row m.layout t w marks) core set
   finds_small t a _ core ranges head = tt
 
--- No step makes a kind word of more than eight cells.
-kinds_left : (m : Machine) (t : ℕ) (a : Actor) (d : Duty) (k : ℕ) (x : ℕ) → IsSmall k d
-    → cells_of (m.memory (KindOf x)) ≤ cell_limit
+-- No step makes a kind word of more cells than the layout has.
+kinds_left : (m : Machine) (t : ℕ) (a : Actor) (d : Duty) (x : ℕ) → IsSmall m.layout d
+    → cells_of (m.memory (KindOf x)) ≤ m.layout.cells
     → cells_of (written m.memory (address_of m.layout t a.head d)
-    (new_word m.layout t a.head d (m.memory (address_of m.layout t a.head d))) (KindOf x)) ≤ cell_limit
-kinds_left m t a (SettleKind y) k x small was =
-    subst (λ (w : ℕ). cells_of w ≤ cell_limit) (sym (written_load m.memory (KindOf y) (KindOf x))) was
-kinds_left m t a (KindLoad y) k x small was =
-    subst (λ (w : ℕ). cells_of w ≤ cell_limit) (sym (written_load m.memory (KindOf y) (KindOf x))) was
-kinds_left m t a (BirthKind y h w) k x small was =
-    elim (y == x) as (λ b. cells_of (cond b w (m.memory (KindOf x))) ≤ cell_limit) [
+    (new_word m.layout t a.head d (m.memory (address_of m.layout t a.head d))) (KindOf x)) ≤ m.layout.cells
+kinds_left m t a (SettleKind y) x small was =
+    subst (λ (w : ℕ). cells_of w ≤ m.layout.cells) (sym (written_load m.memory (KindOf y) (KindOf x))) was
+kinds_left m t a (KindLoad y) x small was =
+    subst (λ (w : ℕ). cells_of w ≤ m.layout.cells) (sym (written_load m.memory (KindOf y) (KindOf x))) was
+kinds_left m t a (BirthKind y h w) x small was =
+    elim (y == x) as (λ b. cells_of (cond b w (m.memory (KindOf x))) ≤ m.layout.cells) [
       | true ↦ small.cells
       | false ↦ was
     ]
-kinds_left m t a _ k x small was = was
+kinds_left m t a _ x small was = was
 
 module _ {p : Accounts} {n : ℕ} {m : Machine} where
   -- Doing a small duty keeps the ranges. `b` is the thread as the machine has it, and `a` the thread that has taken the
   -- duty up.
   pub duty_ranges : (t : ℕ) (b a : Actor) (d : Duty) (rest : List Duty) → CoreInvariant p n m → Ranges n m
-      → slice_get m.actors t ≡ Some b → a.head ≤ row_count m.layout → AreSmall (row_count m.layout) (d ∷ rest)
-      → AreSmall (row_count m.layout) a.aside → Ranges n (machine_by_duty m t a d rest)
+      → slice_get m.actors t ≡ Some b → a.head ≤ row_count m.layout → AreSmall m.layout (d ∷ rest)
+      → AreSmall m.layout a.aside → Ranges n (machine_by_duty m t a d rest)
   duty_ranges t b a d rest core ranges found head small waiting =
       let word = m.memory (address_of m.layout t a.head d) in
       let next =
-      next_small (row_count m.layout) d (continuation m.layout t (is_running a.status) a.head d word)
+      next_small m.layout d (continuation m.layout t (is_running a.status) a.head d word)
       (continues m.layout t (is_running a.status) a.head d word) small.0 (finds_small t a d core ranges head) in
       record {
-        kinds = λ x. kinds_left m t a d (row_count m.layout) x small.0 (ranges.kinds x);
-        each = written_actor (λ u c. AreSmall (row_count m.layout) c.agenda) m.actors t b
+        kinds = λ x. kinds_left m t a d x small.0 (ranges.kinds x);
+        each = written_actor (λ u c. AreSmall m.layout c.agenda) m.actors t b
             (actor_by m.layout t a d rest word) found
-            (ready_small (row_count m.layout) _ (continuation m.layout t (is_running a.status) a.head d word ++ rest)
-            (both_small (row_count m.layout) (continuation m.layout t (is_running a.status) a.head d word) rest next
+            (ready_small m.layout _ (continuation m.layout t (is_running a.status) a.head d word ++ rest)
+            (both_small m.layout (continuation m.layout t (is_running a.status) a.head d word) rest next
             small.1)) ranges.each;
-        aside = written_actor (λ u c. AreSmall (row_count m.layout) c.aside) m.actors t b
+        aside = written_actor (λ u c. AreSmall m.layout c.aside) m.actors t b
             (actor_by m.layout t a d rest word) found waiting ranges.aside;
       }

@@ -1,5 +1,5 @@
 -- Each event keeps the rows and cells of threads' duties in range.
-use Rattle.std.proofs.Common.{◌≡◌, ℕ, ◌+◌, List, [], ◌∷◌, length, Option, None, Some, refl, subst}
+use Rattle.std.proofs.Common.{◌≡◌, ℕ, ◌+◌, List, [], ◌∷◌, length, Option, None, Some, refl, subst, arith}
 use Rattle.std.specs.Prelude.{slice_get}
 use Rattle.brc_lang.specs.declared.module.Module.{Module}
 use Rattle.brc_model.specs.AbstractState.{Move}
@@ -19,7 +19,6 @@ use Rattle.brc_model.proofs.Dispatch.Actions.{ActionFits, action_fits}
 use Rattle.brc_model.proofs.Keeping.CodeEvents.{event_keeps}
 use Rattle.brc_model.specs.Ranges.{AreSmall, Ranges}
 use Rattle.brc_model.proofs.Limits.Ranges.{head_small, duty_ranges}
-use Rattle.brc_model.specs.Layout.{row_count}
 
 -- A step on no word leaves the thread's duties as they are.
 quiet_ranges : (p : Module) (n : ℕ) (m : StepMachine) (t : ℕ) (a : StepActor) (moves : List Move)
@@ -30,10 +29,10 @@ quiet_ranges p n m t a moves ranges found =
     record {
       kinds = ranges.kinds;
       each =
-          written_actor (λ u c. AreSmall (row_count m.layout) c.agenda) (counting m).actors t a.actor a.actor there
+          written_actor (λ u c. AreSmall m.layout c.agenda) (counting m).actors t a.actor a.actor there
           (ranges.each t a.actor there) ranges.each;
       aside =
-          written_actor (λ u c. AreSmall (row_count m.layout) c.aside) (counting m).actors t a.actor a.actor there
+          written_actor (λ u c. AreSmall m.layout c.aside) (counting m).actors t a.actor a.actor there
           (ranges.aside t a.actor there) ranges.aside;
     }
 
@@ -85,4 +84,4 @@ pub first_ranges : (m : Module) (states : ℕ → ℕ → Option State) (rows : 
     → Ranges (1 + length calls) (counting (first_machine m states rows calls))
 first_ranges m states rows calls =
     subst (Ranges (1 + length calls)) (first_rooted m states rows calls)
-    (rooted_ranges (first_layout rows calls) (1 + length calls))
+    (rooted_ranges (first_layout rows calls) (1 + length calls) (omega arith))

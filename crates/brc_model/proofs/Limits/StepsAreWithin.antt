@@ -62,7 +62,7 @@ module _ {p : Accounts} {n : ℕ} {m : Machine} {t : ℕ} {a : Actor} {d : Duty}
       (own_thread here, omega (arith, low, few))
 
 module _ {p : Accounts} {n : ℕ} {m : Machine} {t : ℕ} {a : Actor} {rest : List Duty} where
-  duty_there : (d : Duty) → AtDuty p n m t a d rest → NotGone a → IsSmall (row_count m.layout) d
+  duty_there : (d : Duty) → AtDuty p n m t a d rest → NotGone a → IsSmall m.layout d
       → IsThere m.layout (address_of m.layout t a.head d)
   duty_there (Look x) here alive small =
       omega (arith, block_within m.layout x here.core.some_rows)
@@ -140,7 +140,7 @@ module _ {p : Accounts} {n : ℕ} {m : Machine} {t : ℕ} {a : Actor} {rest : Li
 
 module _ {p : Accounts} {n : ℕ} {m : Machine} {t : ℕ} {a : Actor} where
   -- A thread's next duty can rely on what `DutyWithin` says.
-  pub duty_within : (d : Duty) (rest : List Duty) → Doing p n m t a d rest → IsSmall (row_count m.layout) d → IsFew n m
+  pub duty_within : (d : Duty) (rest : List Duty) → Doing p n m t a d rest → IsSmall m.layout d → IsFew n m
       → DutyWithin m t a d
   duty_within d rest doing small few =
       let core = doing.kept.core in

@@ -18,6 +18,7 @@ use Rattle.brc_model.specs.declared.duty.Reason.TheVariants.{Handed}
 use Rattle.brc_model.specs.declared.address.Address.TheVariants.{Local, Shared}
 use Rattle.brc_model.specs.RowInvariant.{waits, merges, InOwned, InSwapped, InMerged}
 use Rattle.brc_model.specs.Invariant.{AtDuty, CoreInvariant}
+use Rattle.brc_model.specs.declared.layout.Layout.{Layout}
 use Rattle.brc_model.specs.Layout.{row_count}
 use Rattle.brc_model.specs.declared.actor.Actor.{Actor}
 use Rattle.brc_model.specs.Machine.{Machine}
@@ -43,9 +44,9 @@ module _ {p : Accounts} {n : ℕ} {m : Machine} {t : ℕ} {a : Actor} where
 module _ {p : Accounts} {n : ℕ} {m : Machine} where
   -- The duties of the thread's agenda are small.
   next_small : (t : ℕ) (a : Actor) (d : Duty) (rest : List Duty) → Counts p n m → ComesNext m t a d rest
-      → AreSmall (row_count m.layout) (d ∷ rest)
+      → AreSmall m.layout (d ∷ rest)
   next_small t a d rest counts next =
-      subst (AreSmall (row_count m.layout)) next.agenda (counts.ranges.each t a next.found)
+      subst (AreSmall m.layout) next.agenda (counts.ranges.each t a next.found)
 
 -- Doing a thread's next duty isn't bad, and keeps the invariant.
 pub duties_kept : DutiesAreKept
@@ -72,15 +73,16 @@ pub counts_agree : CountsAgree
 counts_agree p n m x counts counted born = agrees_at x counts.kept.core counted
 
 -- A row that one of these duties is about is there.
-counted_small : (k : ℕ) (ds : List Duty) (x : ℕ) → AreSmall k ds → 0 < count_by (is_about x) ds → x < k
-counted_small k [] x small more = absurd (omega (arith, more))
-counted_small k (d ∷ ds) x small more =
+counted_small : (layout : Layout) (ds : List Duty) (x : ℕ) → AreSmall layout ds → 0 < count_by (is_about x) ds
+    → x < row_count layout
+counted_small layout [] x small more = absurd (omega (arith, more))
+counted_small layout (d ∷ ds) x small more =
     let all = sum_by-cons (λ (e : Duty). cond (is_about x e) 1 0) d ds in
     elim (cases_Bool (is_about x d)) [
       | inl this ↦ small.0.row x this
       | inr other ↦
           let none : one_if (is_about x d) ≡ 0 = ap one_if other in
-          counted_small k ds x small.1 (omega (arith, all, none, more))
+          counted_small layout ds x small.1 (omega (arith, all, none, more))
     ]
 
 -- The duty of an agenda that makes a reference is about its object.
@@ -98,9 +100,9 @@ accounts_there p n m t a h x counts found holds =
     elim (cases_lt 0 (references_to x m.abstract.references)) [
       | inl listed ↦ referenced_small x core listed
       | inr none ↦ elim (cases_lt 0 (count_by (is_about x) a.agenda)) [
-        | inl next ↦ counted_small (row_count m.layout) a.agenda x (counts.ranges.each t a found) next
+        | inl next ↦ counted_small m.layout a.agenda x (counts.ranges.each t a found) next
         | inr quiet ↦
-            counted_small (row_count m.layout) a.aside x (counts.ranges.aside t a found)
+            counted_small m.layout a.aside x (counts.ranges.aside t a found)
             (omega (arith, each, in_bag, none, quiet, holds, making_about a.agenda h x, lacks_counted a.aside h x))
       ]
     ]

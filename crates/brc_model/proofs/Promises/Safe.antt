@@ -89,6 +89,7 @@ first_code_invariant m states rows calls fits accepted states_true are_calls som
   functions = refl;
   states_true = states_true;
   mortal = refl;
+  wide = omega arith;
   kinds = first_holds m states rows calls;
   items = first_items m states rows calls;
   rooms = first_rooms m states rows calls;
