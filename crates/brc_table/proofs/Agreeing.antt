@@ -15,11 +15,10 @@ use Rattle.brc_model.specs.declared.address.Address.TheVariants.{Local, Shared, 
 use Rattle.brc_model.specs.declared.layout.Layout.{Layout}
 use Rattle.brc_model.specs.Layout.{row_count, block_of, IsCounted}
 use Rattle.brc_model.specs.AbstractState.{references_to}
-use Rattle.brc_model.specs.Limits.{cell_limit}
 use Rattle.brc_model.specs.References.{word_holds}
 use Rattle.brc_model.specs.Machine.{mark_of}
 use Rattle.brc_table.proofs.RowMarks.{mark_reads}
-use Rattle.brc_table.specs.Places.{place}
+use Rattle.brc_table.specs.Places.{cell_place}
 use Rattle.brc_model.specs.Agreement.{awaits, carries, weighed, HasDuty, SomeThreadHas, OwnerHas, decides_or_merges, has_swapped, IsPhase, biased_total, awaiting}
 use Rattle.brc_model.specs.Agreement as model
 use Rattle.brc_model.specs.declared.actor.Actor.{Actor}
@@ -196,10 +195,11 @@ module _ (layout : Layout) (words : List ℕ) (views : List View) (s : Stands la
   held_by_cells : CellsHold → (x : ℕ) → laws.in_cells x m.abstract.references ≡ in_cells m.layout words x
   held_by_cells hold x =
       hold s.accounts threads m x s.counts
-      ∙ over_each (λ y. over_threads (λ i. word_holds (m.memory (Cell y i)) x) cell_limit)
-      (λ y. over_threads (λ i. word_holds (slice_index words (place (Cell y i))) x) cell_limit) (row_count m.layout)
+      ∙ over_each (λ y. over_threads (λ i. word_holds (m.memory (Cell y i)) x) m.layout.cells)
+      (λ y. over_threads (λ i. word_holds (slice_index words (cell_place m.layout y i)) x) m.layout.cells)
+      (row_count m.layout)
       (λ y row. over_each (λ i. word_holds (m.memory (Cell y i)) x)
-      (λ i. word_holds (slice_index words (place (Cell y i))) x) cell_limit
+      (λ i. word_holds (slice_index words (cell_place m.layout y i)) x) m.layout.cells
       (λ i cell. ap (λ (w : ℕ). word_holds w x) (s.reads (Cell y i) (row, cell))))
 
   -- The references are those that cells hold and those that the hands list, without those in the making, and with those

@@ -92,7 +92,7 @@ pub record IsNextAt (v : View) (d : Duty) (rest : List Duty) (index : ℕ) : Typ
   pub agenda : v.actor.agenda ≡ d ∷ rest
   pub alive : v.actor.status ≢ Gone
   pub word : IsTableWord (address_of v.layout v.thread v.actor.head d)
-  pub index_is : index ≡ place (address_of v.layout v.thread v.actor.head d)
+  pub index_is : index ≡ place v.layout (address_of v.layout v.thread v.actor.head d)
 
 module _ (laws : ModelLaws) (layout : Layout) (v u : View)
     (d : Duty) (rest : List Duty) (index : ℕ) (becomes : Becomes layout v u) (next : IsNextAt u d rest index) where
@@ -257,7 +257,7 @@ pub record IsAt (v : View) (d : Duty) (rest : List Duty) (index : ℕ) : Type 0 
   pub agenda : v.actor.agenda ≡ d ∷ rest
   pub alive : v.actor.status ≢ Gone
   pub object : IsObjectWord (address_of v.layout v.thread v.actor.head d)
-  pub index_is : index ≡ place (address_of v.layout v.thread v.actor.head d)
+  pub index_is : index ≡ place v.layout (address_of v.layout v.thread v.actor.head d)
 
 -- A first duty about an object's word is about a word of the table.
 pub object_next : (v : View) (d : Duty) (rest : List Duty) (index : ℕ) → IsAt v d rest index → IsNextAt v d rest index
@@ -284,7 +284,10 @@ module _ (laws : ModelLaws) (layout : Layout) (v u : View)
     λ words views i does small.
         let m = does.stands.machine in
         let raw = slice_index words (place_of u d) in
-        object_step m.layout words u (view_by u (d ∷ rest) (read_of u d raw)) (event_of u d (read_of u d raw)) (f raw)
+        let at = address_of u.layout u.thread u.actor.head d in
+        subst (λ (l : Layout). KeepsThreads m.layout words (set words (place l at) (f raw)) u
+        (view_by u (d ∷ rest) (read_of u d raw))) (sym (does.stands.told i u does.here))
+        (object_step m.layout words u (view_by u (d ∷ rest) (read_of u d raw)) (event_of u d (read_of u d raw)) (f raw)
         does.stands.plain
         (omega (
           arith,
@@ -292,7 +295,7 @@ module _ (laws : ModelLaws) (layout : Layout) (v u : View)
           does.stands.counts.kept.core.threads,
         ))
         (record { thread = refl; given = refl; trace = refl }) is_at.object
-        (has laws.kept laws.within laws.guarded layout words views i u d rest does),
+        (has laws.kept laws.within laws.guarded layout words views i u d rest does)),
   )
 
 -- ---- what a call knows

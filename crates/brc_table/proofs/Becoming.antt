@@ -13,7 +13,6 @@ use Rattle.brc_model.specs.declared.duty.Duty.{Duty}
 use Rattle.brc_model.specs.declared.duty.Duty.TheVariants.{RetainLoad, ReleaseLoad, BirthKind}
 use Rattle.brc_model.specs.declared.layout.Layout.{Layout}
 use Rattle.brc_model.specs.Layout.{row_at, IsCounted}
-use Rattle.brc_model.specs.Limits.{cell_limit}
 use Rattle.brc_model.specs.Kinds.{kind_of_word, is_counted_kind}
 use Rattle.brc_model.specs.Duties.{cells_of}
 use Rattle.brc_model.specs.Machine.{has_room, with_actor}
@@ -246,7 +245,7 @@ releasing_becomes put law free layout v x running none holding keeps =
 -- A worker's hand with a row left begins the birth of an object.
 pub bearing_becomes : WorkIsPutAside → BirthsBegin → (layout : Layout) (v : View) (word : ℕ) → IsRunning v
     → 0 < v.thread → has_room v.layout v.thread v.actor.used ≡ true → is_counted_kind (kind_of_word word) ≡ true
-    → cells_of word ≤ cell_limit → Becomes layout v (bearing v word)
+    → cells_of word ≤ v.layout.cells → Becomes layout v (bearing v word)
 bearing_becomes put law layout v word running worker room kind few =
     then_begins put layout v (bearing v word) running.1 refl (λ y locks. refl)
     (λ words views id stands here.
@@ -263,7 +262,8 @@ bearing_becomes put law layout v word running worker room kind few =
     (sym told)
     (law s.accounts (1 + m.layout.workers) m t (rested v).actor word s.counts
     (is_ready layout words views id v s here running.0) worker
-    (subst (λ (l : Layout). has_room l t v.actor.used ≡ true) told room) kind few))
+    (subst (λ (l : Layout). has_room l t v.actor.used ≡ true) told room) kind
+    (subst (λ (l : Layout). cells_of word ≤ l.cells) told few)))
     (λ y counted. omega (
       arith,
       s.holding id (rested v) y here (subst (λ (l : Layout). IsCounted l y) told counted),

@@ -12,7 +12,7 @@ use Rattle.brc_model.specs.declared.address.Address.{Address}
 use Rattle.brc_model.specs.declared.address.Address.TheVariants.{Gate, KindOf, Cell, Slot}
 use Rattle.brc_model.specs.declared.layout.Layout.{Layout}
 use Rattle.brc_word.specs.Words.{half}
-use Rattle.brc_model.specs.Limits.{cell_limit}
+use Rattle.brc_model.specs.Limits.{root_cells}
 use Rattle.brc_model.specs.Actions.{list_word}
 use Rattle.brc_model.specs.Layout.{none_row, root_row, IsCounted}
 use Rattle.brc_model.specs.declared.actor.Actor.{Actor}
@@ -50,7 +50,7 @@ pub record Changes (layout : Layout) (words : List ℕ) (views : List View) (v u
   pub counts : Counts accounts (1 + machine.layout.workers) machine
   pub layout_same : machine.layout ≡ old.machine.layout
   pub length_is : length after ≡ length words
-  pub reads : (a : Address) → HasWord machine.layout a → machine.memory a ≡ reading a (slice_index after (place a))
+  pub reads : (a : Address) → HasWord machine.layout a → machine.memory a ≡ reading a (slice_index after (place machine.layout a))
   pub actors : machine.actors ≡ set old.machine.actors v.thread u.actor
   pub thread_same : u.thread ≡ v.thread
   pub told_same : u.layout ≡ v.layout
@@ -240,7 +240,7 @@ module _ (layout : Layout) (words : List ℕ) (views : List View) (id : ℕ) (v 
     told = told_after;
     lends_none = lends_after;
     named = new.kinds_stay none_row half (omega arith) old.named;
-    rooted = new.kinds_stay root_row (list_word cell_limit) (omega arith) old.rooted;
+    rooted = new.kinds_stay root_row (list_word root_cells) (omega arith) old.rooted;
     kinds_seen = kinds_after;
     cells_seen = cells_after;
     holding = holding_after;

@@ -15,7 +15,6 @@ use Rattle.brc_model.specs.declared.address.Address.TheVariants.{Gate, KindOf, C
 use Rattle.brc_model.specs.declared.layout.Layout.{Layout}
 use Rattle.brc_model.specs.Knowledge.{status_word}
 use Rattle.brc_model.specs.Layout.{row_count, IsCounted}
-use Rattle.brc_model.specs.Limits.{cell_limit}
 use Rattle.brc_model.specs.declared.actor.Actor.{Actor}
 use Rattle.brc_model.specs.Machine.{Machine, idle_actor}
 use Rattle.brc_model.specs.Accounts.{Accounts}
@@ -80,8 +79,11 @@ rows_ended law layout words views x s ended counted there =
     let kind : m.memory (KindOf x) ≡ kind_at words x = s.reads (KindOf x) there' in
     let gate : (y : ℕ) → y < row_count m.layout → m.memory (Gate y)
     ≡ gate_at words y = λ y low_y. s.reads (Gate y) low_y in
-    let cell : (y i : ℕ) → y < row_count m.layout → i < cell_limit → m.memory (Cell y i) ≡ cell_at words y i =
-    λ y i low_y low_i. s.reads (Cell y i) (low_y, low_i) in
+    let cell : (y i : ℕ) → y < row_count m.layout → i < m.layout.cells
+    → m.memory (Cell y i) ≡ cell_at layout words y i =
+    λ y i low_y low_i. s.reads (Cell y i) (low_y, low_i) ∙ ap (λ (k : Layout). cell_at k words y i) l in
+    let low_cell : (i : ℕ) → i < layout.cells → i < m.layout.cells =
+    λ i low. subst (λ (k : Layout). i < k.cells) (sym l) low in
     let shut : gate_at words x ≡ closed_word → m.memory (Gate x) ≡ closed_word = λ is. gate x there' ∙ is in
     record {
       left = λ born not_closed.
@@ -90,15 +92,15 @@ rows_ended law layout words views x s ended counted there =
             list = named.list;
             cell = named.cell;
             there = subst (λ (k : Layout). named.list < row_count k) l named.there;
-            low = named.low;
+            low = subst (λ (k : Layout). named.cell < k.cells) l named.low;
             names = sym (cell named.list named.cell named.there named.low) ∙ named.names;
             not_closed = λ is. named.not_closed (gate named.list named.there ∙ is);
           };
       closed_born = λ is. omega (arith, ends.closed_born (shut is), kind);
       closed_unnamed = λ is y i low_y low_i names.
           let low_y' : y < row_count m.layout = subst (λ (k : Layout). y < row_count k) (sym l) low_y in
-          ends.closed_unnamed (shut is) y i (cell y i low_y' low_i ∙ names);
-      closed_empty = λ is i low_i. sym (cell x i there' low_i) ∙ ends.closed_empty (shut is) i;
+          ends.closed_unnamed (shut is) y i (cell y i low_y' (low_cell i low_i) ∙ names);
+      closed_empty = λ is i low_i. sym (cell x i there' (low_cell i low_i)) ∙ ends.closed_empty (shut is) i;
     }
 
 -- What main's hand has seen of a thread's end is so.
@@ -123,12 +125,13 @@ named_there rows (suc y) low = omega (arith, low y refl)
 -- The cells of a table name rows.
 pub cells_name_rows : ItemsAreThere → (layout : Layout) (words : List ℕ) (views : List View)
     → Stands layout words views → CellsNameRows layout words
-cells_name_rows law layout words views s y i there low_cell =
+cells_name_rows law layout words views s y i there low =
     let m = s.machine in
     let there' : y < row_count m.layout = subst (λ (l : Layout). y < row_count l) (sym s.layout_is) there in
-    let cell : m.memory (Cell y i) ≡ cell_at words y i = s.reads (Cell y i) (there', low_cell) in
-    subst (λ (l : Layout). cell_at words y i ≤ row_count l) s.layout_is
-    (named_there (row_count m.layout) (cell_at words y i)
+    let low' : i < m.layout.cells = subst (λ (l : Layout). i < l.cells) (sym s.layout_is) low in
+    let cell : m.memory (Cell y i) ≡ cell_at m.layout words y i = s.reads (Cell y i) (there', low') in
+    subst (λ (l : Layout). cell_at l words y i ≤ row_count l) s.layout_is
+    (named_there (row_count m.layout) (cell_at m.layout words y i)
     (λ z is. law s.accounts (1 + m.layout.workers) m y i z s.counts (cell ∙ is)))
 
 -- ---- slots

@@ -1,5 +1,5 @@
 -- The first words say what the words of the first machine of hands are.
-use Rattle.std.proofs.Common.{◌≡◌, ◌≢◌, ℕ, zero, suc, ◌+◌, ◌*◌, ◌/◌, ◌%◌, ◌-◌, ◌<◌, ◌≤◌, ◌⊎◌, Bool, true, false, List, ◌++◌, length, inl, inr, refl, sym, ap, ◌∙◌, arith}
+use Rattle.std.proofs.Common.{◌≡◌, ◌≢◌, ℕ, zero, suc, ◌+◌, ◌*◌, ◌/◌, ◌%◌, ◌-◌, ◌<◌, ◌≤◌, ◌⊎◌, Bool, true, false, List, ◌++◌, length, replicate, inl, inr, refl, sym, ap, ◌∙◌, arith}
 use Rattle.std.specs.Prelude.{◌==◌, nat_lt, if◌then◌else◌, slice_index}
 use Rattle.std.specs.List.{slice_range}
 use Rattle.std.proofs.Math.ListN.{get_or}
@@ -7,7 +7,7 @@ use Rattle.std.proofs.Math.Nat.{div-add-mod, mod-lt}
 use Rattle.std.proofs.Math.ListN.{drop}
 use Rattle.std.proofs.Math.Seq.{get_or-append_right}
 use Rattle.std.proofs.lemmas.Bool.{cases_lt, ne_eqb, le-leb, le-ltb, lt-ltb}
-use Rattle.std.proofs.lemmas.List.{get_or-drop, get_or-take, get_or_append_left, length-append, length-drop, length-take-le}
+use Rattle.std.proofs.lemmas.List.{get_or-drop, get_or-replicate, get_or-take, get_or_append_left, length-append, length-drop, length-replicate, length-take-le}
 use Rattle.brc_word.specs.Words.{free_word, fresh_word}
 use Rattle.brc_model.specs.declared.address.Address.{Address}
 use Rattle.brc_model.specs.declared.address.Address.TheVariants.{Local, Shared, Gate, KindOf, Marks, Cell, Slot, Resource, ThreadWord}
@@ -16,15 +16,15 @@ use Rattle.brc_model.specs.Layout.{row_count, none_row, root_row}
 use Rattle.brc_model.specs.Counting.{IsPlainLayout}
 use Rattle.brc_model.specs.Machine.{same_address}
 use Rattle.brc_model.specs.StepMachine.{rooted_memory}
-use Rattle.brc_table.specs.Places.{line, front, header_lines, tile, in_tile, place, HasWord}
+use Rattle.brc_table.specs.Places.{line, front, tile_lines, tile, in_tile, cells_front, cell_place, place, HasWord}
 use Rattle.brc_table.specs.Rule.{reading}
 use Rattle.brc_table.specs.Opening.{blank_line, blank_word, first_word, AreFirst}
-use Rattle.brc_table.proofs.Places.{in_front, place_apart, place_within}
+use Rattle.brc_table.proofs.Places.{is_cell, in_front, place_apart, place_front, place_within}
 
 -- ---- lines
 
 -- A place behind the thread words is in the line that its tile's number, line and column say.
-line_of : (q l c : ℕ) → l < header_lines + line → c < line
+line_of : (q l c : ℕ) → l < tile_lines → c < line
     → ((front + tile * q + line * l + c) - front) % tile / line ≡ l
 line_of q l c low small =
     let n = (front + tile * q + line * l + c) - front in
@@ -34,20 +34,13 @@ line_of q l c low small =
     omega (arith, one, below, other, under, low, small)
 
 -- So the first value of a blank word is that of its line.
-blank_behind : (q l c : ℕ) → l < header_lines + line → c < line
+blank_behind : (q l c : ℕ) → l < tile_lines → c < line
     → blank_word (front + tile * q + line * l + c) ≡ blank_line l
 blank_behind q l c low small =
     let index = front + tile * q + line * l + c in
     let behind : nat_lt index front ≡ false = le-ltb index front (omega arith) in
     ap (λ (b : Bool). if b then (if index == 0 then 1 else 0) else blank_line ((index - front) % tile / line)) behind
     ∙ ap blank_line (line_of q l c low small)
-
--- Lines from the third on are zero.
-line_zero : (l : ℕ) → 2 < l → blank_line l ≡ 0
-line_zero l high =
-    ap (λ (b : Bool). if b then fresh_word else if l == 2 then free_word else 0)
-    (ne_eqb l 1 (λ e. omega (arith, e, high)))
-    ∙ ap (λ (b : Bool). if b then free_word else 0) (ne_eqb l 2 (λ e. omega (arith, e, high)))
 
 -- ---- none and the root
 
@@ -109,6 +102,26 @@ module _ (ws : List ℕ) (q : ℕ) (two : 2 ≤ q) (long : length ws ≡ front +
         ∙ copied_word j (omega (arith, here, behind, long))
         ∙ ap first_word is
 
+-- ---- cells
+
+-- First words in front of the cells, and then empty cells, are the first words of a table.
+pub tiles_and_cells : (layout : Layout) (words cells : List ℕ) → length words ≡ cells_front layout
+    → ((k : ℕ) → k < length words → slice_index words k ≡ first_word k)
+    → cells ≡ replicate (layout.cells * row_count layout) 0 → AreFirst layout (words ++ cells)
+tiles_and_cells layout words cells long first empty =
+    let n = layout.cells * row_count layout in
+    let many : length cells ≡ n = ap (λ (ws : List ℕ). length ws) empty ∙ length-replicate n 0 in
+    record {
+      length_is = omega (arith, length-append words cells, long, many);
+      each = λ k low.
+          let here : k < length words = omega (arith, low, long) in
+          get_or_append_left words cells 0 k here ∙ first k here;
+      cells = λ k behind low.
+          get_or-append_right words cells k 0 (omega (arith, behind, long))
+          ∙ (ap (λ (ws : List ℕ). get_or ws (k - length words) 0) empty
+          ∙ get_or-replicate n (k - length words) 0 0 (omega (arith, behind, low, long)));
+    }
+
 -- ---- addresses
 
 -- The same of an address.
@@ -121,9 +134,10 @@ module _ (layout : Layout) (plain : IsPlainLayout layout) where
 
   first_apart : (a : Address) → HasWord layout a → same_address a (Local none_row) ≡ false
       → same_address a (Local root_row) ≡ false → same_address a (KindOf none_row) ≡ false
-      → same_address a (KindOf root_row) ≡ false → first_word (place a) ≡ blank_word (place a)
+      → same_address a (KindOf root_row) ≡ false → first_word (place layout a)
+      ≡ blank_word (place layout a)
   first_apart a has b c d e =
-      first_else (place a) (place_apart layout a (Local none_row) plain has none_there b)
+      first_else (place layout a) (place_apart layout a (Local none_row) plain has none_there b)
       (place_apart layout a (Local root_row) plain has root_there c)
       (place_apart layout a (KindOf none_row) plain has none_there d)
       (place_apart layout a (KindOf root_row) plain has root_there e)
@@ -140,53 +154,53 @@ module _ (layout : Layout) (plain : IsPlainLayout layout) where
 
   -- ---- addresses
 
-  -- The table's first words say what the first machine's are.
-  pub first_reads : (a : Address) → HasWord layout a
-      → rooted_memory layout.workers 1 a ≡ reading a (first_word (place a))
-  first_reads (Local zero) has = refl
-  first_reads (Local (suc zero)) has = refl
-  first_reads (Local (suc (suc x))) has =
+  -- The table's first words say what the first machine's are, but for the cells.
+  pub first_reads : (a : Address) → HasWord layout a → is_cell a ≡ false
+      → rooted_memory layout.workers 1 a ≡ reading a (first_word (place layout a))
+  first_reads (Local zero) has other = refl
+  first_reads (Local (suc zero)) has other = refl
+  first_reads (Local (suc (suc x))) has other =
       let row = suc (suc x) in
       sym (first_apart (Local row) has (ne_eqb row none_row (λ e. omega (arith, e)))
       (ne_eqb row root_row (λ e. omega (arith, e))) refl refl
       ∙ blank_behind (row / line) 0 (row % line) (omega arith) (rest_low row))
-  first_reads (Shared x) has =
+  first_reads (Shared x) has other =
       sym (first_apart (Shared x) has refl refl refl refl
       ∙ blank_behind (x / line) 1 (x % line) (omega arith) (rest_low x))
-  first_reads (Gate x) has =
+  first_reads (Gate x) has other =
       sym (first_apart (Gate x) has refl refl refl refl
       ∙ blank_behind (x / line) 2 (x % line) (omega arith) (rest_low x))
-  first_reads (KindOf zero) has = refl
-  first_reads (KindOf (suc zero)) has = refl
-  first_reads (KindOf (suc (suc x))) has =
+  first_reads (KindOf zero) has other = refl
+  first_reads (KindOf (suc zero)) has other = refl
+  first_reads (KindOf (suc (suc x))) has other =
       let row = suc (suc x) in
       sym (first_apart (KindOf row) has refl refl (ne_eqb row none_row (λ e. omega (arith, e)))
       (ne_eqb row root_row (λ e. omega (arith, e)))
       ∙ blank_behind (row / line) 3 (row % line) (omega arith) (rest_low row))
-  first_reads (Marks t w) has =
-      let at = place (Marks t w) in
+  first_reads (Marks t w) has other =
+      let at = place layout (Marks t w) in
       let before : nat_lt at front ≡ true = lt-ltb at front (in_front layout t w plain has) in
       let behind : (at == 0) ≡ false = ne_eqb at 0 (λ e. omega (arith, e)) in
       sym (first_apart (Marks t w) has refl refl refl refl
       ∙ (ap (λ (b : Bool). if b then (if at == 0 then 1 else 0) else blank_line ((at - front) % tile / line)) before
       ∙ ap (λ (b : Bool). if b then 1 else 0) behind))
-  first_reads (Cell x i) has =
-      sym (first_apart (Cell x i) has refl refl refl refl
-      ∙ blank_behind (x / line) (header_lines + x % line) i (omega (arith, rest_low x)) has.1
-      ∙ line_zero (header_lines + x % line) (omega arith))
-  first_reads (Slot x) has = absurd has
-  first_reads (Resource x) has = absurd has
-  first_reads (ThreadWord zero) has =
+  first_reads (Cell x i) has other = absurd cc
+  first_reads (Slot x) has other = absurd has
+  first_reads (Resource x) has other = absurd has
+  first_reads (ThreadWord zero) has other =
       ap (λ (b : Bool). if b then 1 else 0) (le-leb 0 layout.workers (omega arith))
-  first_reads (ThreadWord (suc t)) has =
+  first_reads (ThreadWord (suc t)) has other =
       let word : first_word (suc t) ≡ 0 =
       thread_first (suc t) has
       ∙ ap (λ (b : Bool). if b then 1 else 0) (ne_eqb (suc t) 0 (λ e. omega (arith, e))) in
       ap (λ (b : Bool). if b then 1 else 0) (le-leb (suc t) layout.workers (omega (arith, has)))
       ∙ sym (ap (reading (ThreadWord (suc t))) word)
 
-  -- So do words that are the first ones at each place.
+  -- So do words that are the first ones at each place; and all cells are empty.
   pub words_read : (words : List ℕ) → AreFirst layout words → (a : Address) → HasWord layout a
-      → rooted_memory layout.workers 1 a ≡ reading a (slice_index words (place a))
+      → rooted_memory layout.workers 1 a ≡ reading a (slice_index words (place layout a))
+  words_read words first (Cell x i) has =
+      sym (first.cells (cell_place layout x i) (omega arith) (place_within layout (Cell x i) plain has))
   words_read words first a has =
-      first_reads a has ∙ sym (ap (reading a) (first.each (place a) (place_within layout a plain has)))
+      first_reads a has refl
+      ∙ sym (ap (reading a) (first.each (place layout a) (place_front layout a plain has refl)))

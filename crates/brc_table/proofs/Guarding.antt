@@ -119,8 +119,9 @@ module _ (layout : Layout) (words : List ℕ) (views : List View) (v : View) (d 
   changed : ((word : ℕ) → reading a word ≡ word)
       → (machine_by_duty now v.thread v.actor d it.rest).memory a ≢ now.memory a
   changed plain same =
-      let found : now.memory a ≡ slice_index words (place a) =
-      it.stands.reads a has ∙ plain (slice_index words (place a)) in
+      let found : now.memory a ≡ slice_index words (place layout a) =
+      it.stands.reads a has ∙ plain (slice_index words (place now.layout a))
+      ∙ ap (λ (l : Layout). slice_index words (place l a)) it.stands.layout_is in
       let at : address_of now.layout v.thread v.actor.head d ≡ a =
       subst (λ (l : Layout). address_of l v.thread v.actor.head d ≡ a) (sym it.stands.layout_is) it.at in
       let after : (machine_by_duty now v.thread v.actor d it.rest).memory a
@@ -128,7 +129,8 @@ module _ (layout : Layout) (words : List ℕ) (views : List View) (v : View) (d 
       ap (λ (b : Address). written now.memory b (new_word now.layout v.thread v.actor.head d (now.memory b)) a) at
       ∙ written_here now.memory a (new_word now.layout v.thread v.actor.head d (now.memory a)) in
       it.other
-      (ap (λ (l : Layout). new_word l v.thread v.actor.head d (slice_index words (place a))) (sym it.stands.layout_is)
+      (ap (λ (l : Layout). new_word l v.thread v.actor.head d (slice_index words (place layout a)))
+      (sym it.stands.layout_is)
       ∙ (ap (new_word now.layout v.thread v.actor.head d) (sym found) ∙ (sym after ∙ (same ∙ found))))
 
 -- ---- the laws

@@ -4,7 +4,6 @@ use Rattle.std.proofs.lemmas.Bool.{cases_lt}
 use Rattle.brc_model.specs.declared.duty.Duty.TheVariants.{LockGate, UnlockGate, CellLoad}
 use Rattle.brc_model.specs.declared.layout.Layout.{Layout}
 use Rattle.brc_model.specs.Layout.{IsCounted}
-use Rattle.brc_model.specs.Limits.{cell_limit}
 use Rattle.brc_model.specs.Duties.{cells_of}
 use Rattle.brc_model.specs.CountingLaws.{WorkIsPutAside, LocksBegin, UnlocksBegin, CellLoadsBegin, ImmortalsAreFree}
 use Rattle.brc_table.specs.declared.view.View.{View}
@@ -88,5 +87,5 @@ loading_becomes put law free layout v x i running none (inr first) knows =
     (subst (λ (w : ℕ). i < cells_of w) (sym kind) knows.low)))
 
 -- A list's cell is one of those that a list may have.
-pub known_low : (v : View) (x i : ℕ) → RowsAreThere v → KnowsCell v x i → i < cell_limit
+pub known_low : (v : View) (x i : ℕ) → RowsAreThere v → KnowsCell v x i → i < v.layout.cells
 known_low v x i rows knows = omega (arith, knows.low, rows.kinds x knows.word knows.seen)

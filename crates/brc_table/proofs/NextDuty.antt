@@ -74,7 +74,8 @@ own_word_there : (v : View) (w : ℕ) → RowsAreThere v → marks_of_word * w <
 own_word_there v w rows low = (omega (arith, rows.thread), omega (arith, low, rows.used))
 
 -- Their word is there, if their row is.
-pub word_there : (v : View) (d : Duty) → IsPlainLayout v.layout → RowsAreThere v → HasAccess d → HasCell d
+pub word_there : (v : View) (d : Duty) → IsPlainLayout v.layout → RowsAreThere v → HasAccess d
+    → HasCell v.layout d
     → HasChain d v.actor.head → HasUsedRow d v.actor.used
     → (is_about (row_of d) d ≡ true → row_of d < row_count v.layout)
     → HasWord v.layout (address_of v.layout v.thread v.actor.head d)

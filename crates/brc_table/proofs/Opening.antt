@@ -75,12 +75,12 @@ module _ (begin : HandsBegin) (layout : Layout) (plain : IsPlainLayout layout) (
   -- Main runs, and no worker is started.
   main_runs : thread_word words 0 ≡ 1
   main_runs =
-      first.each 0 (thread_within layout 0 plain (omega arith)) ∙ thread_first layout plain 0 (omega arith)
+      first.each 0 (omega arith) ∙ thread_first layout plain 0 (omega arith)
 
   worker_waits : (t : ℕ) → 0 < t → t ≤ layout.workers → thread_word words t ≡ 0
   worker_waits zero pos low = absurd (omega (arith, pos))
   worker_waits (suc t) pos low =
-      first.each (suc t) (thread_within layout (suc t) plain low)
+      first.each (suc t) (omega (arith, plain.few_workers, low))
       ∙ (thread_first layout plain (suc t) (omega (arith, low))
       ∙ ap (λ (b : Bool). if b then 1 else 0) (ne_eqb (suc t) 0 (λ e. omega (arith, e))))
 

@@ -88,7 +88,7 @@ module _ (accounts : AccountsAreThere) (chains : ChainsAreThere) (layout : Layou
     there : t < length words
     there = omega (arith, thread_within m.layout t s.plain low, s.length_is)
 
-    keeps_threads : KeepsThreads m.layout words (set words (place (ThreadWord t)) found) v after
+    keeps_threads : KeepsThreads m.layout words (set words t found) v after
     keeps_threads =
         thread_step m.layout words v after event t found there (record { thread = refl; given = refl; trace = refl })
         (record {
@@ -100,7 +100,7 @@ module _ (accounts : AccountsAreThere) (chains : ChainsAreThere) (layout : Layou
           stays_gone = λ is. is;
         })
 
-    changes : Changes layout words views v after s (set words (place (ThreadWord t)) found)
+    changes : Changes layout words views v after s (set words t found)
     changes = record {
       accounts = s.accounts;
       machine = m;
@@ -128,14 +128,14 @@ module _ (accounts : AccountsAreThere) (chains : ChainsAreThere) (layout : Layou
       cells_here = λ x i word guards seen.
           s.cells_seen id x i word v here guards (sym (fold-append (cell_known x i) None v.trace (event ∷ [])) ∙ seen);
       threads = λ k there_k.
-          threads_kept layout words (set words (place (ThreadWord t)) found) views k v after s there_k keeps_threads;
+          threads_kept layout words (set words t found) views k v after s there_k keeps_threads;
     }
 
-    pub passes_peeked : Passes layout (set words (place (ThreadWord t)) found) (set views id after) v.taken
+    pub passes_peeked : Passes layout (set words t found) (set views id after) v.taken
         v.actor.locked m
     unfolding changes
     passes_peeked =
-        passes layout words views id v after s here (set words (place (ThreadWord t)) found) changes v.taken
+        passes layout words views id v after s here (set words t found) changes v.taken
         v.actor.locked
         (λ x which. refl)
 

@@ -142,7 +142,7 @@ module _ (laws : ModelLaws) (words : TableState) (hand : HandState) (begins : Vi
   -- So is that of a duty that comes next.
   pub next_permitted : rows_of me.1 ≡ me.0.taken → (d : Duty)
       → HasAccess d → IsNext d u.actor.agenda → u.actor.status ≢ Gone → index
-      ≡ place (address_of u.layout u.thread u.actor.head d)
+      ≡ place u.layout (address_of u.layout u.thread u.actor.head d)
       → (f : ℕ → ℕ)
       → ((running : Bool) (n found : ℕ) → found < 2 ^ 64 → Suits u.thread running n d found
       → f found ≡ new_word u.layout u.thread u.actor.head d found)
@@ -156,7 +156,7 @@ module _ (laws : ModelLaws) (words : TableState) (hand : HandState) (begins : Vi
         agenda = c.is;
         alive = alive;
         word = subst IsTableWord (sym address) (table_word_of u.layout u.thread u.actor.head d has);
-        index_is = at ∙ sym (ap place address);
+        index_is = at ∙ sym (ap (place u.layout) address);
       } in
       permitted c.first c.rest next f (next_leaves d has c.first c.rest next c.like f leaves) rows
       (use_of d 0) (λ found. c.like.slots found ∙ use_same d has found) due

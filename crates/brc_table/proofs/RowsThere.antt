@@ -9,7 +9,6 @@ use lib.ListN.{get_elem?}
 use Rattle.brc_model.specs.declared.duty.Duty.{Duty}
 use Rattle.brc_model.specs.declared.duty.Holding.TheVariants.{AsCaller}
 use Rattle.brc_model.specs.declared.layout.Layout.{Layout}
-use Rattle.brc_model.specs.Limits.{cell_limit}
 use Rattle.brc_model.specs.Layout.{row_count, block_size, none_row, first_immortal_list, is_immortal_row}
 use Rattle.brc_model.specs.Duties.{cells_of}
 use Rattle.brc_model.specs.OpenWork.{is_about}
@@ -35,16 +34,17 @@ immortal_there layout x plain immortal =
           ltb-true x (first_immortal_list layout + layout.immortal_lists) low
     ]
 
-small_there : (k : ℕ) (ds : List Duty) (x : ℕ) → AreSmall k ds → list_any (is_about x) ds ≡ true → x < k
-small_there k [] x small is = absurd cc
-small_there k (d ∷ ds) x small is = elim (cases_Bool (is_about x d)) [
+small_there : (layout : Layout) (ds : List Duty) (x : ℕ) → AreSmall layout ds → list_any (is_about x) ds ≡ true
+    → x < row_count layout
+small_there layout [] x small is = absurd cc
+small_there layout (d ∷ ds) x small is = elim (cases_Bool (is_about x d)) [
   | inl this ↦ small.0.row x this
-  | inr other ↦ small_there k ds x small.1 (sym (ap (λ (b : Bool). b || list_any (is_about x) ds) other) ∙ is)
+  | inr other ↦ small_there layout ds x small.1 (sym (ap (λ (b : Bool). b || list_any (is_about x) ds) other) ∙ is)
 ]
 
-few_named : (k : ℕ) (ds : List Duty) → AreSmall k ds → NamesFewCells ds
-few_named k [] small = tt
-few_named k (d ∷ ds) small = small.0.cells
+few_named : (layout : Layout) (ds : List Duty) → AreSmall layout ds → NamesFewCells layout ds
+few_named layout [] small = tt
+few_named layout (d ∷ ds) small = small.0.cells
 
 pub rows_there : AccountsAreThere → ChainsAreThere → (layout : Layout) (words : List ℕ) (views : List View) (id : ℕ)
     (v : View) → Stands layout words views → get_elem? views id ≡ some v → RowsAreThere v
@@ -72,13 +72,14 @@ rows_there law chains layout words views id v stands here =
             (omega (arith, held, stands.holding id v x here counted))
       ]);
       agenda = λ x is.
-          rows x (small_there (row_count m.layout) v.actor.agenda x
+          rows x (small_there m.layout v.actor.agenda x
           (stands.counts.ranges.each v.thread v.actor found) is);
       aside = λ x is.
-          rows x (small_there (row_count m.layout) v.actor.aside x
+          rows x (small_there m.layout v.actor.aside x
           (stands.counts.ranges.aside v.thread v.actor found) is);
       head = subst (λ (l : Layout). v.actor.head ≤ row_count l) (sym told) chain.head;
-      cells = few_named (row_count m.layout) v.actor.agenda (stands.counts.ranges.each v.thread v.actor found);
+      cells = subst (λ (l : Layout). NamesFewCells l v.actor.agenda) (sym told)
+          (few_named m.layout v.actor.agenda (stands.counts.ranges.each v.thread v.actor found));
       locked = λ x e.
           let lock = (stands.counts.kept.core.each v.thread v.actor found).0.locks x e in
           rows x (law stands.accounts (1 + m.layout.workers) m v.thread v.actor lock.by x stands.counts found
@@ -86,10 +87,11 @@ rows_there law chains layout words views id v stands here =
       unfinalised = chain.locked;
       kinds = λ x word seen. elim (cases_lt 0 word) [
         | inl more ↦
-            subst (λ (w : ℕ). cells_of w ≤ cell_limit) (stands.kinds_seen id x word v here more seen)
-            (stands.counts.ranges.kinds x)
+            subst (λ (l : Layout). cells_of word ≤ l.cells) (sym told)
+            (subst (λ (w : ℕ). cells_of w ≤ m.layout.cells) (stands.kinds_seen id x word v here more seen)
+            (stands.counts.ranges.kinds x))
         | inr none ↦
             let zero_word : word ≡ 0 = omega (arith, none) in
-            subst (λ (w : ℕ). cells_of w ≤ cell_limit) (sym zero_word) (omega arith)
+            subst (λ (w : ℕ). cells_of w ≤ v.layout.cells) (sym zero_word) (omega arith)
       ];
     }

@@ -103,7 +103,7 @@ module _ (accounts : AccountsAreThere) (chains : ChainsAreThere) (layout : Layou
     main_apart : v.thread ≢ t
     main_apart e = omega (arith, e, may.is_main, may.some_worker)
 
-    keeps_threads : KeepsThreads m.layout words (set words (place (ThreadWord t)) 1) v after
+    keeps_threads : KeepsThreads m.layout words (set words t 1) v after
     keeps_threads = record {
       thread = refl;
       given = λ k. refl;
@@ -128,7 +128,7 @@ module _ (accounts : AccountsAreThere) (chains : ChainsAreThere) (layout : Layou
           inl (sym (any_same (shows_gone k) v.trace event (none_gone (t == k))) ∙ seen);
     }
 
-    changes : Changes layout words views v after s (set words (place (ThreadWord t)) 1)
+    changes : Changes layout words views v after s (set words t 1)
     changes = record {
       accounts = s.accounts;
       machine = m;
@@ -156,14 +156,14 @@ module _ (accounts : AccountsAreThere) (chains : ChainsAreThere) (layout : Layou
       cells_here = λ x i word guards seen.
           s.cells_seen id x i word v here guards (sym (fold-append (cell_known x i) None v.trace (event ∷ [])) ∙ seen);
       threads = λ k there_k.
-          threads_kept layout words (set words (place (ThreadWord t)) 1) views k v after s there_k keeps_threads;
+          threads_kept layout words (set words t 1) views k v after s there_k keeps_threads;
     }
 
-    pub passes_started : Passes layout (set words (place (ThreadWord t)) 1) (set views id after) v.taken
+    pub passes_started : Passes layout (set words t 1) (set views id after) v.taken
         v.actor.locked m
     unfolding changes
     passes_started =
-        passes layout words views id v after s here (set words (place (ThreadWord t)) 1) changes v.taken v.actor.locked
+        passes layout words views id v after s here (set words t 1) changes v.taken v.actor.locked
         (λ x which. refl)
 
   -- The store is allowed.

@@ -92,23 +92,23 @@ lends_none layout t head _ lent found table none = none
 -- Writing a word in the table is writing in the machine what it says.
 pub written_reads : (layout : Layout) (words : List ℕ) (memory : Address → ℕ) (a : Address) (left word : ℕ)
     → IsPlainLayout layout → length words ≡ word_count layout → reading a left ≡ word → HasWord layout a
-    → ((b : Address) → HasWord layout b → memory b ≡ reading b (slice_index words (place b)))
+    → ((b : Address) → HasWord layout b → memory b ≡ reading b (slice_index words (place layout b)))
     → (b : Address) → HasWord layout b
-    → written memory a word b ≡ reading b (slice_index (set words (place a) left) (place b))
+    → written memory a word b ≡ reading b (slice_index (set words (place layout a) left) (place layout b))
 written_reads layout words memory a left word plain long says has reads b there =
     elim (cases_Bool (same_address a b)) [
       | inl one ↦
-          let here : slice_index (set words (place a) left) (place a) ≡ left =
-          get_or-set_same words (place a) left 0 (omega (arith, long, place_within layout a plain has)) in
+          let here : slice_index (set words (place layout a) left) (place layout a) ≡ left =
+          get_or-set_same words (place layout a) left 0 (omega (arith, long, place_within layout a plain has)) in
           let found : written memory a word b ≡ word = ap (λ (e : Bool). cond e word (memory b)) one in
-          let there' : reading b (slice_index (set words (place a) left) (place b)) ≡ word =
-          subst (λ (c : Address). reading c (slice_index (set words (place a) left) (place c)) ≡ word) (same_is a b one)
+          let there' : reading b (slice_index (set words (place layout a) left) (place layout b)) ≡ word =
+          subst (λ (c : Address). reading c (slice_index (set words (place layout a) left) (place layout c)) ≡ word) (same_is a b one)
           (ap (reading a) here ∙ says) in
           found ∙ sym there'
       | inr other ↦
-          let apart : place b ≢ place a = λ e. place_apart layout a b plain has there other (sym e) in
-          let same : slice_index (set words (place a) left) (place b) ≡ slice_index words (place b) =
-          get_or-set_other words (place a) (place b) left 0 apart in
+          let apart : place layout b ≢ place layout a = λ e. place_apart layout a b plain has there other (sym e) in
+          let same : slice_index (set words (place layout a) left) (place layout b) ≡ slice_index words (place layout b) =
+          get_or-set_other words (place layout a) (place layout b) left 0 apart in
           ap (λ (e : Bool). cond e word (memory b)) other ∙ (reads b there ∙ ap (reading b) (sym same))
     ]
 
@@ -125,7 +125,7 @@ pub record Does (layout : Layout) (words : List ℕ) (views : List View) (id : �
 
 -- the place of the duty's word
 abbrev pub place_of : View → Duty → ℕ
-place_of v d = place (address_of v.layout v.thread v.actor.head d)
+place_of v d = place v.layout (address_of v.layout v.thread v.actor.head d)
 
 -- what the duty's word says, if the table has this value there
 abbrev pub read_of : View → Duty → ℕ → ℕ
@@ -157,7 +157,9 @@ module _ (kept : DutiesAreKept) (within : DutiesAreWithin) (stay : GuardedCellsS
 
   -- The machine's step finds what the table's word says.
   pub finds : m.memory (address_of v.layout v.thread v.actor.head d) ≡ found
-  finds = does.stands.reads (address_of v.layout v.thread v.actor.head d) has
+  finds =
+      let at = address_of v.layout v.thread v.actor.head d in
+      does.stands.reads at has ∙ ap (λ (l : Layout). reading at (slice_index words (place l at))) (sym told)
 
   module _ (left : ℕ) (leaves : read_of v d left ≡ new_word v.layout v.thread v.actor.head d found)
       (keeps : KeepsThreads m.layout words (set words (place_of v d) left) v (view_by v (d ∷ rest) found)) where
@@ -193,15 +195,18 @@ module _ (kept : DutiesAreKept) (within : DutiesAreWithin) (stay : GuardedCellsS
           layout_same = refl;
           length_is = length-set words (place_of v d) left;
           reads = λ b there.
-              let after =
-              written_reads m.layout words m.memory (address_of v.layout t v.actor.head d) left
-              (new_word v.layout t v.actor.head d found)
-              old.plain old.length_is leaves has old.reads b there in
+              let at = address_of v.layout t v.actor.head d in
+              let after : written m.memory at (new_word v.layout t v.actor.head d found) b
+              ≡ reading b (slice_index (set words (place_of v d) left) (place m.layout b)) =
+              subst (λ (l : Layout). written m.memory at (new_word v.layout t v.actor.head d found) b
+              ≡ reading b (slice_index (set words (place l at) left) (place m.layout b))) (sym told)
+              (written_reads m.layout words m.memory at left (new_word v.layout t v.actor.head d found)
+              old.plain old.length_is leaves has old.reads b there) in
               subst (λ (k : ℕ). written m.memory (address_of m.layout t a.head d) (new_word m.layout t a.head d k) b
-              ≡ reading b (slice_index (set words (place_of v d) left) (place b))) (sym seen)
+              ≡ reading b (slice_index (set words (place_of v d) left) (place m.layout b))) (sym seen)
               (subst (λ (l : Layout). written m.memory (address_of l t v.actor.head d)
               (new_word l t v.actor.head d found) b
-              ≡ reading b (slice_index (set words (place_of v d) left) (place b))) told after);
+              ≡ reading b (slice_index (set words (place_of v d) left) (place m.layout b))) told after);
           actors =
               ap (λ (k : ℕ). set m.actors t (actor_by m.layout t a d rest k)) seen
               ∙ ap (λ (l : Layout). set m.actors t (actor_by l t a d rest found)) (sym told);

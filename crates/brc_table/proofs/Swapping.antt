@@ -143,7 +143,7 @@ module _ (put : WorkIsPutAside) (free : ImmortalsAreFree) (there : AccountsAreTh
     m = s.machine
 
     abbrev found : ℕ
-    found = slice_index words (cell_place x i)
+    found = slice_index words (cell_place m.layout x i)
 
     abbrev after : View
     after = swapped v x i word found
@@ -160,7 +160,8 @@ module _ (put : WorkIsPutAside) (free : ImmortalsAreFree) (there : AccountsAreTh
     cell_has : HasWord m.layout (Cell x i)
     cell_has = (
       subst (λ (l : Layout). x < row_count l) told (change_there (rested v) x rows may.changes),
-      known_low (rested v) x i rows (record { word = may.knows.word; seen = may.knows.seen; low = may.knows.low }),
+      subst (λ (l : Layout). i < l.cells) told
+          (known_low (rested v) x i rows (record { word = may.knows.word; seen = may.knows.seen; low = may.knows.low })),
     )
 
     -- The cell has what the table's word says.
@@ -231,7 +232,7 @@ module _ (put : WorkIsPutAside) (free : ImmortalsAreFree) (there : AccountsAreTh
         guards_apart layout words views other id w (rested v) x s is here apart
         (subst (λ (z : ℕ). Guards m w z) (sym same) theirs) guards)
 
-    changes : Changes layout words views (rested v) after s (set words (cell_place x i) word)
+    changes : Changes layout words views (rested v) after s (set words (cell_place m.layout x i) word)
     changes = record {
       accounts = with_account s.accounts v.thread account;
       machine = cell_swapped m v.thread x i word;
@@ -241,7 +242,7 @@ module _ (put : WorkIsPutAside) (free : ImmortalsAreFree) (there : AccountsAreTh
           puts.may_put
           (room (m.memory (Cell x i)));
       layout_same = refl;
-      length_is = length-set words (cell_place x i) word;
+      length_is = length-set words (cell_place m.layout x i) word;
       reads =
           written_reads m.layout words m.memory (Cell x i) word word s.plain s.length_is refl cell_has
           s.reads;
@@ -280,7 +281,7 @@ module _ (put : WorkIsPutAside) (free : ImmortalsAreFree) (there : AccountsAreTh
           (Guards m (rested v) y) (λ off now. now)
           (λ before known. s.cells_seen id y j w (rested v) here before known) own shown;
       threads = λ k there_k.
-          threads_kept layout words (set words (cell_place x i) word) views k (rested v) after s there_k
+          threads_kept layout words (set words (cell_place m.layout x i) word) views k (rested v) after s there_k
           (object_step m.layout words (rested v) after (record { address = Cell x i; found = found; left = word }) word
           s.plain
           (omega (
@@ -292,11 +293,11 @@ module _ (put : WorkIsPutAside) (free : ImmortalsAreFree) (there : AccountsAreTh
     }
 
     -- The rule holds after the swap.
-    pub passes_swapped : Passes layout (set words (cell_place x i) word) (set views id after) v.taken v.actor.locked
+    pub passes_swapped : Passes layout (set words (cell_place m.layout x i) word) (set views id after) v.taken v.actor.locked
         s.machine
     unfolding changes
     passes_swapped =
-        passes layout words views id (rested v) after s here (set words (cell_place x i) word) changes v.taken
+        passes layout words views id (rested v) after s here (set words (cell_place m.layout x i) word) changes v.taken
         v.actor.locked
         (λ y which. refl)
 
@@ -315,7 +316,7 @@ module _ (put : WorkIsPutAside) (free : ImmortalsAreFree) (there : AccountsAreTh
     found_there = item_there found refl
 
   -- The swap is allowed.
-  pub swap_allowed : {T : Type 0} (slots id index : ℕ) (me : Me (Option T) View) → me.0 ≡ v → index ≡ cell_place x i
+  pub swap_allowed : {T : Type 0} (slots id index : ℕ) (me : Me (Option T) View) → me.0 ≡ v → index ≡ cell_place layout x i
       → Allows (λ (s : State (Option T) View). TableStands layout s.words s.homes s.views) slots id me index
       (λ found. word)
       (λ found after. Swaps x i word me found after)
@@ -328,7 +329,10 @@ module _ (put : WorkIsPutAside) (free : ImmortalsAreFree) (there : AccountsAreTh
       let there_now : get_elem? resting id ≡ some (rested v) = set_view s.views id v (rested v) mine in
       let puts = has_item s.words resting id word stands there_now refl may.puts in
       let found = slice_index s.words index in
-      let same : slice_index s.words (cell_place x i) ≡ found = ap (slice_index s.words) (sym at) in
+      let at_now : index ≡ cell_place puts.stands.machine.layout x i =
+      at ∙ ap (λ (l : Layout). cell_place l x i) (sym puts.stands.layout_is) in
+      let same : slice_index s.words (cell_place puts.stands.machine.layout x i) ≡ found =
+      ap (slice_index s.words) (sym at_now) in
       let w = swapped v x i word found in
       let after = passes_swapped s.words resting id stands.machine puts there_now in
       let moved : Passes layout (set s.words index word) (set s.views id w) v.taken v.actor.locked puts.stands.machine =
@@ -338,9 +342,9 @@ module _ (put : WorkIsPutAside) (free : ImmortalsAreFree) (there : AccountsAreTh
       v.actor.locked
       puts.stands.machine) same
       (subst (λ (j : ℕ). Passes layout (set s.words j word)
-      (set resting id (swapped v x i word (slice_index s.words (cell_place x i)))) v.taken v.actor.locked
+      (set resting id (swapped v x i word (slice_index s.words (cell_place puts.stands.machine.layout x i)))) v.taken v.actor.locked
       puts.stands.machine)
-      (sym at) after)) in
+      (sym at_now) after)) in
       let now = moved.stands in
       let held_slots : SlotsStand now.machine s.homes (set s.views id w) =
       slots_kept holds.stands.machine now.machine s.homes s.views id v w holds.slots mine

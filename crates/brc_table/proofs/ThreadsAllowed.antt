@@ -82,7 +82,7 @@ module _ (laws : ModelLaws) (layout : Layout) (v u : View)
   keeps_from words views i does small whose stays stays_gone =
       let thread = on.thread in
       let raw = slice_index words (place_of u d) in
-      let at : place_of u d ≡ thread = ap place on.address in
+      let at : place_of u d ≡ thread = ap (place u.layout) on.address in
       let same : raw ≡ thread_word words thread = ap (slice_index words) at in
       let there : thread < length words =
       subst (λ (k : ℕ). k < length words) at
@@ -91,6 +91,7 @@ module _ (laws : ModelLaws) (layout : Layout) (v u : View)
         place_within does.stands.machine.layout (address_of u.layout u.thread u.actor.head d)
             does.stands.plain
             (has laws.kept laws.within laws.guarded layout words views i u d rest does),
+        ap (λ (l : Layout). place l (address_of u.layout u.thread u.actor.head d)) (does.stands.told i u does.here),
         does.stands.length_is,
       )) in
       subst (λ (k : ℕ). KeepsThreads does.stands.machine.layout words (set words k (f raw)) u
@@ -119,7 +120,7 @@ module _ (laws : ModelLaws) (layout : Layout) (v u : View)
   thread_keeps words views i does small =
       let word = thread_word words on.thread in
       let low : word < 2 ^ 64 =
-      subst (λ (k : ℕ). k < 2 ^ 64) (ap (slice_index words) (ap place on.address)) small in
+      subst (λ (k : ℕ). k < 2 ^ 64) (ap (slice_index words) (ap (place u.layout) on.address)) small in
       elim on.kind [
         | inl looks ↦
             let same : f word ≡ word = leaves word low ∙ looks word in

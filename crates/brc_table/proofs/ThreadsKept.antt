@@ -225,12 +225,12 @@ pub record Steps (v u : View) (e : WordEvent) : Type 0 where
 -- A step on an object's word leaves the words of threads.
 pub object_step : (layout : Layout) (words : List ℕ) (v u : View) (e : WordEvent) (left : ℕ)
     → IsPlainLayout layout → v.thread ≤ layout.workers → Steps v u e → IsObjectWord e.address
-    → HasWord layout e.address → KeepsThreads layout words (set words (place e.address) left) v u
+    → HasWord layout e.address → KeepsThreads layout words (set words (place layout e.address) left) v u
 object_step layout words v u e left plain known steps object has =
     let stays : (t : ℕ) → t ≤ layout.workers
-    → thread_word (set words (place e.address) left) t ≡ thread_word words t =
+    → thread_word (set words (place layout e.address) left) t ≡ thread_word words t =
     λ t low.
-    get_or-set_other words (place e.address) (place (ThreadWord t)) left 0
+    get_or-set_other words (place layout e.address) t left 0
     (λ same. place_apart layout e.address (ThreadWord t) plain has (omega (arith, low))
     (object_apart e.address t object) (sym same)) in
     record {
@@ -289,7 +289,7 @@ and_none false c e = refl
 -- A step on a thread's word keeps what the words of threads say.
 pub thread_step : (layout : Layout) (words : List ℕ) (v u : View) (e : WordEvent) (t left : ℕ) → t < length words
     → Steps v u e → StepsOnThread words v e t left
-    → KeepsThreads layout words (set words (place (ThreadWord t)) left) v u
+    → KeepsThreads layout words (set words t left) v u
 thread_step layout words v u e t left there steps on =
     let after = set words t left in
     let here : thread_word after t ≡ left = get_or-set_same words t left 0 there in

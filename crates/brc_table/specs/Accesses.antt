@@ -6,7 +6,7 @@ use Rattle.brc_model.specs.declared.duty.Duty.TheVariants.{RetainLoad, RetainSto
 use Rattle.brc_model.specs.declared.duty.Holding.TheVariants.{AsCaller}
 use Rattle.brc_model.specs.declared.duty.Reason.TheVariants.{Own}
 use Rattle.brc_model.specs.Duties.{duty_row}
-use Rattle.brc_model.specs.Limits.{cell_limit}
+use Rattle.brc_model.specs.declared.layout.Layout.{Layout}
 
 -- ---- duties
 
@@ -22,10 +22,10 @@ HasAccess (ReturnSlot x) = ⊥
 HasAccess _ = Unit {0}
 
 -- If the duty is about a cell, a list may have the cell.
-abbrev pub HasCell : Duty → Type 0
-HasCell (SettleCell x i n) = i < cell_limit
-HasCell (CellLoad x i) = i < cell_limit
-HasCell _ = Unit {0}
+abbrev pub HasCell : Layout → Duty → Type 0
+HasCell layout (SettleCell x i n) = i < layout.cells
+HasCell layout (CellLoad x i) = i < layout.cells
+HasCell layout _ = Unit {0}
 
 -- If the duty is about the head of the thread's dying chain, the chain isn't empty.
 abbrev pub HasChain : Duty → ℕ → Type 0

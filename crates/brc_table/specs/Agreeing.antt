@@ -18,21 +18,21 @@ use Rattle.brc_model.specs.References.{word_holds}
 use Rattle.brc_model.specs.CountingLaws.{over_cells}
 use Rattle.brc_model.specs.Agreement.{at_row, awaits, carries, decides_or_merges, has_swapped, IsPhase}
 use Rattle.brc_table.specs.declared.view.View.{View}
-use Rattle.brc_table.specs.Places.{place}
+use Rattle.brc_table.specs.Places.{local_line, shared_line, in_tile, cell_place, place}
 use Rattle.brc_table.specs.Views.{holds, open_work}
 use Rattle.brc_table.specs.Ending.{gate_at}
 
 -- ---- the words of an object
 
 abbrev pub local_at : List ℕ → ℕ → ℕ
-local_at words x = slice_index words (place (Local x))
+local_at words x = slice_index words (in_tile local_line x)
 
 abbrev pub shared_at : List ℕ → ℕ → ℕ
-shared_at words x = slice_index words (place (Shared x))
+shared_at words x = slice_index words (in_tile shared_line x)
 
 -- the row's mark: 1 if it is set, else 0
 abbrev pub row_mark : Layout → List ℕ → ℕ → ℕ
-row_mark layout words x = mark_at (slice_index words (place (mark_place layout x))) (mark_bit layout x)
+row_mark layout words x = mark_at (slice_index words (place layout (mark_place layout x))) (mark_bit layout x)
 
 -- 0 default, 2 queued, 3 merged
 abbrev pub phase_at : List ℕ → ℕ → ℕ
@@ -77,7 +77,7 @@ listed views x = sum_by (λ v. holds v x) views
 -- the references that cells hold
 abbrev pub in_cells : Layout → List ℕ → ℕ → ℕ
 in_cells layout words x =
-    over_cells (λ y i. word_holds (slice_index words (place (Cell y i))) x) (row_count layout)
+    over_cells (λ y i. word_holds (slice_index words (cell_place layout y i)) x) layout
 
 -- the decrements that are pending: one if the mark is set, and those of the hands' work
 abbrev pub pending : Layout → List ℕ → List View → ℕ → ℕ

@@ -8,11 +8,10 @@ use Rattle.brc_model.specs.declared.address.Address.TheVariants.{Gate, KindOf, C
 use Rattle.brc_model.specs.declared.layout.Layout.{Layout}
 use Rattle.brc_model.specs.Duties.{resources_of}
 use Rattle.brc_model.specs.Layout.{row_count, IsCounted}
-use Rattle.brc_model.specs.Limits.{cell_limit}
 use Rattle.brc_model.specs.SlotLaws.{UsesSlot}
 use Rattle.brc_table.specs.declared.view.View.{View}
 use Rattle.brc_table.specs.Homes.{resources, times_taken, IsHome}
-use Rattle.brc_table.specs.Places.{place}
+use Rattle.brc_table.specs.Places.{gate_line, kind_line, in_tile, cell_place}
 use Rattle.brc_table.specs.Rule.{Stands}
 use Rattle.brc_table.specs.KnownWords.{knows_gone}
 use Rattle.brc_table.specs.Threads.{thread_word}
@@ -65,26 +64,26 @@ SeenEndsAreSo = (v : View) (end : EndState) → EndsWith v end → v.thread ≡ 
 -- ---- rows
 
 abbrev pub kind_at : List ℕ → ℕ → ℕ
-kind_at words x = slice_index words (place (KindOf x))
+kind_at words x = slice_index words (in_tile kind_line x)
 
 abbrev pub gate_at : List ℕ → ℕ → ℕ
-gate_at words x = slice_index words (place (Gate x))
+gate_at words x = slice_index words (in_tile gate_line x)
 
-abbrev pub cell_at : List ℕ → ℕ → ℕ → ℕ
-cell_at words x i = slice_index words (place (Cell x i))
+abbrev pub cell_at : Layout → List ℕ → ℕ → ℕ → ℕ
+cell_at layout words x i = slice_index words (cell_place layout x i)
 
 -- What a cell has is 0, or the number of a row plus 1.
 abbrev pub CellsNameRows : Layout → List ℕ → Type 0
 CellsNameRows layout words =
-    (y i : ℕ) → y < row_count layout → i < cell_limit → cell_at words y i ≤ row_count layout
+    (y i : ℕ) → y < row_count layout → i < layout.cells → cell_at layout words y i ≤ row_count layout
 
 -- A cell of a list that isn't closed names the row.
 pub record IsNamed (layout : Layout) (words : List ℕ) (x : ℕ) : Type 0 where
   pub list : ℕ
   pub cell : ℕ
   pub there : list < row_count layout
-  pub low : cell < cell_limit
-  pub names : cell_at words list cell ≡ x + 1
+  pub low : cell < layout.cells
+  pub names : cell_at layout words list cell ≡ x + 1
   pub not_closed : gate_at words list ≢ closed_word
 
 -- What the words say of a row. Its kind word isn't 0 exactly if it was born, and its gate says whether it is closed.
@@ -92,9 +91,9 @@ pub record IsNamed (layout : Layout) (words : List ℕ) (x : ℕ) : Type 0 where
 pub record RowEnds (layout : Layout) (words : List ℕ) (x : ℕ) : Type 0 where
   pub left : 0 < kind_at words x → gate_at words x ≢ closed_word → IsNamed layout words x
   pub closed_born : gate_at words x ≡ closed_word → 0 < kind_at words x
-  pub closed_unnamed : gate_at words x ≡ closed_word → (y i : ℕ) → y < row_count layout → i < cell_limit
-      → cell_at words y i ≢ x + 1
-  pub closed_empty : gate_at words x ≡ closed_word → (i : ℕ) → i < cell_limit → cell_at words x i ≡ 0
+  pub closed_unnamed : gate_at words x ≡ closed_word → (y i : ℕ) → y < row_count layout → i < layout.cells
+      → cell_at layout words y i ≢ x + 1
+  pub closed_empty : gate_at words x ≡ closed_word → (i : ℕ) → i < layout.cells → cell_at layout words x i ≡ 0
 
 -- Once each thread is gone or was never started, this holds of each counted row.
 abbrev pub RowsEnd : Type 0

@@ -14,7 +14,7 @@ use Rattle.brc_model.specs.declared.address.Address.{Address}
 use Rattle.brc_model.specs.declared.address.Address.TheVariants.{Local, Gate, Cell, ThreadWord}
 use Rattle.brc_model.specs.declared.layout.Layout.{Layout}
 use Rattle.brc_model.specs.Layout.{row_count, block_of, index_of, root_row, IsCounted}
-use Rattle.brc_model.specs.Limits.{cell_limit}
+use Rattle.brc_model.specs.Limits.{root_cells}
 use Rattle.brc_model.specs.Actions.{list_word}
 use Rattle.brc_model.specs.Duties.{address_of, new_word}
 use Rattle.brc_model.specs.OpenWork.{is_finalising}
@@ -28,12 +28,12 @@ use Rattle.brc_table.specs.Swaps.{MaySwap}
 use Rattle.brc_table.specs.Rule.{thread_reading, Stands}
 use Rattle.brc_table.specs.Homes.{times_taken, TableStands}
 use Rattle.brc_table.specs.Threads.{thread_word}
-use Rattle.brc_table.specs.Ending.{kind_at}
+use Rattle.brc_table.specs.Ending.{kind_at, gate_at}
 use Rattle.brc_table.specs.Agreeing.{row_mark}
 
 -- what the word of a thread says of it
 abbrev pub thread_says : List ℕ → ℕ → ℕ
-thread_says words t = thread_reading (slice_index words (place (ThreadWord t)))
+thread_says words t = thread_reading (thread_word words t)
 
 -- The thread of the row's block runs or isn't started; or its hand is leaving, and still has to load the row's mark
 -- word, or to take the mark, which it has found there; or some hand has the duty to look at the mark.
@@ -61,11 +61,12 @@ pub record ChangesWord (layout : Layout) (words : List ℕ) (views : List View) 
   pub alive : v.actor.status ≢ Gone
   pub there : HasWord layout a
   pub at : address_of layout v.thread v.actor.head d ≡ a
-  pub other : new_word layout v.thread v.actor.head d (slice_index words (place a)) ≢ slice_index words (place a)
+  pub other : new_word layout v.thread v.actor.head d (slice_index words (place layout a))
+      ≢ slice_index words (place layout a)
 
 -- The hand has locked the row's object, and the object's gate names the hand's thread.
 abbrev pub HoldsGate : List ℕ → View → ℕ → Type 0
-HoldsGate words v x = (v.actor.locked ≡ Some x) × (slice_index words (place (Gate x)) ≡ locked_word v.thread)
+HoldsGate words v x = (v.actor.locked ≡ Some x) × (gate_at words x ≡ locked_word v.thread)
 
 -- A duty that changes a cell is of the hand that has locked the list, or it is a step of the list's deallocation.
 abbrev pub OnlyHoldersChangeCells : Type 0
@@ -131,7 +132,7 @@ ViewsKeepTheLayout = (layout : Layout) (words : List ℕ) (views : List View) (i
 -- The root is a list of eight cells.
 abbrev pub RootIsAList : Type 0
 RootIsAList = (layout : Layout) (words : List ℕ) (views : List View) → Stands layout words views
-    → kind_at words root_row ≡ list_word cell_limit
+    → kind_at words root_row ≡ list_word root_cells
 
 -- One hand has taken the row's slot, once, and uses it; no other hand has taken it.
 pub record IsTakenAlone (views : List View) (x : ℕ) : Type 0 where

@@ -1,14 +1,14 @@
 -- Where each word of the table is. The thread words come first, and then the mark words. Those of a thread's block have
 -- cache lines of their own, so that two threads that look through their queues share no line. Then come the tiles.
 -- Eight rows share a tile, and in a tile a cache line of eight words has their local words, the next one their shared
--- words, and so on, so that an owner and another thread don't write to one line. Behind these is a line of cells for
--- each row.
+-- words, and so on, so that an owner and another thread don't write to one line. Behind the tiles are the cells of each
+-- row, as many as the layout says.
 use Rattle.std.specs.Prelude.{ℕ, ◌+◌, ◌-◌, ◌*◌, ◌/◌, ◌%◌, ◌<◌}
 use Rattle.brc_model.specs.declared.address.Address.{Address}
 use Rattle.brc_model.specs.declared.address.Address.TheVariants.{Local, Shared, Gate, KindOf, Marks, Cell, Slot, Resource, ThreadWord}
 use Rattle.brc_model.specs.declared.layout.Layout.{Layout}
 use Rattle.brc_model.specs.Layout.{row_count, mark_words_of}
-use Rattle.brc_model.specs.Limits.{cell_limit, thread_limit}
+use Rattle.brc_model.specs.Limits.{thread_limit}
 
 -- the words of a cache line
 abbrev pub line : ℕ
@@ -26,33 +26,53 @@ mark_room = 24
 abbrev pub front : ℕ
 front = marks_front + mark_room * thread_limit
 
--- the lines of a tile in front of its cells: local, shared, gate and kind
-abbrev pub header_lines : ℕ
-header_lines = 4
+-- the lines of a tile: of local words, of shared words, of gates and of kind words
+abbrev pub tile_lines : ℕ
+tile_lines = 4
 
--- the words of a tile: these lines, and a line of cells for each of its rows
+-- the words of a tile
 abbrev pub tile : ℕ
-tile = line * (header_lines + line)
+tile = line * tile_lines
+
+abbrev pub local_line : ℕ
+local_line = 0
+
+abbrev pub shared_line : ℕ
+shared_line = 1
+
+abbrev pub gate_line : ℕ
+gate_line = 2
+
+abbrev pub kind_line : ℕ
+kind_line = 3
 
 -- the place of a row's word, in the line of the tile with this number
 abbrev pub in_tile : ℕ → ℕ → ℕ
 in_tile number row = front + tile * (row / line) + line * number + row % line
 
+-- the number of tiles, the last of which may have fewer rows
+abbrev pub tiles : Layout → ℕ
+tiles layout = (row_count layout + (line - 1)) / line
+
+-- the words in front of the cells
+abbrev pub cells_front : Layout → ℕ
+cells_front layout = front + tile * tiles layout
+
 -- the place of a row's cell
-abbrev pub cell_place : ℕ → ℕ → ℕ
-cell_place row cell = front + tile * (row / line) + line * (header_lines + row % line) + cell
+abbrev pub cell_place : Layout → ℕ → ℕ → ℕ
+cell_place layout row cell = cells_front layout + layout.cells * row + cell
 
 -- the place of the word at the address. A slot and a resource have no word.
-abbrev pub place : Address → ℕ
-place (Local x) = in_tile 0 x
-place (Shared x) = in_tile 1 x
-place (Gate x) = in_tile 2 x
-place (KindOf x) = in_tile 3 x
-place (Marks t w) = marks_front + mark_room * t + w
-place (Cell x i) = cell_place x i
-place (Slot x) = 0
-place (Resource x) = 0
-place (ThreadWord t) = t
+abbrev pub place : Layout → Address → ℕ
+place layout (Local x) = in_tile local_line x
+place layout (Shared x) = in_tile shared_line x
+place layout (Gate x) = in_tile gate_line x
+place layout (KindOf x) = in_tile kind_line x
+place layout (Marks t w) = marks_front + mark_room * t + w
+place layout (Cell x i) = cell_place layout x i
+place layout (Slot x) = 0
+place layout (Resource x) = 0
+place layout (ThreadWord t) = t
 
 -- The address has a word in a table with this layout.
 abbrev pub HasWord : Layout → Address → Type 0
@@ -61,7 +81,7 @@ HasWord layout (Shared x) = x < row_count layout
 HasWord layout (Gate x) = x < row_count layout
 HasWord layout (KindOf x) = x < row_count layout
 HasWord layout (Marks t w) = (t < 1 + layout.workers) × (w < mark_words_of layout t)
-HasWord layout (Cell x i) = (x < row_count layout) × (i < cell_limit)
+HasWord layout (Cell x i) = (x < row_count layout) × (i < layout.cells)
 HasWord layout (Slot x) = ⊥
 HasWord layout (Resource x) = ⊥
 HasWord layout (ThreadWord t) = t < 1 + layout.workers
@@ -79,10 +99,6 @@ IsTableWord (Slot x) = ⊥
 IsTableWord (Resource x) = ⊥
 IsTableWord _ = Unit {0}
 
--- the number of tiles, the last of which may have fewer rows
-abbrev pub tiles : Layout → ℕ
-tiles layout = (row_count layout + (line - 1)) / line
-
 -- the number of words of the table
 abbrev pub word_count : Layout → ℕ
-word_count layout = front + tile * tiles layout
+word_count layout = cells_front layout + layout.cells * row_count layout

@@ -9,7 +9,7 @@ use Rattle.brc_model.specs.declared.address.Address.TheVariants.{KindOf, Cell, T
 use Rattle.brc_model.specs.declared.layout.Layout.{Layout}
 use Rattle.brc_word.specs.Words.{half}
 use Rattle.brc_model.specs.Layout.{none_row, root_row, IsCounted}
-use Rattle.brc_model.specs.Limits.{cell_limit}
+use Rattle.brc_model.specs.Limits.{root_cells}
 use Rattle.brc_model.specs.Actions.{list_word}
 use Rattle.brc_model.specs.declared.actor.Actor.{Actor}
 use Rattle.brc_model.specs.Machine.{Machine, idle_actor}
@@ -51,7 +51,7 @@ pub record Stands (layout : Layout) (words : List ℕ) (views : List View) : Typ
   pub layout_is : machine.layout ≡ layout
   pub plain : IsPlainLayout machine.layout
   pub length_is : length words ≡ word_count machine.layout
-  pub reads : (a : Address) → HasWord machine.layout a → machine.memory a ≡ reading a (slice_index words (place a))
+  pub reads : (a : Address) → HasWord machine.layout a → machine.memory a ≡ reading a (slice_index words (place machine.layout a))
   -- each view is its thread's
   pub acts : (id : ℕ) (v : View) → get_elem? views id ≡ some v
       → slice_get machine.actors v.thread ≡ Some v.actor
@@ -64,7 +64,7 @@ pub record Stands (layout : Layout) (words : List ℕ) (views : List View) : Typ
   -- none's kind word is the one that it has from the start
   pub named : machine.memory (KindOf none_row) ≡ half
   -- and the root's is that of a list of eight cells
-  pub rooted : machine.memory (KindOf root_row) ≡ list_word cell_limit
+  pub rooted : machine.memory (KindOf root_row) ≡ list_word root_cells
   -- a kind word that a hand has seen is still there
   pub kinds_seen : (id x word : ℕ) (v : View) → get_elem? views id ≡ some v → 0 < word
       → knows_kind x word v ≡ true → machine.memory (KindOf x) ≡ word

@@ -5,12 +5,11 @@ use lib.ListN.{get_elem?}
 use Rattle.brc_model.specs.declared.address.Address.TheVariants.{ThreadWord}
 use Rattle.brc_model.specs.declared.layout.Layout.{Layout}
 use Rattle.brc_table.specs.declared.view.View.{View}
-use Rattle.brc_table.specs.Places.{place}
 use Rattle.brc_table.specs.Views.{is_given}
 use Rattle.brc_table.specs.KnownWords.{has_started, started_word, knows_gone}
 
 abbrev pub thread_word : List ℕ → ℕ → ℕ
-thread_word words t = slice_index words (place (ThreadWord t))
+thread_word words t = slice_index words t
 
 -- A thread that has a hand is started. Main starts a worker before it gives out the worker's hand, and a thread that is
 -- gone stays gone.

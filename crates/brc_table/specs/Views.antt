@@ -9,7 +9,6 @@ use Rattle.brc_model.specs.Layout.{row_count, block_size, front_rows, root_row, 
 use Rattle.brc_model.specs.Duties.{address_of, new_word, cells_of}
 use Rattle.brc_model.specs.Machine.{actor_by, idle_actor}
 use Rattle.brc_model.specs.OpenWork.{is_about}
-use Rattle.brc_model.specs.Limits.{cell_limit}
 use Rattle.brc_model.specs.Counting.{working}
 use Rattle.brc_model.specs.CountingLaws.{IsUnfinalised}
 use Rattle.brc_model.specs.SlotLaws.{SlotUse, Stays, Takes, Gives, use_of}
@@ -22,14 +21,14 @@ use Rattle.brc_table.specs.KnownWords.{knows_kind}
 
 -- ---- references
 
--- The first duty names no more cells than a list has.
-abbrev pub NamesFewCells : List Duty → Type 0
-NamesFewCells [] = Unit {0}
-NamesFewCells (d ∷ rest) = cells_named d ≤ cell_limit
+-- The first duty names no more cells than a list may have.
+abbrev pub NamesFewCells : Layout → List Duty → Type 0
+NamesFewCells layout [] = Unit {0}
+NamesFewCells layout (d ∷ rest) = cells_named d ≤ layout.cells
 
 -- The hand's thread is main or a worker, and the objects to which the hand holds references, those of its duties, the
 -- one that it has locked and the first one of its chain have rows. The hand doesn't deallocate the object that it has
--- locked. No kind word that it has seen names more cells than a list has.
+-- locked. No kind word that it has seen names more cells than a list may have.
 pub record RowsAreThere (v : View) : Type 0 where
   pub thread : v.thread ≤ v.layout.workers
   pub used : v.actor.used ≤ block_size v.layout v.thread
@@ -38,10 +37,10 @@ pub record RowsAreThere (v : View) : Type 0 where
   pub agenda : (x : ℕ) → list_any (is_about x) v.actor.agenda ≡ true → x < row_count v.layout
   pub aside : (x : ℕ) → list_any (is_about x) v.actor.aside ≡ true → x < row_count v.layout
   pub head : v.actor.head ≤ row_count v.layout
-  pub cells : NamesFewCells v.actor.agenda
+  pub cells : NamesFewCells v.layout v.actor.agenda
   pub locked : (x : ℕ) → v.actor.locked ≡ Some x → x < row_count v.layout
   pub unfinalised : (x : ℕ) → v.actor.locked ≡ Some x → IsUnfinalised x v.actor.head v.actor.agenda
-  pub kinds : (x word : ℕ) → knows_kind x word v ≡ true → cells_of word ≤ cell_limit
+  pub kinds : (x word : ℕ) → knows_kind x word v ≡ true → cells_of word ≤ v.layout.cells
 
 -- how many references the hand holds to the object
 abbrev pub holds : View → ℕ → ℕ

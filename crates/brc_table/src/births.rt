@@ -5,7 +5,6 @@ ghost use Rattle.std.specs.Prelude.{◌≡◌, ◌≢◌, ◌<◌, ◌≤◌, tr
 ghost use Rattle.brc_model.specs.declared.actor.Status.TheVariants.{Gone};
 ghost use Rattle.brc_model.specs.Duties.{cells_of};
 ghost use Rattle.brc_model.specs.Kinds.{kind_of_word, is_counted_kind};
-ghost use Rattle.brc_model.specs.Limits.{cell_limit};
 ghost use Rattle.brc_model.specs.Machine.{has_room};
 ghost use Rattle.brc_table.specs.Views.{view_after, bearing, next_row, slot_filled};
 ghost use Rattle.brc_table.specs.Plays.{overwritten};
@@ -31,7 +30,7 @@ impl<T: Drop> Words<T> {
         requires worker { 0 < hand.old.view.thread }
         requires room { has_room hand.old.view.layout hand.old.view.thread hand.old.view.actor.used ≡ true }
         requires kind { is_counted_kind (kind_of_word word) ≡ true }
-        requires cells { cells_of word ≤ cell_limit }
+        requires cells { cells_of word ≤ hand.old.view.layout.cells }
         ensures row { result ≡ next_row hand.old.view }
         ensures table { hand.new.table ≡ hand.old.table }
         ensures carried { hand.new.carried ≡ hand.old.carried }

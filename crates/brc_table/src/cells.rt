@@ -3,14 +3,12 @@
 
 ghost use Rattle.std.specs.Prelude.{◌≡◌, ◌<◌, ◌≤◌, ℕ, Some, length};
 ghost use Rattle.brc_model.specs.Layout.{row_count};
-ghost use Rattle.brc_model.specs.Limits.{cell_limit};
 ghost use Rattle.brc_table.specs.Views.{view_after, loading_cell};
 ghost use Rattle.brc_table.specs.KnownWords.{KnowsCell, known_cell};
 ghost use Rattle.brc_table.specs.Swaps.{swapped, MayPut, MaySwap};
 ghost use Rattle.brc_table.specs.Hands.{most_references, IsOf, IsRunning, MayLoad, MayChange, HasNoWork, HasNoRetain, KeepsButView};
 
 use crate::hand::Hand;
-use crate::place::in_cell;
 use crate::rule::{Swap, Swapped};
 use crate::words::Words;
 use brc_model::{
@@ -70,7 +68,7 @@ impl<T: Drop> Words<T> {
         requires list { row ≡ B.list }
         requires index { cell ≡ B.cell }
         requires item { item ≡ B.item }
-        requires cell { cell < cell_limit }
+        requires cell { cell < self.now.layout.cells }
         requires there { row < row_count self.now.layout }
         requires may { MaySwap hand.old.view row cell item }
         ensures kept { KeepsButView hand.old hand.new }
@@ -84,7 +82,7 @@ impl<T: Drop> Words<T> {
         chains_are_there();
         items_are_there();
         cells_are_swapped();
-        let index = in_cell(row, cell);
+        let index = self.cells.place(row, cell);
         self.table
             .shared
             .swap::<Swapped<B>>(&mut hand.seat, index, item)

@@ -3,13 +3,12 @@
 ghost use Rattle.std.specs.Prelude.{◌≡◌, ◌<◌, ◌≤◌};
 ghost use Rattle.brc_model.specs.Layout.{row_count};
 ghost use Rattle.brc_model.specs.Counting.{IsPlainLayout};
-ghost use Rattle.brc_model.specs.Limits.{cell_limit};
 ghost use Rattle.brc_table.specs.Hands.{IsOf};
 ghost use Rattle.brc_table.specs.Ending.{EndsWith, kind_at, gate_at, cell_at, slot_at};
 ghost use Rattle.brc_table.specs.Homes.{resources};
 
 use crate::hand::Hand;
-use crate::place::{GATE, KIND, in_cell, in_line};
+use crate::place::{Cells, GATE, KIND, in_line};
 use crate::words::Words;
 use atomic_table::Closed as ClosedTable;
 use brc_effect::rows::row_count;
@@ -22,6 +21,7 @@ use std::snapshot::Snapshot;
 pub struct Closed<T: Drop> {
     table: ClosedTable<Option<T>, Global>,
     layout: Layout,
+    cells: Cells,
     /// Which table it was. It takes no memory.
     of: Snapshot<Words<T>>,
 }
@@ -46,7 +46,7 @@ impl<T: Drop> Model for Closed<T> {
     ghost invariant = { λ c. IsFull c.table.words × IsFull c.table.slots
         × (slots_len c.table.words ≡ word_count c.layout) × IsPlainLayout c.layout
         × CellsNameRows c.layout (slots_items c.table.words)
-        × (slots_len c.table.slots ≡ row_count c.layout) };
+        × (slots_len c.table.slots ≡ row_count c.layout) × (c.cells ≡ c.layout) };
 }
 
 impl<T: Drop> Words<T> {
@@ -70,10 +70,15 @@ impl<T: Drop> Words<T> {
         } = hand;
         drop(spares);
         drop(carried);
-        let Words { table, blocks } = self;
+        let Words {
+            table,
+            blocks,
+            cells,
+        } = self;
         Closed {
             table: table.close_with(seat),
             layout: blocks.layout(),
+            cells,
             of,
         }
     }
@@ -113,11 +118,11 @@ impl<T: Drop> Closed<T> {
     /// Returns what a cell has: a row plus 1, or 0.
     pub fn cell_word(&self, row: u32, cell: u32) -> u64
         requires there { row < row_count self.now.layout }
-        requires cell { cell < cell_limit }
-        ensures word { result ≡ cell_at self.now.words row cell }
+        requires cell { cell < self.now.layout.cells }
+        ensures word { result ≡ cell_at self.now.layout self.now.words row cell }
         ensures names { result ≤ row_count self.now.layout }
     {
-        self.table.word(in_cell(row, cell))
+        self.table.word(self.cells.place(row, cell))
     }
 
     /// Returns the resource in the row's slot, or `None` if the slot is empty.
@@ -134,6 +139,7 @@ impl<T: Drop> Drop for Closed<T> {
         let Closed {
             mut table,
             layout: _,
+            cells: _,
             of: _,
         } = self;
         let mut i = 0;

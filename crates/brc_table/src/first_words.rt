@@ -4,10 +4,10 @@ ghost use Rattle.std.specs.Prelude.{◌≡◌, IfOk};
 ghost use Rattle.brc_table.specs.Opening.{blank_line, blank_word, first_word, AreFirst};
 
 use crate::place::{FRONT, GATE, KIND, LINE, LOCAL, SHARED, TILE, in_line};
-use crate::size::{CELLS, tile_count, word_count};
-use brc_effect::rows::{NONE_ROW, ROOT};
+use crate::size::{tile_count, word_count};
+use brc_effect::rows::{NONE_ROW, ROOT, row_count};
 use brc_model::Layout;
-use brc_word::values::{FREE, LIST, NONE, RUNNING};
+use brc_word::values::{EMPTY, FREE, LIST, NONE, RUNNING};
 use brc_word::{kind_word, local_word};
 use std::alloc::{AllocError, Global};
 
@@ -23,6 +23,9 @@ const FRESH: u64 = 1 << 42;
 /// The local count of an immortal object.
 const IMMORTAL: u32 = u32::MAX;
 
+/// The cells of the root.
+const ROOT_CELLS: u32 = 8;
+
 /// Returns the first value of the words in a line of a tile, of rows that aren't born.
 fn blank_line(line: usize) -> u64
     ensures { result ≡ blank_line line }
@@ -34,7 +37,7 @@ fn blank_line(line: usize) -> u64
     }
 }
 
-/// Returns the first value of a word of a thread, or of a row that isn't born.
+/// Returns the first value of a word of a thread, or of a row that isn't born, unless it is a cell.
 fn blank_word(index: usize) -> u64
     ensures { result ≡ blank_word index }
 {
@@ -47,7 +50,7 @@ fn blank_word(index: usize) -> u64
     }
 }
 
-/// Returns the first value of a word. None is immortal. The root is a list of eight cells, and main, which owns it,
+/// Returns the first value of a word that is no cell. None is immortal. The root is a list of eight cells, and main, which owns it,
 /// holds the only reference to it.
 fn first_word(index: usize) -> u64
     ensures { result ≡ first_word index }
@@ -59,7 +62,7 @@ fn first_word(index: usize) -> u64
     } else if index == in_line(KIND, NONE_ROW) {
         kind_word(NONE, 0)
     } else if index == in_line(KIND, ROOT) {
-        kind_word(LIST, u32::from(CELLS))
+        kind_word(LIST, ROOT_CELLS)
     } else {
         blank_word(index)
     }
@@ -80,5 +83,7 @@ pub(crate) fn first_words(alloc: Global, layout: Layout) -> Result<Vec<u64>, All
     for _tile in 2..tiles {
         words.extend_from_within(FRONT + TILE..FRONT + 2 * TILE)?;
     }
+    let cells = vec![in alloc; EMPTY; usize::from(layout.cells) * row_count(layout)]?;
+    words.extend_from_slice(cells.as_slice())?;
     Ok(words)
 }

@@ -9,8 +9,8 @@ use brc_effect::rows::{block_size, row_count};
 use brc_model::Layout;
 use brc_word::MARKS_OF_WORD;
 
-/// The cells of each row.
-pub(crate) const CELLS: u8 = 8;
+/// The most cells of a list in a text.
+pub(crate) const TEXT_CELLS: u8 = 8;
 
 /// Returns the number of tiles. The last one may have fewer rows than eight.
 pub(crate) fn tile_count(layout: Layout) -> usize
@@ -23,7 +23,7 @@ pub(crate) fn tile_count(layout: Layout) -> usize
 pub(crate) fn word_count(layout: Layout) -> usize
     ensures { result ≡ word_count layout }
 {
-    FRONT + TILE * tile_count(layout)
+    FRONT + TILE * tile_count(layout) + usize::from(layout.cells) * row_count(layout)
 }
 
 /// Returns the number of mark words of the thread's block.

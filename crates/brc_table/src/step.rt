@@ -24,7 +24,6 @@ ghost use Rattle.brc_table.specs.Hands.{IsOf};
 use crate::after::{head_after, runs_after, said_by, used_after};
 use crate::hand::Hand;
 use crate::model_laws::model_laws;
-use crate::place::place_at;
 use crate::rule::{Begins, Stepped, SteppedStored};
 use crate::view::View;
 use crate::words::Words;
@@ -42,7 +41,7 @@ impl<T: Drop> Words<T> {
         requires table { IsOf self.now hand.old }
         requires alive { hand.old.view.actor.status ≢ Gone }
         requires known { HasAccess duty }
-        requires cell { HasCell duty }
+        requires cell { HasCell hand.old.view.layout duty }
         requires chain { HasChain duty hand.old.view.actor.head }
         requires row { HasUsedRow duty hand.old.view.actor.used }
         requires next { IsNext duty hand.old.view.actor.agenda }
@@ -69,7 +68,7 @@ impl<T: Drop> Words<T> {
         requires table { IsOf self.now hand.old }
         requires may { MayGoOn work hand.old.view }
         requires known { HasAccess duty }
-        requires cell { HasCell duty }
+        requires cell { HasCell hand.old.view.layout duty }
         requires chain { HasChain duty hand.old.view.actor.head }
         requires row { HasUsedRow duty hand.old.view.actor.used }
         requires next { IsNext duty (turned_to work hand.old.view (row_of duty)).actor.agenda }
@@ -149,7 +148,7 @@ impl<T: Drop> Words<T> {
         self.words_are_there();
         hand.rows_are_there();
         let address = address_of(self.blocks, hand.thread, hand.head, *duty);
-        let index = place_at(address);
+        let index = self.cells.place_at(address);
         let access = access_of(self.blocks, *duty, hand.thread, hand.head);
         let word = self.operate::<B>(&mut hand.seat, index, access);
         let found = said_by(*duty, word);

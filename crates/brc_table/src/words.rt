@@ -13,8 +13,9 @@ ghost use Rattle.brc_table.specs.Places.{word_count};
 use crate::carried::{nothing_carried, spares_of};
 use crate::first_words::first_words;
 use crate::hand::Hand;
+use crate::place::Cells;
 use crate::rule::Counting;
-use crate::size::{CELLS, mark_words_of};
+use crate::size::{TEXT_CELLS, mark_words_of};
 use crate::view::View;
 use atomic_table::Table;
 use brc_effect::Blocks;
@@ -29,6 +30,7 @@ use std::marker::Model;
 pub struct Words<T: Drop> {
     pub(crate) table: Table<Option<T>, View, Layout, Counting, Global>,
     pub(crate) blocks: Blocks,
+    pub(crate) cells: Cells,
 }
 
 impl<T: Drop> Model for Words<T> {
@@ -43,7 +45,7 @@ impl<T: Drop> Model for Words<T> {
 
     ghost invariant = { λ w. (w.blocks ≡ w.table.shared.key)
         × (w.table.shared.table_id.words ≡ word_count w.table.shared.key)
-        × IsPlainLayout w.table.shared.key };
+        × IsPlainLayout w.table.shared.key × (w.cells ≡ w.table.shared.key) };
 }
 
 impl<T: Drop> Words<T> {
@@ -62,7 +64,7 @@ impl<T: Drop> Words<T> {
         let layout = Layout {
             workers,
             rows,
-            cells: CELLS,
+            cells: TEXT_CELLS,
             immortal_lists: 0,
         };
         let words = first_words(alloc, layout)?;
@@ -79,8 +81,12 @@ impl<T: Drop> Words<T> {
             spares,
             carried,
         };
-        let blocks = Blocks::new(layout);
-        Ok((Words { table, blocks }, main))
+        let words = Words {
+            table,
+            blocks: Blocks::new(layout),
+            cells: Cells::of(layout),
+        };
+        Ok((words, main))
     }
 
     /// Returns how many rows the thread's block has: 2 for main, else as many as each worker has.

@@ -17,7 +17,8 @@ step_from-requires-clause-there g c = (
   subst (λ (l : Layout). c.args.row < row_count l) c.requires.table.1
       (change_there c.args.hand.now.view c.args.row c.rows_are_there.ensures
       (load_changes c.args.hand.now.view c.args.row c.requires.loads)),
-  known_low c.args.hand.now.view c.args.row c.args.cell c.rows_are_there.ensures c.requires.knows,
+  subst (λ (l : Layout). c.args.cell < l.cells) c.requires.table.1
+      (known_low c.args.hand.now.view c.args.row c.args.cell c.rows_are_there.ensures c.requires.knows),
 )
 
 pub step_from-requires-clause-alive : goal.step_from-requires-clause-alive

@@ -7,7 +7,8 @@ use Rattle.brc_table.proofs.words.Words.cell_swap.Goals as goal
 
 pub swap_item-requires-clause-cell : goal.swap_item-requires-clause-cell
 swap_item-requires-clause-cell g c =
-    known_low c.args.hand.now.view c.args.row c.args.cell c.rows_are_there.ensures c.requires.knows
+    subst (λ (l : Layout). c.args.cell < l.cells) c.requires.table.1
+    (known_low c.args.hand.now.view c.args.row c.args.cell c.rows_are_there.ensures c.requires.knows)
 
 pub swap_item-requires-clause-there : goal.swap_item-requires-clause-there
 swap_item-requires-clause-there g c =

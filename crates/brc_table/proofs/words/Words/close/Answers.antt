@@ -28,6 +28,7 @@ invariant_of-result g c =
           (cells_name_rows c.items_are_there.ensures key last.0.words last.0.views holds.stands)),
       (slots_counts c.close_with.result.slots).0
           ∙ (sym last.3 ∙ (holds.slots.rows ∙ ap row_count (holds.stands.layout_is ∙ sym is))),
+      c.self.invariant.3 ∙ sym is,
     )
 
 pub returns-clause-ends : goal.returns-clause-ends

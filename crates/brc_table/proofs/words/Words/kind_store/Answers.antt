@@ -1,12 +1,15 @@
-use Rattle.std.proofs.Common.{◌≡◌, ℕ, ◌∙◌, sym, ap}
+use Rattle.std.proofs.Common.{◌≡◌, ◌<◌, ℕ, ◌∙◌, sym, ap, subst}
+use Rattle.std.proofs.lemmas.Bool.{ltb-true}
 use Rattle.brc_model.specs.declared.layout.Layout.{Layout}
-use Rattle.brc_model.specs.Layout.{row_at}
+use Rattle.brc_table.specs.Accesses.{row_of}
+use Rattle.brc_model.specs.Layout.{block_size, row_at, row_count}
 use Rattle.brc_table.specs.Hands.{HandState, TableState}
 use Rattle.brc_table.specs.Views.{next_row}
 use Rattle.brc_model.specs.declared.duty.Duty.TheVariants.{BirthKind}
 use Rattle.brc_model.specs.declared.duty.Holding.TheVariants.{AsCaller}
 use Rattle.brc_table.proofs.Becoming.{bearing_becomes}
 use Rattle.brc_table.proofs.Duties.{runs_on}
+use Rattle.brc_table.proofs.ExitDuties.{low_row}
 use Rattle.brc_table.proofs.words.Words.kind_store.Goals as goal
 
 pub step_from-requires-clause-begins : goal.step_from-requires-clause-begins
@@ -31,3 +34,15 @@ step_from-requires-clause-next g c =
     (c.layout.ensures
     ∙ (c.self.invariant.0 ∙ (ap (λ (w : TableState). w.layout) c.self.view_is ∙ sym c.requires.table.1))))) in
     ap (λ (x : ℕ). BirthKind x AsCaller c.args.word) (sym row_is)
+
+-- It is there, since the hand has a row left.
+pub step_from-requires-clause-there : goal.step_from-requires-clause-there
+step_from-requires-clause-there g c =
+    let v = c.args.hand.now.view in
+    let is = step_from-requires-clause-next g c in
+    let row_is : next_row v ≡ c.row_at-row.result = ap row_of is in
+    subst (λ (x : ℕ). x < row_count c.args.self.now.layout) row_is
+    (subst (λ (l : Layout). next_row v < row_count l) c.requires.table.1
+    (low_row v.layout v.thread v.actor.used c.rows_are_there.ensures.thread
+    (subst (λ (l : Layout). l.immortal_lists ≡ 0) (sym c.requires.table.1) c.layout_is_plain.ensures.immortals)
+    (ltb-true v.actor.used (block_size v.layout v.thread) c.requires.room)))

@@ -1,4 +1,4 @@
-use Rattle.std.proofs.Common.{ℕ, ◌<◌, ◌≤◌, None, [], ◌∷◌, map, replicate, refl, sym, subst}
+use Rattle.std.proofs.Common.{ℕ, ◌<◌, ◌≤◌, None, [], ◌∷◌, map, replicate, refl, sym, subst, arith}
 use mathlib.Core.Option.{some}
 use Rattle.brc_table.specs.Homes.{TableStands}
 use Rattle.brc_table.specs.Views.{main_view}
@@ -17,7 +17,8 @@ is_plain workers rows some_workers some_rows = record {
   few_workers = some_workers.1;
   some_rows = some_rows.0;
   few_rows = some_rows.1;
-  cells = refl;
+  some_cells = omega arith;
+  few_cells = omega arith;
   immortals = refl;
 }
 

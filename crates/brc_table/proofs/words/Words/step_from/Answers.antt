@@ -66,8 +66,9 @@ operate-word-requires-clause-there g c =
     let layout_is = c.self.invariant.0 ∙ ap (λ (w : TableState). w.layout) c.self.view_is in
     let address = address_of layout c.hand.inside.thread c.hand.inside.head c.args.duty.now in
     subst (λ (i : ℕ). i < c.args.self.now.table.words)
-    (sym (c.place_at-index.ensures ∙ ap place c.address_of-address.ensures))
-    (subst (λ (n : ℕ). place address < n) (sym (c.words_are_there.ensures ∙ ap word_count (sym layout_is)))
+    (sym (c.place_at-index.ensures ∙ (ap (place c.self.inside.cells) c.address_of-address.ensures
+    ∙ ap (λ (l : Layout). place l address) (c.self.invariant.3 ∙ sym c.self.invariant.0))))
+    (subst (λ (n : ℕ). place layout address < n) (sym (c.words_are_there.ensures ∙ ap word_count (sym layout_is)))
     (place_within layout address
     (subst IsPlainLayout (sym layout_is) c.layout_is_plain.ensures)
     (word_here c.args.duty.now layout c.args.self.now.layout c.hand.inside.thread v.thread c.hand.inside.head
@@ -92,11 +93,13 @@ operate-word-requires-clause-allowed g c =
     c.self.invariant.0 ∙ (ap (λ (w : TableState). w.layout) c.self.view_is
     ∙ (sym c.requires.table.1 ∙ (ap (λ (h : HandState). h.view.layout) (sym view_is)
     ∙ sym (ap (λ (v : View). v.layout) same)))) in
-    let index : c.place_at-index.result ≡ place (address_of u.layout u.thread u.actor.head d) =
-    c.place_at-index.ensures ∙ ap place c.address_of-address.ensures
-    ∙ (ap (λ (l : Layout). place (address_of l hand.thread hand.head d)) layout
-    ∙ (ap (λ (t : ℕ). place (address_of u.layout t hand.head d)) thread
-    ∙ ap (λ (k : ℕ). place (address_of u.layout u.thread k d)) head)) in
+    let cells : c.self.inside.cells ≡ c.self.inside.blocks = c.self.invariant.3 ∙ sym c.self.invariant.0 in
+    let index : c.place_at-index.result ≡ place u.layout (address_of u.layout u.thread u.actor.head d) =
+    c.place_at-index.ensures ∙ ap (place c.self.inside.cells) c.address_of-address.ensures
+    ∙ (ap (λ (l : Layout). place l (address_of c.self.inside.blocks hand.thread hand.head d)) cells
+    ∙ (ap (λ (l : Layout). place l (address_of l hand.thread hand.head d)) layout
+    ∙ (ap (λ (t : ℕ). place u.layout (address_of u.layout t hand.head d)) thread
+    ∙ ap (λ (k : ℕ). place u.layout (address_of u.layout u.thread k d)) head))) in
     next_permitted c.model_laws.ensures words c.args.hand.now begins
     words.layout words.table.slots hand.seat.id c.place_at-index.result me
     (record { layout_is = refl; view_is = ap (λ (h : HandState). h.view) view_is }) c.requires.begins
