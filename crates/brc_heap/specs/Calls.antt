@@ -4,7 +4,7 @@ use Rattle.std.specs.Prelude.{◌≡◌, ◌≢◌, ◌⊎◌, ◌<◌, ◌≤�
 use Rattle.brc_word.specs.Words.{owner_part, most_local, half, local_part, is_immortal_word, free_word}
 use Rattle.brc_lang.specs.declared.kind.Kind.{Kind}
 use Rattle.brc_lang.specs.declared.kind.Kind.TheVariants as kinds
-use Rattle.brc_model.specs.Limits.{cell_limit}
+use Rattle.brc_model.specs.Limits.{text_cells}
 use Rattle.brc_model.specs.declared.duty.Duty.{Duty}
 use Rattle.brc_model.specs.declared.duty.Reason.{Reason}
 use Rattle.brc_model.specs.declared.duty.Reason.TheVariants.{Own}
@@ -131,7 +131,7 @@ kind_word kind arg = kind_number kind * half + arg
 -- sockets have none.
 abbrev pub IsBornWith : Kind → ℕ → Type 0
 IsBornWith kinds.Num arg = Unit {0}
-IsBornWith kinds.List arg = arg ≤ cell_limit
+IsBornWith kinds.List arg = arg ≤ text_cells
 IsBornWith kinds.File arg = arg ≡ 0
 IsBornWith kinds.Sock arg = arg ≡ 0
 IsBornWith _ arg = ⊥

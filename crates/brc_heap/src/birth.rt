@@ -5,7 +5,6 @@ ghost use Rattle.brc_word.specs.Words.{kind_part};
 ghost use Rattle.brc_model.specs.Duties.{cells_of, resources_of};
 ghost use Rattle.brc_model.specs.Kinds.{kind_number, kind_of_word, is_counted_kind};
 ghost use Rattle.brc_model.specs.Layout.{IsCounted};
-ghost use Rattle.brc_model.specs.Limits.{cell_limit};
 ghost use Rattle.brc_model.specs.Machine.{has_room};
 ghost use Rattle.brc_table.specs.Homes.{resources};
 ghost use Rattle.brc_table.specs.Views.{next_row};
@@ -64,7 +63,7 @@ impl<T: Drop> Heap<T> {
         requires running { IsRunning hand.old.view }
         requires room { has_room hand.old.view.layout hand.old.view.thread hand.old.view.actor.used ≡ true }
         requires kind { is_counted_kind (kind_of_word word) ≡ true }
-        requires cells { cells_of word ≤ cell_limit }
+        requires cells { cells_of word ≤ hand.old.view.layout.cells }
         requires some { 0 < word }
         requires resource { resources resource ≡ resources_of word }
         ensures row { result ≡ next_row hand.old.view }

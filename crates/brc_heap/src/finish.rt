@@ -3,7 +3,6 @@
 ghost use Rattle.std.specs.Prelude.{◌≡◌, ◌<◌, IfOk, IfErr, All};
 ghost use Rattle.brc_model.specs.Kinds.{kind_of_word};
 ghost use Rattle.brc_model.specs.Layout.{row_count};
-ghost use Rattle.brc_model.specs.Limits.{cell_limit};
 ghost use Rattle.brc_table.specs.Hands.{IsOf};
 ghost use Rattle.brc_table.specs.Ending.{kind_at, cell_at, slot_at};
 ghost use Rattle.brc_table.specs.Homes.{resources};
@@ -121,8 +120,8 @@ impl<T: Drop> Final<T> {
     /// Returns what a cell of the row has: the row of an object, or `None` if the cell is empty.
     pub fn cell(&self, row: u32, cell: u32) -> Option<u32>
         requires there { row < row_count self.now.layout }
-        requires cell { cell < cell_limit }
-        ensures { result ≡ named_row (cell_at self.now.words row cell) }
+        requires cell { cell < self.now.layout.cells }
+        ensures { result ≡ named_row (cell_at self.now.layout self.now.words row cell) }
     {
         self.closed.layout_is_plain();
         let word = self.closed.cell_word(row, cell);

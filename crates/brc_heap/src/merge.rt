@@ -1,14 +1,13 @@
 //! Merging an object's two counts, so that nobody owns it any more.
 
 ghost use Rattle.std.specs.Prelude.{◌≡◌, ◌≢◌, ◌%◌, List, [], ◌∷◌, ◌++◌, ℕ, None, slice_set};
-ghost use Rattle.brc_model.specs.Limits.{row_limit};
 ghost use Rattle.brc_model.specs.declared.duty.Duty.{Duty};
 ghost use Rattle.brc_model.specs.declared.duty.Reason.{Reason};
 ghost use Rattle.brc_model.specs.declared.duty.Reason.TheVariants.{Own};
 ghost use Rattle.brc_model.specs.declared.duty.Duty.TheVariants.{MergeSwap, MergeLoad};
 ghost use Rattle.brc_table.specs.Turns.{MayGoOn, turned_to};
 ghost use Rattle.brc_table.specs.Views.{view_after, resumed, turned, work_about};
-ghost use Rattle.brc_table.specs.Hands.{IsOf, carried_of, KeepsButView};
+ghost use Rattle.brc_table.specs.Hands.{IsOf, carried_of, carried_place, KeepsButView};
 ghost use Rattle.brc_table.specs.Calls.{CanAct};
 ghost use Rattle.brc_heap.specs.Steps.{HasStepped, ended};
 ghost use Rattle.brc_heap.specs.Tries.{MergesNext, CarriesNext, merge_dies, carries_of, swap_left, still_carried};
@@ -54,12 +53,13 @@ impl<T: Drop> Heap<T> {
             → (carried : ℕ) × MergeIsBegun r hand.new row carried }
         ensures done { result ≢ MergeStep.Again → carried_of hand.new row ≡ None }
         ensures others { hand.new.carried
-            ≡ slice_set hand.old.carried (row % row_limit) (carried_of hand.new row) }
+            ≡ slice_set hand.old.carried (carried_place hand.old.view.layout row) (carried_of hand.new row) }
         ensures left { (r : Reason) → Merges r hand.old row
             → (carried : ℕ) × Leaves row (merge_left row carried r result) hand.old.view hand.new.view }
         ensures references { hand.new.view.references ≡ hand.old.view.references }
     {
-        match hand.carried(row) {
+        hand.rows_are_there();
+        match self.words().carried(hand, row) {
             Some(carried) => self.merge_carried(hand, row, carried),
             None => self.merge_first(hand, row),
         }
@@ -79,7 +79,7 @@ impl<T: Drop> Heap<T> {
             → (carried : ℕ) × MergeIsBegun r hand.new row carried }
         ensures done { result ≢ MergeStep.Again → carried_of hand.new row ≡ None }
         ensures others { hand.new.carried
-            ≡ slice_set hand.old.carried (row % row_limit) (carried_of hand.new row) }
+            ≡ slice_set hand.old.carried (carried_place hand.old.view.layout row) (carried_of hand.new row) }
         ensures left { (r : Reason) → MergeIsFirst r hand.old row
             → (carried : ℕ) × Leaves row (merge_left row carried r result) hand.old.view hand.new.view }
         ensures references { hand.new.view.references ≡ hand.old.view.references }
@@ -104,13 +104,14 @@ impl<T: Drop> Heap<T> {
             → result ≡ MergeStep.Again → MergeIsBegun r hand.new row carried }
         ensures done { result ≢ MergeStep.Again → carried_of hand.new row ≡ None }
         ensures others { hand.new.carried
-            ≡ slice_set hand.old.carried (row % row_limit) (carried_of hand.new row) }
+            ≡ slice_set hand.old.carried (carried_place hand.old.view.layout row) (carried_of hand.new row) }
         ensures left { (r : Reason) → work_about row hand.old.view ≡ MergeLoad row carried r ∷ []
             → Leaves row (merge_left row carried r result) hand.old.view hand.new.view }
         ensures references { hand.new.view.references ≡ hand.old.view.references }
     {
+        hand.rows_are_there();
         let step = self.merge(hand, row, carried, Work::Aside);
-        hand.remember(row, still_carried(step, carried));
+        self.words().remember(hand, row, still_carried(step, carried));
         step
     }
 

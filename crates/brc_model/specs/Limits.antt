@@ -27,6 +27,10 @@ row_limit = 1024
 abbrev pub immortal_limit : ℕ
 immortal_limit = 16
 
+-- a bound of the rows of each block, main's and a worker's
+abbrev pub block_limit : ℕ
+block_limit = front_rows + immortal_limit + row_limit
+
 -- the most rows in all
 abbrev pub total_limit : ℕ
 total_limit = front_rows + worker_limit * row_limit + immortal_limit

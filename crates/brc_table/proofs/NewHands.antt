@@ -5,7 +5,7 @@ use Rattle.std.proofs.lemmas.Bool.{cases_Bool, eqb-true, false≢true}
 use Rattle.atomic_table.specs.Table.{Me}
 use Rattle.brc_model.specs.declared.layout.Layout.{Layout}
 use Rattle.brc_model.specs.Layout.{front_rows, root_row}
-use Rattle.brc_model.specs.Limits.{row_limit}
+use Rattle.brc_model.specs.Limits.{block_limit}
 use Rattle.brc_model.specs.Machine.{is_running}
 use Rattle.brc_model.specs.Counting.{IsPlainLayout}
 use Rattle.brc_table.specs.declared.view.View.{View}
@@ -63,12 +63,12 @@ abbrev pub NewFits : {T A : Type 0} → ℕ → ℕ → List (Option A) → List
 NewFits thread used spares counts me =
     (rows_of me.1 ≡ me.0.taken) × (thread ≡ me.0.thread) × (true ≡ is_running me.0.actor.status) × (0 ≡ me.0.actor.head)
     × (used ≡ me.0.actor.used)
-    × RowsAreThere me.0 × HasSpares spares me.0 × IsGivenBy spares me.0 × (length counts ≡ row_limit)
+    × RowsAreThere me.0 × HasSpares spares me.0 × IsGivenBy spares me.0 × (length counts ≡ block_limit)
 
 pub main_fits : {T A : Type 0} (layout : Layout) (spares : List (Option A)) (counts : List (Option ℕ))
     (me : Me (Option T) View)
     → IsPlainLayout layout → length spares ≡ layout.workers
-    → ((worker : ℕ) → is_spent (slice_get spares worker) ≡ false) → counts ≡ replicate row_limit None
+    → ((worker : ℕ) → is_spent (slice_get spares worker) ≡ false) → counts ≡ replicate block_limit None
     → me ≡ (main_view layout, []) → NewFits 0 front_rows spares counts me
 main_fits {T} layout spares counts me plain long left none is =
     subst (λ (it : Me (Option T) View). NewFits 0 front_rows spares counts it) (sym is) (
@@ -84,7 +84,7 @@ main_fits {T} layout spares counts me plain long left none is =
     )
 
 pub worker_fits : {T A : Type 0} (layout : Layout) (thread : ℕ) (spares : List (Option A)) (counts : List (Option ℕ))
-    (me : Me (Option T) View) → 0 < thread → thread ≤ layout.workers → spares ≡ [] → counts ≡ replicate row_limit None
+    (me : Me (Option T) View) → 0 < thread → thread ≤ layout.workers → spares ≡ [] → counts ≡ replicate block_limit None
     → me ≡ (worker_view layout thread, []) → NewFits thread 0 spares counts me
 worker_fits {T} layout thread spares counts me some known empty none is =
     subst (λ (it : Me (Option T) View). NewFits thread 0 spares counts it) (sym is) (

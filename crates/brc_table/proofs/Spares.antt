@@ -4,7 +4,7 @@ use Rattle.std.specs.Prelude.{◌==◌, ◌||◌, slice_get, slice_index_or}
 use Rattle.std.proofs.lemmas.Bool.{eq-eqb, ne_eqb, cases_Bool, false≢true}
 use Rattle.std.proofs.lemmas.Bool.Decides.{eqb_tells}
 use Rattle.std.proofs.lemmas.List.{length-replicate}
-use Rattle.brc_model.specs.Limits.{row_limit}
+use Rattle.brc_model.specs.Limits.{block_limit}
 use Rattle.brc_table.specs.declared.view.View.{View}
 use Rattle.brc_table.specs.Spares.{is_spent, is_spent_for}
 use Rattle.brc_table.specs.Views.{is_given, IsGivenBy, giving}
@@ -69,12 +69,12 @@ given_by spares v t some known says k = elim (eqb_tells k t) [
 -- ---- what a hand carries
 
 -- A new hand has room for each row of its block.
-pub room : (counts : List (Option ℕ)) → counts ≡ replicate row_limit None → length counts ≡ row_limit
-room counts is = ap length is ∙ length-replicate {0} {A = Option ℕ} row_limit None
+pub room : (counts : List (Option ℕ)) → counts ≡ replicate block_limit None → length counts ≡ block_limit
+room counts is = ap length is ∙ length-replicate {0} {A = Option ℕ} block_limit None
 
 -- It carries nothing.
-pub nothing : (counts : List (Option ℕ)) → counts ≡ replicate row_limit None → (x : ℕ)
-    → slice_index_or counts (x % row_limit) None ≡ None
-nothing counts is x =
-    ap (λ (cs : List (Option ℕ)). slice_index_or cs (x % row_limit) None) is
-    ∙ get_or-same row_limit (x % row_limit) None
+pub nothing : (counts : List (Option ℕ)) → counts ≡ replicate block_limit None → (k : ℕ)
+    → slice_index_or counts k None ≡ None
+nothing counts is k =
+    ap (λ (cs : List (Option ℕ)). slice_index_or cs k None) is
+    ∙ get_or-same block_limit k None

@@ -1,11 +1,10 @@
 -- What contracts see of a table and of a hand.
-use Rattle.std.specs.Prelude.{◌≡◌, ℕ, suc, ◌<◌, ◌≤◌, ◌^◌, ◌%◌, ◌⊎◌, true, Option, None, Some, List, [], ◌∷◌, slice_index_or, count_by}
+use Rattle.std.specs.Prelude.{◌≡◌, ℕ, suc, ◌<◌, ◌≤◌, ◌^◌, ◌⊎◌, true, Option, None, Some, List, [], ◌∷◌, slice_index_or, count_by}
 use Rattle.atomic_table.specs.Seated.{TableId}
 use Rattle.brc_model.specs.declared.actor.Status.TheVariants.{Running}
 use Rattle.brc_model.specs.declared.duty.Duty.{Duty}
 use Rattle.brc_model.specs.declared.layout.Layout.{Layout}
-use Rattle.brc_model.specs.Layout.{row_count, is_immortal_row}
-use Rattle.brc_model.specs.Limits.{row_limit}
+use Rattle.brc_model.specs.Layout.{row_count, block_of, index_of, is_immortal_row}
 use Rattle.brc_model.specs.OpenWork.{may_wait}
 use Rattle.brc_table.specs.declared.view.View.{View}
 use Rattle.brc_model.specs.Knowledge.{is_retain}
@@ -33,9 +32,13 @@ pub record KeepsButView (h k : HandState) : Type 0 where
   pub carried : k.carried ≡ h.carried
   pub slots : k.slots ≡ h.slots
 
+-- where a hand keeps what it carries from the row: two rows of one block have places of their own
+abbrev pub carried_place : Layout → ℕ → ℕ
+carried_place layout x = index_of layout (block_of layout x) x
+
 -- the local count that the hand carries from the row, if it has begun a merge of it
 abbrev pub carried_of : HandState → ℕ → Option ℕ
-carried_of hand x = slice_index_or hand.carried (x % row_limit) None
+carried_of hand x = slice_index_or hand.carried (carried_place hand.view.layout x) None
 
 -- The hand has begun no merge.
 abbrev pub CarriesNothing : HandState → Type 0

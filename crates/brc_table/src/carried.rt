@@ -2,15 +2,19 @@
 //! hands that it gives out.
 
 ghost use Rattle.std.specs.Prelude.{◌≡◌, ◌-◌, ◌<◌, ◌≤◌, ℕ, IfOk, None, false, length, replicate, slice_get, slice_set};
-ghost use Rattle.brc_model.specs.Limits.{row_limit};
+ghost use Rattle.brc_model.specs.Limits.{block_limit};
+ghost use Rattle.brc_model.specs.Layout.{row_count};
+ghost use Rattle.brc_table.specs.Hands.{IsOf, carried_of, carried_place};
 ghost use Rattle.brc_table.specs.Spares.{is_spent, is_spent_for};
 
+use crate::hand::Hand;
+use crate::words::Words;
 use std::alloc::{AllocError, Global};
 
-/// The most rows of a thread's block.
-pub(crate) const BLOCK: usize = 1024;
+/// A bound of the rows of each block: of a worker's, and of main's.
+const BLOCK: usize = 2 + 16 + 1024;
 
-/// The local counts that a hand carries, by the row modulo the most rows of a block.
+/// The local counts that a hand carries, by the row's index in its block.
 ///
 /// They have memory of their own, so that a hand stays small: it is moved from call to call and from thread to thread.
 pub(crate) type Carried = Box<[Option<u32>; BLOCK]>;
@@ -19,12 +23,12 @@ pub(crate) type Carried = Box<[Option<u32>; BLOCK]>;
 #[derive(Drop)]
 pub(crate) struct Spare {
     pub(crate) carried: Carried,
-    pub(crate) ghost nothing: { carried.value ≡ replicate row_limit None },
+    pub(crate) ghost nothing: { carried.value ≡ replicate block_limit None },
 }
 
 /// Returns memory in which nothing is carried.
 pub(crate) fn nothing_carried(alloc: Global) -> Result<Carried, AllocError>
-    ensures { IfOk result (λ counts. counts.value ≡ replicate row_limit None) }
+    ensures { IfOk result (λ counts. counts.value ≡ replicate block_limit None) }
 {
     Ok(Box::new(alloc, [None; BLOCK])?)
 }
@@ -61,5 +65,33 @@ pub(crate) fn take_spare(spares: &mut Vec<Option<Spare>>, worker: u8) -> Spare
     match spares[usize::from(worker) - 1].take() {
         Some(spare) => spare,
         None => unreachable!(),
+    }
+}
+
+impl<T: Drop> Words<T> {
+    /// Returns the local count that the hand carries from the row, if it has begun a merge of it.
+    pub fn carried(&self, hand: &Hand<T>, row: u32) -> Option<u32>
+        requires table { IsOf self.now hand.now }
+        requires there { row < row_count self.now.layout }
+        ensures { result ≡ carried_of hand.now row }
+    {
+        self.layout_is_plain();
+        let (_, index) = self.blocks.locate(row);
+        hand.carried[index as usize]
+    }
+
+    /// Remembers what the hand carries from the row, or that it carries nothing.
+    pub fn remember(&self, hand: &mut Hand<T>, row: u32, carried: Option<u32>)
+        requires table { IsOf self.now hand.old }
+        requires there { row < row_count self.now.layout }
+        ensures carried { hand.new.carried
+            ≡ slice_set hand.old.carried (carried_place hand.old.view.layout row) carried }
+        ensures row { carried_of hand.new row ≡ carried }
+        ensures same { (hand.new.table ≡ hand.old.table) × (hand.new.view ≡ hand.old.view)
+            × (hand.new.slots ≡ hand.old.slots) }
+    {
+        self.layout_is_plain();
+        let (_, index) = self.blocks.locate(row);
+        hand.carried[index as usize] = carried;
     }
 }

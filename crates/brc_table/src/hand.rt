@@ -1,13 +1,11 @@
 //! The right of one thread to act on a table.
 
-ghost use Rattle.std.specs.Prelude.{◌≡◌, ◌<◌, ◌%◌, slice_set};
-ghost use Rattle.brc_model.specs.Limits.{row_limit};
+ghost use Rattle.std.specs.Prelude.{◌≡◌, ◌<◌};
 ghost use Rattle.brc_model.specs.Machine.{is_running};
-ghost use Rattle.brc_table.specs.Hands.{carried_of};
 ghost use Rattle.brc_table.specs.Uses.{slot_rows};
 ghost use Rattle.brc_table.specs.Views.{RowsAreThere, is_given};
 
-use crate::carried::{BLOCK, Carried, Spare, is_spent};
+use crate::carried::{Carried, Spare, is_spent};
 use crate::view::View;
 use atomic_table::Seat;
 use std::marker::Model;
@@ -33,7 +31,7 @@ pub struct Hand<T> {
 
 impl<T> Model for Hand<T> {
     ghost use Rattle.std.specs.Prelude.{◌≡◌, length};
-    ghost use Rattle.brc_model.specs.Limits.{row_limit};
+    ghost use Rattle.brc_model.specs.Limits.{block_limit};
     ghost use Rattle.brc_model.specs.Machine.{is_running};
     ghost use Rattle.brc_table.specs.Hands.{HandState};
     ghost use Rattle.brc_table.specs.Homes.{rows_of, held_in};
@@ -56,7 +54,7 @@ impl<T> Model for Hand<T> {
         × RowsAreThere h.seat.me.0
         × HasSpares h.spares.items h.seat.me.0
         × IsGivenBy h.spares.items h.seat.me.0
-        × (length h.carried.value ≡ row_limit) };
+        × (length h.carried.value ≡ block_limit) };
 }
 
 impl<T> Hand<T> {
@@ -93,23 +91,6 @@ impl<T> Hand<T> {
         ensures { result ≡ is_given thread self.now.view }
     {
         is_spent(self.spares.as_slice(), thread)
-    }
-
-    /// Returns the local count that the hand carries from the row, if it has begun a merge of it.
-    pub fn carried(&self, row: u32) -> Option<u32>
-        ensures { result ≡ carried_of self.now row }
-    {
-        self.carried[row as usize % BLOCK]
-    }
-
-    /// Remembers what the hand carries from the row, or that it carries nothing.
-    pub fn remember(&mut self, row: u32, carried: Option<u32>)
-        ensures carried { self.new.carried ≡ slice_set self.old.carried (row % row_limit) carried }
-        ensures row { carried_of self.new row ≡ carried }
-        ensures same { (self.new.table ≡ self.old.table) × (self.new.view ≡ self.old.view)
-            × (self.new.slots ≡ self.old.slots) }
-    {
-        self.carried[row as usize % BLOCK] = carried;
     }
 
     /// States that the hand has taken the slots that its view lists.

@@ -6,7 +6,7 @@ ghost use Rattle.brc_model.specs.declared.state.VarState.TheVariants.{Owned};
 ghost use Rattle.brc_model.specs.Duties.{resources_of};
 ghost use Rattle.brc_model.specs.Machine.{has_room};
 ghost use Rattle.brc_model.specs.VarStates.{put};
-ghost use Rattle.brc_model.specs.Limits.{cell_limit};
+ghost use Rattle.brc_model.specs.Limits.{text_cells};
 ghost use Rattle.std.specs.Prelude.{◌≤◌};
 ghost use Rattle.brc_table.specs.Hands.{IsOf};
 ghost use Rattle.brc_table.specs.Homes.{resources};
@@ -55,7 +55,7 @@ impl<'h, T: Drop> Worker<'h, T> {
         otherwise: u8,
     ) -> Exit
         requires may { MayDo self.now (instructions.List to cells otherwise) rows.old hand.old }
-        requires few { cells ≤ cell_limit }
+        requires few { cells ≤ text_cells }
         ensures of { IsOf self.now hand.new }
         ensures done { HasDone (instructions.List to cells otherwise) result rows.old hand.old rows.new hand.new }
         ensures made { Performs [] (instructions.List to cells otherwise) result rows.old hand.old.view rows.new

@@ -81,4 +81,5 @@ invariant_of-result g c =
 
 -- It carries nothing.
 pub returns-clause-none : goal.returns-clause-none
-returns-clause-none g c = nothing c.take_spare-spare.result.carried.value c.take_spare-spare.result.nothing
+returns-clause-none g c = λ x.
+    nothing c.take_spare-spare.result.carried.value c.take_spare-spare.result.nothing _

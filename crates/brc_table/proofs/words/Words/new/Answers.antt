@@ -38,4 +38,4 @@ invariant_of-main g c =
     c.in_ok-spares.ensures.count c.in_ok-spares.ensures.left c.in_ok-carried.ensures c.in_ok-table.ensures.4
 
 pub returns-clause-none : goal.returns-clause-none
-returns-clause-none g c = nothing c.in_ok-carried.carried.value c.in_ok-carried.ensures
+returns-clause-none g c = λ x. nothing c.in_ok-carried.carried.value c.in_ok-carried.ensures _
