@@ -1,7 +1,7 @@
 -- The rows of duties are there, and what comes next as a birth ends.
-use Rattle.std.proofs.Common.{◌≡◌, ◌≢◌, ℕ, ◌+◌, ◌*◌, ◌<◌, ◌≤◌, ◌⊎◌, true, Bool, List, [], ◌∷◌, ◌++◌, inl, inr, refl, sym, ap, ◌∙◌, subst, arith}
+use Rattle.std.proofs.Common.{◌≡◌, ◌≢◌, ℕ, ◌+◌, ◌*◌, ◌<◌, ◌≤◌, true, Bool, List, [], ◌∷◌, inl, inr, refl, sym, ap, ◌∙◌, subst, arith}
 use Rattle.std.specs.Prelude.{◌==◌, ◌||◌, cond}
-use Rattle.std.specs.List.{filter, list_any}
+use Rattle.std.specs.List.{list_any}
 use Rattle.std.proofs.lemmas.Bool.{cases_Bool, eq-eqb}
 use prog.Atomic.{either}
 use Rattle.brc_model.specs.declared.duty.Duty.{Duty}
@@ -19,7 +19,7 @@ use Rattle.brc_table.specs.declared.view.View.{View}
 use Rattle.brc_table.specs.KnownWords.{knows_kind}
 use Rattle.brc_table.specs.Accesses.{IsNext}
 use Rattle.brc_table.specs.Uses.{IsDue}
-use Rattle.brc_table.specs.Views.{RowsAreThere, slot_filled_by, work_about}
+use Rattle.brc_table.specs.Views.{RowsAreThere, slot_filled_by}
 use Rattle.brc_table.specs.Hands.{HoldsOne, MayUse, MayRead}
 use Rattle.brc_table.specs.Calls.{OwnsFirst}
 use Rattle.brc_table.proofs.RowsThere.{immortal_there}
@@ -53,39 +53,6 @@ either_is found old new w word same leaves = elim (cases_Bool (found == w)) [
 ]
 
 -- ---- the row of a duty
-
-either_list : (x : ℕ) (ds es : List Duty) (d : Duty) (rest : List Duty) → filter (is_about x) (ds ++ es) ≡ d ∷ rest
-    → (list_any (is_about x) ds ≡ true) ⊎ (list_any (is_about x) es ≡ true)
-either_list x [] [] d rest is = let wrong : [] ≡ d ∷ rest = is in absurd cc
-either_list x [] (e ∷ es) d rest is = elim (cases_Bool (is_about x e)) [
-  | inl this ↦ inr (ap (λ (b : Bool). b || list_any (is_about x) es) this)
-  | inr other ↦
-      let later : filter (is_about x) es ≡ d ∷ rest =
-      sym (ap (λ (b : Bool). cond b (e ∷ filter (is_about x) es) (filter (is_about x) es)) other) ∙ is in
-      elim (either_list x [] es d rest later) [
-        | inl none ↦ absurd cc
-        | inr there ↦ inr (ap (λ (b : Bool). b || list_any (is_about x) es) other ∙ there)
-      ]
-]
-either_list x (e ∷ ds) es d rest is = elim (cases_Bool (is_about x e)) [
-  | inl this ↦ inl (ap (λ (b : Bool). b || list_any (is_about x) ds) this)
-  | inr other ↦
-      let later : filter (is_about x) (ds ++ es) ≡ d ∷ rest =
-      sym (ap (λ (b : Bool). cond b (e ∷ filter (is_about x) (ds ++ es)) (filter (is_about x) (ds ++ es))) other)
-      ∙ is in
-      elim (either_list x ds es d rest later) [
-        | inl there ↦ inl (ap (λ (b : Bool). b || list_any (is_about x) ds) other ∙ there)
-        | inr there ↦ inr there
-      ]
-]
-
--- A row about which a hand has work is there.
-pub work_there : (v : View) (x : ℕ) (d : Duty) (rest : List Duty) → RowsAreThere v → work_about x v ≡ d ∷ rest
-    → x < row_count v.layout
-work_there v x d rest rows is = elim (either_list x v.actor.agenda v.actor.aside d rest is) [
-  | inl next ↦ rows.agenda x next
-  | inr waiting ↦ rows.aside x waiting
-]
 
 -- The row of a hand's first duty is there.
 pub first_there : (v : View) (x : ℕ) (d : Duty) (rest : List Duty) → RowsAreThere v → v.actor.agenda ≡ d ∷ rest

@@ -16,6 +16,7 @@ giving_there v t rows = record {
   held = λ x held. rows.held x (omega (arith, held, count_less root_row x v.references));
   agenda = rows.agenda;
   aside = rows.aside;
+  work = rows.work;
   head = rows.head;
   cells = rows.cells;
   locked = rows.locked;

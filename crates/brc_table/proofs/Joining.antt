@@ -93,6 +93,7 @@ joins_there v w old = record {
   held = old.held;
   agenda = old.agenda;
   aside = old.aside;
+  work = old.work;
   head = old.head;
   cells = old.cells;
   locked = old.locked;

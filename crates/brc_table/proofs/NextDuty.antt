@@ -29,7 +29,7 @@ use Rattle.brc_table.specs.Uses.{first_use, first_due, held_after}
 use Rattle.brc_table.specs.Views.{RowsAreThere, view_by, view_after, work_about}
 use Rattle.brc_table.proofs.Places.{mark_has}
 use Rattle.brc_table.proofs.Bare.{IsLike, alike}
-use Rattle.brc_table.proofs.Duties.{first_there, rows_few, work_there}
+use Rattle.brc_table.proofs.Duties.{first_there, rows_few}
 use Rattle.brc_table.proofs.ExitDuties.{own_row_there}
 use Rattle.brc_table.proofs.ThreadWords.{block_there}
 use Rattle.brc_table.proofs.ThreadsAllowed.{IsOnThread}
@@ -198,7 +198,7 @@ module _ (u : View) (d : Duty) (next : IsNext d u.actor.agenda) (has : HasAccess
 pub work_row_there : (v : View) (x : ℕ) (d : Duty) → RowsAreThere v → IsNext d (work_about x v)
     → x < row_count v.layout
 work_row_there v x d rows next =
-    let c = coming d (work_about x v) next in work_there v x c.first c.rest rows c.is
+    let c = coming d (work_about x v) next in rows.work x c.first c.rest c.is
 
 -- A word of an object says what it is, and so does one of a thread that is started.
 says_itself : (a : Address) (before : ℕ) → ((t : ℕ) → a ≡ ThreadWord t → 0 < before) → reading a before ≡ before

@@ -23,7 +23,6 @@ use Rattle.brc_table.specs.Homes.{times_taken, TableStands}
 use Rattle.brc_table.specs.Threads.{thread_word}
 use Rattle.brc_table.specs.Opening.{AreFirst}
 use Rattle.brc_table.proofs.Lists.{slice_get-replicate}
-use Rattle.brc_table.proofs.ThreadWords.{thread_within}
 use Rattle.brc_table.proofs.FirstWords.{thread_first, words_read}
 
 -- The only element of a list of one.

@@ -19,7 +19,7 @@ use Rattle.brc_model.specs.Machine.{Machine}
 use Rattle.brc_model.specs.CountingLaws.{AccountsAreThere, ChainsAreThere}
 use Rattle.brc_table.specs.declared.view.View.{View}
 use Rattle.brc_model.specs.declared.event.WordEvent.{WordEvent}
-use Rattle.brc_table.specs.Places.{place, HasWord}
+use Rattle.brc_table.specs.Places.{HasWord}
 use Rattle.brc_table.specs.Views.{is_given, RowsAreThere}
 use Rattle.brc_table.specs.KnownWords.{shows_kind, cell_known, starts, has_started, shows_gone}
 use Rattle.brc_table.specs.Threads.{thread_word}

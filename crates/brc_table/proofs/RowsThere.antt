@@ -1,5 +1,5 @@
 -- The rows that a hand speaks of are there.
-use Rattle.std.proofs.Common.{◌≤◌, ◌≡◌, ℕ, ◌+◌, ◌<◌, Bool, true, List, [], ◌∷◌, inl, inr, sym, ap, ◌∙◌, subst, arith}
+use Rattle.std.proofs.Common.{◌≤◌, ◌≡◌, ◌⊎◌, ℕ, ◌+◌, ◌<◌, Bool, true, cond, List, [], ◌∷◌, ◌++◌, filter, inl, inr, sym, ap, ◌∙◌, subst, arith}
 use Rattle.std.specs.Prelude.{◌==◌, ◌||◌, ◌&&◌, nat_le, nat_lt}
 use Rattle.std.specs.List.{list_any}
 use Rattle.std.proofs.lemmas.Bool.{cases_Bool, cases_lt, eqb-true, ltb-true}
@@ -16,7 +16,7 @@ use Rattle.brc_model.specs.Ranges.{AreSmall}
 use Rattle.brc_model.specs.Counting.{IsPlainLayout}
 use Rattle.brc_model.specs.CountingLaws.{AccountsAreThere, ChainsAreThere}
 use Rattle.brc_table.specs.declared.view.View.{View}
-use Rattle.brc_table.specs.Views.{NamesFewCells, RowsAreThere}
+use Rattle.brc_table.specs.Views.{NamesFewCells, RowsAreThere, work_about}
 use Rattle.brc_table.specs.Rule.{Stands}
 use Rattle.brc_table.proofs.Lists.{and_second}
 
@@ -46,6 +46,42 @@ few_named : (layout : Layout) (ds : List Duty) → AreSmall layout ds → NamesF
 few_named layout [] small = tt
 few_named layout (d ∷ ds) small = small.0.cells
 
+-- What is among the duties of two lists is in one of them.
+either_list : (x : ℕ) (ds es : List Duty) (d : Duty) (rest : List Duty) → filter (is_about x) (ds ++ es) ≡ d ∷ rest
+    → (list_any (is_about x) ds ≡ true) ⊎ (list_any (is_about x) es ≡ true)
+either_list x [] [] d rest is = let wrong : [] ≡ d ∷ rest = is in absurd cc
+either_list x [] (e ∷ es) d rest is = elim (cases_Bool (is_about x e)) [
+  | inl this ↦ inr (ap (λ (b : Bool). b || list_any (is_about x) es) this)
+  | inr other ↦
+      let later : filter (is_about x) es ≡ d ∷ rest =
+      sym (ap (λ (b : Bool). cond b (e ∷ filter (is_about x) es) (filter (is_about x) es)) other) ∙ is in
+      elim (either_list x [] es d rest later) [
+        | inl none ↦ absurd cc
+        | inr there ↦ inr (ap (λ (b : Bool). b || list_any (is_about x) es) other ∙ there)
+      ]
+]
+either_list x (e ∷ ds) es d rest is = elim (cases_Bool (is_about x e)) [
+  | inl this ↦ inl (ap (λ (b : Bool). b || list_any (is_about x) ds) this)
+  | inr other ↦
+      let later : filter (is_about x) (ds ++ es) ≡ d ∷ rest =
+      sym (ap (λ (b : Bool). cond b (e ∷ filter (is_about x) (ds ++ es)) (filter (is_about x) (ds ++ es))) other)
+      ∙ is in
+      elim (either_list x ds es d rest later) [
+        | inl there ↦ inl (ap (λ (b : Bool). b || list_any (is_about x) ds) other ∙ there)
+        | inr there ↦ inr there
+      ]
+]
+
+-- A row about which a hand has work is there.
+pub work_there : (v : View) (x : ℕ) (d : Duty) (rest : List Duty)
+    → (list_any (is_about x) v.actor.agenda ≡ true → x < row_count v.layout)
+    → (list_any (is_about x) v.actor.aside ≡ true → x < row_count v.layout) → work_about x v ≡ d ∷ rest
+    → x < row_count v.layout
+work_there v x d rest agenda aside is = elim (either_list x v.actor.agenda v.actor.aside d rest is) [
+  | inl next ↦ agenda next
+  | inr waiting ↦ aside waiting
+]
+
 pub rows_there : AccountsAreThere → ChainsAreThere → (layout : Layout) (words : List ℕ) (views : List View) (id : ℕ)
     (v : View) → Stands layout words views → get_elem? views id ≡ some v → RowsAreThere v
 rows_there law chains layout words views id v stands here =
@@ -55,6 +91,10 @@ rows_there law chains layout words views id v stands here =
     let chain = chains stands.accounts (1 + m.layout.workers) m v.thread v.actor stands.counts found in
     let rows : (x : ℕ) → x < row_count m.layout → x < row_count v.layout =
     λ x low. subst (λ (l : Layout). x < row_count l) (sym told) low in
+    let agenda : (x : ℕ) → list_any (is_about x) v.actor.agenda ≡ true → x < row_count v.layout =
+    λ x is. rows x (small_there m.layout v.actor.agenda x (stands.counts.ranges.each v.thread v.actor found) is) in
+    let aside : (x : ℕ) → list_any (is_about x) v.actor.aside ≡ true → x < row_count v.layout =
+    λ x is. rows x (small_there m.layout v.actor.aside x (stands.counts.ranges.aside v.thread v.actor found) is) in
     record {
       thread =
           subst (λ (l : Layout). v.thread ≤ l.workers) (sym told)
@@ -71,12 +111,9 @@ rows_there law chains layout words views id v stands here =
             law stands.accounts (1 + m.layout.workers) m v.thread v.actor AsCaller x stands.counts found
             (omega (arith, held, stands.holding id v x here counted))
       ]);
-      agenda = λ x is.
-          rows x (small_there m.layout v.actor.agenda x
-          (stands.counts.ranges.each v.thread v.actor found) is);
-      aside = λ x is.
-          rows x (small_there m.layout v.actor.aside x
-          (stands.counts.ranges.aside v.thread v.actor found) is);
+      agenda = agenda;
+      aside = aside;
+      work = λ x d rest is. work_there v x d rest (agenda x) (aside x) is;
       head = subst (λ (l : Layout). v.actor.head ≤ row_count l) (sym told) chain.head;
       cells = subst (λ (l : Layout). NamesFewCells l v.actor.agenda) (sym told)
           (few_named m.layout v.actor.agenda (stands.counts.ranges.each v.thread v.actor found));

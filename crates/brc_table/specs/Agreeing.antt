@@ -9,9 +9,8 @@ use Rattle.brc_word.specs.Words.{owner_part, local_part, biased_part, phase_part
 use Rattle.brc_model.specs.declared.duty.Reason.TheVariants.{Own}
 use Rattle.brc_model.specs.declared.duty.Duty.{Duty}
 use Rattle.brc_model.specs.declared.duty.Duty.TheVariants.{RetainLoad, RetainStore, RetainAdd, ReleaseLoad, ReleaseStore, SharedLoad, SharedExchange, BirthKind, BirthSlot, BirthLocal, CellSwap}
-use Rattle.brc_model.specs.declared.address.Address.TheVariants.{Local, Shared, Cell}
 use Rattle.brc_model.specs.declared.layout.Layout.{Layout}
-use Rattle.brc_model.specs.Layout.{row_count, block_of, mark_bit}
+use Rattle.brc_model.specs.Layout.{block_of, mark_bit}
 use Rattle.brc_model.specs.Duties.{mark_place}
 use Rattle.brc_model.specs.Knowledge.{IsDyingWord}
 use Rattle.brc_model.specs.References.{word_holds}

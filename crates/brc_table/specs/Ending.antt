@@ -4,7 +4,7 @@ use mathlib.Core.Option.{some}
 use lib.ListN.{get_elem?}
 use Rattle.atomic_table.specs.Seated.{TableId}
 use Rattle.brc_word.specs.Words.{closed_word}
-use Rattle.brc_model.specs.declared.address.Address.TheVariants.{Gate, KindOf, Cell, Slot}
+use Rattle.brc_model.specs.declared.address.Address.TheVariants.{Slot}
 use Rattle.brc_model.specs.declared.layout.Layout.{Layout}
 use Rattle.brc_model.specs.Duties.{resources_of}
 use Rattle.brc_model.specs.Layout.{row_count, IsCounted}

@@ -2,7 +2,6 @@
 use Rattle.std.specs.Prelude.{◌≡◌, ℕ, ◌<◌, ◌≤◌, true, false, List, slice_index}
 use mathlib.Core.Option.{some}
 use lib.ListN.{get_elem?}
-use Rattle.brc_model.specs.declared.address.Address.TheVariants.{ThreadWord}
 use Rattle.brc_model.specs.declared.layout.Layout.{Layout}
 use Rattle.brc_table.specs.declared.view.View.{View}
 use Rattle.brc_table.specs.Views.{is_given}

@@ -21,27 +21,6 @@ use Rattle.brc_table.specs.KnownWords.{knows_kind}
 
 -- ---- references
 
--- The first duty names no more cells than a list may have.
-abbrev pub NamesFewCells : Layout → List Duty → Type 0
-NamesFewCells layout [] = Unit {0}
-NamesFewCells layout (d ∷ rest) = cells_named d ≤ layout.cells
-
--- The hand's thread is main or a worker, and the objects to which the hand holds references, those of its duties, the
--- one that it has locked and the first one of its chain have rows. The hand doesn't deallocate the object that it has
--- locked. No kind word that it has seen names more cells than a list may have.
-pub record RowsAreThere (v : View) : Type 0 where
-  pub thread : v.thread ≤ v.layout.workers
-  pub used : v.actor.used ≤ block_size v.layout v.thread
-  pub main : v.thread ≡ 0 → v.actor.used ≡ block_size v.layout v.thread
-  pub held : (x : ℕ) → 1 ≤ count_by (λ y. y == x) v.references → x < row_count v.layout
-  pub agenda : (x : ℕ) → list_any (is_about x) v.actor.agenda ≡ true → x < row_count v.layout
-  pub aside : (x : ℕ) → list_any (is_about x) v.actor.aside ≡ true → x < row_count v.layout
-  pub head : v.actor.head ≤ row_count v.layout
-  pub cells : NamesFewCells v.layout v.actor.agenda
-  pub locked : (x : ℕ) → v.actor.locked ≡ Some x → x < row_count v.layout
-  pub unfinalised : (x : ℕ) → v.actor.locked ≡ Some x → IsUnfinalised x v.actor.head v.actor.agenda
-  pub kinds : (x word : ℕ) → knows_kind x word v ≡ true → cells_of word ≤ v.layout.cells
-
 -- how many references the hand holds to the object
 abbrev pub holds : View → ℕ → ℕ
 holds v x = count_by (λ y. y == x) v.references
@@ -104,6 +83,32 @@ open_work v = v.actor.agenda ++ v.actor.aside
 -- those about the row: one at most
 abbrev pub work_about : ℕ → View → List Duty
 work_about x v = filter (is_about x) (open_work v)
+
+-- ---- rows
+
+-- The first duty names no more cells than a list may have.
+abbrev pub NamesFewCells : Layout → List Duty → Type 0
+NamesFewCells layout [] = Unit {0}
+NamesFewCells layout (d ∷ rest) = cells_named d ≤ layout.cells
+
+-- The hand's thread is main or a worker, and the objects to which the hand holds references, those of its duties, the
+-- one that it has locked and the first one of its chain have rows. The hand doesn't deallocate the object that it has
+-- locked. No kind word that it has seen names more cells than a list may have.
+pub record RowsAreThere (v : View) : Type 0 where
+  pub thread : v.thread ≤ v.layout.workers
+  pub used : v.actor.used ≤ block_size v.layout v.thread
+  pub main : v.thread ≡ 0 → v.actor.used ≡ block_size v.layout v.thread
+  pub held : (x : ℕ) → 1 ≤ count_by (λ y. y == x) v.references → x < row_count v.layout
+  pub agenda : (x : ℕ) → list_any (is_about x) v.actor.agenda ≡ true → x < row_count v.layout
+  pub aside : (x : ℕ) → list_any (is_about x) v.actor.aside ≡ true → x < row_count v.layout
+  pub work : (x : ℕ) (d : Duty) (rest : List Duty) → work_about x v ≡ d ∷ rest → x < row_count v.layout
+  pub head : v.actor.head ≤ row_count v.layout
+  pub cells : NamesFewCells v.layout v.actor.agenda
+  pub locked : (x : ℕ) → v.actor.locked ≡ Some x → x < row_count v.layout
+  pub unfinalised : (x : ℕ) → v.actor.locked ≡ Some x → IsUnfinalised x v.actor.head v.actor.agenda
+  pub kinds : (x word : ℕ) → knows_kind x word v ≡ true → cells_of word ≤ v.layout.cells
+
+-- ---- work taken up and put aside
 
 -- the hand with these duties next, and those put aside
 abbrev pub with_work : View → List Duty → List Duty → View

@@ -17,7 +17,7 @@ use Rattle.brc_heap.proofs.heap.Heap.merge_carried.Goals as goal
 stepped : (g : given.Over) (c : After-remember g) (r : Reason)
     → work_about c.args.row c.args.hand.now.view ≡ MergeLoad c.args.row c.args.carried r ∷ []
     → HasStepped (turned c.args.hand.now.view c.args.row)
-    (merge_left c.args.row c.args.carried r c.merge-step.result) c.remember.new.self.view
+    (merge_left c.args.row c.args.carried r c.merge-step.result) c.remember.new.hand.view
 stepped g c r duty =
     subst (HasStepped (turned c.args.hand.now.view c.args.row) _) (sym c.remember.ensures.same.1)
     (subst (λ (ds : List Duty). HasStepped (turned c.args.hand.now.view c.args.row) ds c.merge-step.new.hand.view)
