@@ -1,7 +1,10 @@
-use Rattle.std.proofs.Common.{◌≡◌, List, [], ◌∷◌, sym, ap, ◌∙◌, subst, append-nil}
+use Rattle.std.proofs.Common.{◌≡◌, ◌<◌, List, [], ◌∷◌, sym, ap, ◌∙◌, subst, append-nil}
 use Rattle.brc_model.specs.declared.duty.Duty.{Duty}
 use Rattle.brc_model.specs.declared.duty.Duty.TheVariants.{MergeLoad}
 use Rattle.brc_model.specs.declared.duty.Reason.{Reason}
+use Rattle.brc_model.specs.declared.layout.Layout.{Layout}
+use Rattle.brc_model.specs.Layout.{row_count}
+use Rattle.brc_table.specs.Hands.{TableState}
 use Rattle.brc_table.specs.Views.{turned, work_about}
 use Rattle.brc_effect.specs.declared.outcomes.MergeStep.{MergeStep}
 use Rattle.brc_heap.specs.Calls.{merge_left}
@@ -55,3 +58,9 @@ returns-clause-done g c = λ other.
 pub returns-clause-references : goal.returns-clause-references
 returns-clause-references g c =
     (stepped g (goal.at.returns-clause-references g c).After-remember _ c.requires.duty.1).keeps.references
+
+pub remember-requires-clause-there : goal.remember-requires-clause-there
+remember-requires-clause-there g c =
+    subst (λ (l : Layout). c.args.row < row_count l)
+    (c.requires.table.1 ∙ sym (ap (λ (w : TableState). w.layout) c.words.ensures))
+    (c.rows_are_there.ensures.work c.args.row _ [] c.requires.duty.1)
