@@ -38,7 +38,9 @@ pub are_of : (p : Module) (c : Contents) → IsWorld p c → c.layout.rows ≤ r
 are_of p c world few workers = record {
   rows = world.rows;
   threads = world.threads ∙ workers;
+  cells = world.cells;
   few_rows = few;
+  few_cells = world.few_cells;
   few_lists = world.few_lists;
 }
 
@@ -55,6 +57,7 @@ pub record Turned (old new : Columns) (a b : StepActor) (f g : Faults) (r : Resu
   pub same_faults : OnErr r (g ≡ f)
   pub rows : length new.local ≡ length old.local
   pub threads : length new.thread ≡ length old.thread
+  pub cells : new.width ≡ old.width
 
 -- ---- the model's view
 
@@ -98,16 +101,18 @@ stays accepted layout old new threads t before after f g (Err e) memory next fau
 sized : (p : Accepted) (layout : Layout) (old new : Columns) (threads : List Thread) (t : ℕ) (after : Thread)
     (f g : Faults)
     → IsWorld p.module (contents p layout old threads f) → length new.local ≡ length old.local
-    → length new.thread ≡ length old.thread
+    → length new.thread ≡ length old.thread → new.width ≡ old.width
     → IsReachable p.module (model_of (contents p layout new (slice_set threads t after) g))
     → IsWorld p.module (contents p layout new (slice_set threads t after) g)
-sized p layout old new threads t after f g world same_rows same_threads reachable =
+sized p layout old new threads t after f g world same_rows same_threads same_cells reachable =
     let many : length (map actor_of (slice_set threads t after)) ≡ length (map actor_of threads) =
     length-map _ actor_of ∙ length-set threads t after ∙ sym (length-map threads actor_of) in
     record {
       reachable = reachable;
       rows = same_rows ∙ world.rows;
       threads = same_threads ∙ world.threads ∙ sym many;
+      cells = same_cells ∙ world.cells;
+      few_cells = world.few_cells;
       few_lists = world.few_lists;
     }
 
@@ -126,7 +131,7 @@ goes p layout old new threads t choice before after f g (Ok did) memory next fau
     ≡ step (model_of (contents p layout old threads f)) t choice =
     made p layout old new threads t choice (actor_of before) after f g (Ok did) memory next faults turned is
     in
-    sized p layout old new threads t after f g world turned.rows turned.threads
+    sized p layout old new threads t after f g world turned.rows turned.threads turned.cells
     (subst (IsReachable p.module) (sym now) leads)
 goes p layout old new threads t choice before after f g (Err e) memory next faults turned at is world leads =
     let same : contents p layout new (slice_set threads t after) g
@@ -214,9 +219,9 @@ first_seen p rows layout calls words threads so word actors =
 pub first_is : (p : Accepted) (rows : ℕ) (layout : Layout) (calls : List Call) (words : Columns) (threads : List Thread)
     → layout ≡ first_layout rows calls → word_in words ≡ first_memory layout.workers
     → map actor_of threads ≡ main_actor ∷ map worker_actor calls
-    → length words.local ≡ row_count layout → length words.thread ≡ 1 + layout.workers
+    → length words.local ≡ row_count layout → length words.thread ≡ 1 + layout.workers → words.width ≡ layout.cells
     → IsReachable p.module (first_of p rows calls) → IsWorld p.module (contents p layout words threads no_faults)
-first_is p rows layout calls words threads so word actors same_rows same_threads reachable =
+first_is p rows layout calls words threads so word actors same_rows same_threads same_cells reachable =
     let now = first_seen p rows layout calls words threads so word actors in
     let workers : layout.workers ≡ length calls = ap (λ (l : Layout). l.workers) so in
     let count : length (map actor_of threads) ≡ 1 + layout.workers =
@@ -225,5 +230,7 @@ first_is p rows layout calls words threads so word actors same_rows same_threads
       reachable = subst (IsReachable p.module) (sym now) reachable;
       rows = same_rows;
       threads = same_threads ∙ sym count;
+      cells = same_cells;
+      few_cells = rw so (omega arith);
       few_lists = rw so (omega arith);
     }

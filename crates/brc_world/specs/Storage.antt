@@ -24,6 +24,8 @@ pub record Columns : Type 0 where
   pub slot : List ℕ
   pub resource : List ℕ
   pub thread : List ℕ
+  -- the number of cells of each row
+  pub width : ℕ
 
 -- the word at the address; an address without a word has the value that such a word has at first
 abbrev pub word_in : Columns → Address → ℕ
@@ -32,7 +34,7 @@ word_in c (Shared x) = slice_index_or c.shared x fresh_word
 word_in c (Gate x) = slice_index_or c.gate x 1
 word_in c (KindOf x) = slice_index_or c.kind x 0
 word_in c (Marks t w) = if nat_lt w mark_room then slice_index_or c.mark (mark_room * t + w) 0 else 0
-word_in c (Cell x i) = if nat_lt i cell_limit then slice_index_or c.cell (cell_limit * x + i) 0 else 0
+word_in c (Cell x i) = if nat_lt i c.width then slice_index_or c.cell (c.width * x + i) 0 else 0
 word_in c (Slot x) = slice_index_or c.slot x 0
 word_in c (Resource x) = slice_index_or c.resource x 0
 word_in c (ThreadWord t) = slice_index_or c.thread t 0
@@ -43,7 +45,7 @@ pub record AreColumns (c : Columns) : Type 0 where
   pub gate : length c.gate ≡ length c.local
   pub kind : length c.kind ≡ length c.local
   pub mark : length c.mark ≡ mark_room * length c.thread
-  pub cell : length c.cell ≡ cell_limit * length c.local
+  pub cell : length c.cell ≡ c.width * length c.local
   pub slot : length c.slot ≡ length c.local
   pub resource : length c.resource ≡ length c.local
 
@@ -54,7 +56,7 @@ HasWord c (Shared x) = x < length c.local
 HasWord c (Gate x) = x < length c.local
 HasWord c (KindOf x) = x < length c.local
 HasWord c (Marks t w) = (t < length c.thread) × (w < mark_room)
-HasWord c (Cell x i) = (x < length c.local) × (i < cell_limit)
+HasWord c (Cell x i) = (x < length c.local) × (i < c.width)
 HasWord c (Slot x) = x < length c.local
 HasWord c (Resource x) = x < length c.local
 HasWord c (ThreadWord t) = t < length c.thread
@@ -63,11 +65,14 @@ HasWord c (ThreadWord t) = t < length c.thread
 pub record AreOf (layout : Layout) (c : Columns) : Type 0 where
   pub rows : length c.local ≡ row_count layout
   pub threads : length c.thread ≡ 1 + layout.workers
+  pub cells : c.width ≡ layout.cells
   pub few_rows : layout.rows ≤ row_limit
+  pub few_cells : layout.cells ≤ cell_limit
   pub few_lists : layout.immortal_lists ≤ immortal_limit
 
--- the columns after one word is written; the numbers of rows and threads stay
+-- the columns after one word is written; the numbers of rows, of threads and of each row's cells stay
 pub record IsStored (old : Columns) (address : Address) (word : ℕ) (new : Columns) : Type 0 where
   pub rows : length new.local ≡ length old.local
   pub threads : length new.thread ≡ length old.thread
+  pub width : new.width ≡ old.width
   pub words : word_in new ≡ written (word_in old) address word

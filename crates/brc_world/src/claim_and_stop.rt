@@ -47,6 +47,7 @@ pub fn claim(
     ensures same_actor { OnErr result (actor_of thread.new ≡ actor_of thread.old) }
     ensures as_many_rows { length memory.new.local ≡ length memory.old.local }
     ensures as_many_threads { length memory.new.thread ≡ length memory.old.thread }
+    ensures as_many_cells { memory.new.width ≡ memory.old.width }
 {
     if let Status::Gone = thread.status {
         return Ok(Did::Gone);

@@ -216,6 +216,7 @@ pub fn act(
     ensures same_faults { OnErr result (faults.new ≡ faults.old) }
     ensures as_many_rows { length memory.new.local ≡ length memory.old.local }
     ensures as_many_threads { length memory.new.thread ≡ length memory.old.thread }
+    ensures as_many_cells { memory.new.width ≡ memory.old.width }
 {
     if let Status::Gone = thread.status {
         return Ok(Did::Gone);
@@ -262,6 +263,7 @@ fn act_by_dispatch(
         (status_action functions.now blocks number (actor_of thread.old) thread.old.status) faults.old }
     ensures as_many_rows { length memory.new.local ≡ length memory.old.local }
     ensures as_many_threads { length memory.new.thread ≡ length memory.old.thread }
+    ensures as_many_cells { memory.new.width ≡ memory.old.width }
 {
     let mut start = Start::Stuck;
     dispatch(functions, blocks.layout(), number, thread, &mut start);

@@ -14,8 +14,8 @@ use brc_word::{Phase, Shared, kind_word, local_word, pack};
 use std::alloc::Global;
 use std::marker::Model;
 
-/// The words of a world, one column for each sort of word: each row has eight cells and one word of each other sort,
-/// and each thread has one word of its own and the mark words of its rows.
+/// The words of a world, one column for each sort of word: each row has the same number of cells and one word of each
+/// other sort, and each thread has one word of its own and the mark words of its rows.
 #[derive(Debug, Drop)]
 pub struct Memory {
     local: Vec<u64>,
@@ -27,6 +27,8 @@ pub struct Memory {
     slot: Vec<u64>,
     resource: Vec<u64>,
     thread: Vec<u64>,
+    /// The number of cells of each row.
+    width: u8,
 }
 
 impl Model for Memory {
@@ -44,6 +46,7 @@ impl Model for Memory {
       slot = m.slot.items;
       resource = m.resource.items;
       thread = m.thread.items;
+      width = m.width;
     }) };
 
     ghost invariant = { λ m. AreColumns (record {
@@ -56,11 +59,12 @@ impl Model for Memory {
       slot = m.slot.items;
       resource = m.resource.items;
       thread = m.thread.items;
+      width = m.width;
     }) };
 }
 
-/// The number of cells of each row.
-pub const CELLS: usize = 8;
+/// The cells of the root.
+const ROOT_CELLS: u32 = 8;
 
 /// The number of mark words of each thread: no block has more rows than they have marks.
 const MARK_ROOM: usize = 17;
@@ -86,7 +90,8 @@ impl Memory {
             Address::KindOf { row } => self.kind[row as usize],
             Address::Marks { thread, word } => self.mark[MARK_ROOM * thread as usize
                 + word as usize],
-            Address::Cell { row, cell } => self.cell[CELLS * row as usize + cell as usize],
+            Address::Cell { row, cell } => self.cell[usize::from(self.width) * row as usize
+                + cell as usize],
             Address::Slot { row } => self.slot[row as usize],
             Address::Resource { row } => self.resource[row as usize],
             Address::ThreadWord { thread } => self.thread[thread as usize],
@@ -108,7 +113,8 @@ impl Memory {
                 thread,
                 word: number,
             } => self.mark[MARK_ROOM * thread as usize + number as usize] = word,
-            Address::Cell { row, cell } => self.cell[CELLS * row as usize + cell as usize] = word,
+            Address::Cell { row, cell } => self.cell[usize::from(self.width) * row as usize
+                + cell as usize] = word,
             Address::Slot { row } => self.slot[row as usize] = word,
             Address::Resource { row } => self.resource[row as usize] = word,
             Address::ThreadWord { thread } => self.thread[thread as usize] = word,
@@ -123,6 +129,7 @@ pub fn first_memory(alloc: Global, layout: Layout) -> Result<Memory, NoMemory>
     ensures words { IfOk result (λ memory. word_in memory ≡ first_memory layout.workers) }
     ensures rows { IfOk result (λ memory. length memory.local ≡ row_count layout) }
     ensures threads { IfOk result (λ memory. length memory.thread ≡ 1 + layout.workers) }
+    ensures width { IfOk result (λ memory. memory.width ≡ layout.cells) }
 {
     let workers = usize::from(layout.workers);
     let n = row_count(layout);
@@ -135,16 +142,17 @@ pub fn first_memory(alloc: Global, layout: Layout) -> Result<Memory, NoMemory>
     local[1] = local_word(Some(0), 1 + workers as u32);
     let mut kind = vec![in alloc; 0u64; n]?;
     kind[0] = kind_word(NONE, 0);
-    kind[1] = kind_word(LIST, CELLS as u32);
+    kind[1] = kind_word(LIST, ROOT_CELLS);
     Ok(Memory {
         local,
         shared: vec![in alloc; fresh; n]?,
         gate: vec![in alloc; FREE; n]?,
         kind,
         mark: vec![in alloc; 0u64; MARK_ROOM * (1 + workers)]?,
-        cell: vec![in alloc; 0u64; CELLS * n]?,
+        cell: vec![in alloc; 0u64; usize::from(layout.cells) * n]?,
         slot: vec![in alloc; 0u64; n]?,
         resource: vec![in alloc; 0u64; n]?,
         thread: vec![in alloc; RUNNING; 1 + workers]?,
+        width: layout.cells,
     })
 }

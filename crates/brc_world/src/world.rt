@@ -20,7 +20,7 @@ use crate::event::Sight;
 use crate::faults::Faults;
 use crate::first::first_threads;
 use crate::laws::tallies_follow_machines;
-use crate::memory::{CELLS, Memory, first_memory};
+use crate::memory::{Memory, first_memory};
 use crate::no_memory::NoMemory;
 use crate::peek::peek;
 use crate::scratch::Scratch;
@@ -38,6 +38,9 @@ use brc_report::{Left, Tally};
 use brc_word::{is_closed, kind_number};
 use std::alloc::Global;
 use std::marker::Model;
+
+/// The most cells of a list in a text.
+const TEXT_CELLS: u8 = 8;
 
 /// A reachable world: some list of steps leads to it from the first world.
 #[derive(Debug, Drop)]
@@ -97,7 +100,7 @@ impl<'a> World<'a> {
         let layout = Layout {
             workers: workers as u8,
             rows,
-            cells: CELLS as u8,
+            cells: TEXT_CELLS,
             immortal_lists: 0,
         };
         Ok(World {

@@ -24,4 +24,5 @@ returns c =
       refused = tt;
       as_many_rows = c.do_duty.ensures.word.rows;
       as_many_threads = c.do_duty.ensures.word.threads;
+      as_many_cells = c.do_duty.ensures.word.width;
     }

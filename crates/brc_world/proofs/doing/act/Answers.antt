@@ -27,6 +27,7 @@ returns-in-Some c =
       refused = tt;
       as_many_rows = c.do_duty.ensures.word.rows;
       as_many_threads = c.do_duty.ensures.word.threads;
+      as_many_cells = c.do_duty.ensures.word.width;
     })
 
 -- ---- no duty left
@@ -59,4 +60,5 @@ returns-in-None c =
       refused = tt;
       as_many_rows = acts.as_many_rows;
       as_many_threads = acts.as_many_threads;
+      as_many_cells = acts.as_many_cells;
     }

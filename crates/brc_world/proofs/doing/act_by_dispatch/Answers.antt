@@ -47,6 +47,7 @@ returns-in-Stuck c =
       faults = step.faults c.args.faults.now;
       as_many_rows = refl;
       as_many_threads = refl;
+      as_many_cells = refl;
     }
 
 pub returns-in-Moved : goal.returns-in-Moved
@@ -62,6 +63,7 @@ returns-in-Moved c =
       faults = step.faults c.args.faults.now;
       as_many_rows = refl;
       as_many_threads = refl;
+      as_many_cells = refl;
     }
 
 pub returns-in-Calling : goal.returns-in-Calling
@@ -77,6 +79,7 @@ returns-in-Calling c =
       faults = c.count_call.ensures ∙ step.faults c.args.faults.now;
       as_many_rows = refl;
       as_many_threads = refl;
+      as_many_cells = refl;
     }
 
 -- ---- a duty
@@ -115,6 +118,7 @@ returns-in-Doing c =
       faults = c.count_duty.ensures ∙ step.faults c.args.faults.now;
       as_many_rows = duty.word.rows;
       as_many_threads = duty.word.threads;
+      as_many_cells = duty.word.width;
     }
 
 -- ---- a duty whose word answers a question
@@ -163,6 +167,7 @@ returns-in-Asking c =
       faults = c.count_duty-in-Asking.ensures ∙ step.faults c.args.faults.now;
       as_many_rows = duty.word.rows;
       as_many_threads = duty.word.threads;
+      as_many_cells = duty.word.width;
     }
 
 -- ---- a lock
@@ -205,4 +210,5 @@ returns-in-Locking c =
       faults = step.faults c.args.faults.now;
       as_many_rows = duty.word.rows;
       as_many_threads = duty.word.threads;
+      as_many_cells = duty.word.width;
     }

@@ -97,6 +97,7 @@ outcome_of c =
       same_faults = c.act.ensures.same_faults;
       rows = c.act.ensures.as_many_rows;
       threads = c.act.ensures.as_many_threads;
+      cells = c.act.ensures.as_many_cells;
     } in
     let within = rw (sym c.self.view_is) at c.requires in
     let here = thread_at p layout words threads t f before c.index_mut.ensures.value within in

@@ -90,6 +90,7 @@ outcome_of c =
       same_faults = on_err c.claim.result refl;
       rows = c.claim.ensures.as_many_rows;
       threads = c.claim.ensures.as_many_threads;
+      cells = c.claim.ensures.as_many_cells;
     } in
     let within = rw (sym c.self.view_is) at c.requires in
     let here = thread_at p layout words threads t f before c.index_mut.ensures.value within in

@@ -51,6 +51,7 @@ outcome_of c =
       same_faults = tt;
       rows = refl;
       threads = refl;
+      cells = refl;
     } in
     let within = rw (sym c.self.view_is) at c.requires in
     let here = thread_at p layout words threads t f before c.index_mut.ensures.value within in
