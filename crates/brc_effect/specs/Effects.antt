@@ -43,8 +43,8 @@ abbrev pub lent_after : Option ℕ → Change → Option ℕ
 lent_after lent (changes.Lends new) = new
 lent_after lent _ = lent
 
--- if the duty's effect adds 1 to a row or a cell, then the row is below n, the number of all rows, or the cell below the
--- most cells of any list
+-- if the duty's effect adds 1 to a row or a cell, then the row is below n, the number of all rows, or the cell is below
+-- the most cells of any list
 abbrev pub IsNumbered : ℕ → Duty → Type 0
 IsNumbered n (Die x) = x < n
 IsNumbered n (SettleCell x i k) = i < cell_limit

@@ -6,10 +6,10 @@ ghost use Rattle.brc_table.specs.Hands.{IsOf, KeepsButView};
 ghost use Rattle.brc_heap.specs.Tries.{CarriesNext, GivesUpNext};
 ghost use Rattle.brc_free.specs.Works.{HasWorked, behind, carried_left};
 
+use crate::backoff::Backoff;
 use crate::finaliser::Finaliser;
 use crate::merging::merge;
 use brc_heap::{Hand, Heap, Looked, Marker, MergeStep, SharedRelease, Work};
-use crossbeam_utils::Backoff;
 use std::sync::Wait;
 
 /// Does the next duties, behind which others may come: adds the carried local count to the row's shared one, and tries
@@ -29,9 +29,9 @@ pub(crate) fn merge_again<T: Drop, R: Wait>(
     ensures kept { KeepsButView hand.old hand.new }
     ensures work { HasWorked hand.old.view [] (carried_left hand.old.view.actor.agenda) hand.new.view }
 {
-    let backoff = Backoff::new();
+    let mut backoff = Backoff::new();
     for _ in rt.forever() {
-        backoff.spin();
+        backoff.wait();
         match heap.merge(hand, row, carried, Work::Next) {
             MergeStep::Kept | MergeStep::Dying => return,
             MergeStep::Again => {}
@@ -59,7 +59,7 @@ impl<'h, T: Drop, Q: Marker<T>> Finaliser<'h, T, Q> {
         ensures kept { KeepsButView hand.old hand.new }
         ensures work { HasWorked hand.old.view [] (behind hand.old.view.actor.agenda) hand.new.view }
     {
-        let backoff = Backoff::new();
+        let mut backoff = Backoff::new();
         for _ in rt.forever() {
             match heap.release_shared(hand, row, Work::Next) {
                 SharedRelease::Kept | SharedRelease::Dying => return,
@@ -67,7 +67,7 @@ impl<'h, T: Drop, Q: Marker<T>> Finaliser<'h, T, Q> {
                     Looked::Left => return,
                     Looked::Claimed => merge(rt, heap, hand, row),
                 },
-                SharedRelease::Again => backoff.spin(),
+                SharedRelease::Again => backoff.wait(),
             }
         }
         unreachable!()

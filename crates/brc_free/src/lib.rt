@@ -6,11 +6,13 @@
 #![tactic(auto)]
 
 mod again;
+mod backoff;
 mod finaliser;
 mod giving_up;
 mod merging;
 mod releasing;
 mod scanned;
 
+pub use backoff::Backoff;
 pub use finaliser::Finaliser;
 pub use merging::merge;

@@ -111,7 +111,8 @@ impl<T: Drop> Heap<T> {
     {
         hand.rows_are_there();
         let step = self.merge(hand, row, carried, Work::Aside);
-        self.words().remember(hand, row, still_carried(step, carried));
+        self.words()
+            .remember(hand, row, still_carried(step, carried));
         step
     }
 

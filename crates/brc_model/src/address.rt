@@ -12,7 +12,7 @@ pub enum Address {
     /// Which of 64 objects of the thread are in its queue: a mark for each, in a bit of its own. `word` counts the
     /// thread's mark words from 0.
     Marks { thread: u32, word: u32 },
-    /// A cell of a list, 0 to 7. The word is the row of the object that the cell references, plus 1, or 0 if it is
+    /// A cell of a list, from 0. The word is the row of the object that the cell references, plus 1, or 0 if it is
     /// empty.
     Cell { row: u32, cell: u32 },
     /// Whether the resource of a file or a socket is in its slot.

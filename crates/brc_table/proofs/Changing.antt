@@ -50,7 +50,8 @@ pub record Changes (layout : Layout) (words : List ℕ) (views : List View) (v u
   pub counts : Counts accounts (1 + machine.layout.workers) machine
   pub layout_same : machine.layout ≡ old.machine.layout
   pub length_is : length after ≡ length words
-  pub reads : (a : Address) → HasWord machine.layout a → machine.memory a ≡ reading a (slice_index after (place machine.layout a))
+  pub reads : (a : Address) → HasWord machine.layout a
+      → machine.memory a ≡ reading a (slice_index after (place machine.layout a))
   pub actors : machine.actors ≡ set old.machine.actors v.thread u.actor
   pub thread_same : u.thread ≡ v.thread
   pub told_same : u.layout ≡ v.layout

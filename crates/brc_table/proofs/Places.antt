@@ -124,10 +124,12 @@ place_apart layout (Local x) (Gate y) plain one other apart e = absurd
     (omega (arith, header_line 0 2 x y (omega arith) (omega arith) e))
 place_apart layout (Local x) (KindOf y) plain one other apart e = absurd
     (omega (arith, header_line 0 3 x y (omega arith) (omega arith) e))
-place_apart layout (Local x) (Cell y i) plain one other apart e = header_cell layout 0 x y i (omega arith) one e
+place_apart layout (Local x) (Cell y i) plain one other apart e =
+    header_cell layout 0 x y i (omega arith) one e
 place_apart layout (Local x) (ThreadWord u) plain one other apart e = absurd
     (omega (arith, plain.few_workers, other, e))
-place_apart layout (Cell y i) (Local x) plain one other apart e = header_cell layout 0 x y i (omega arith) other (sym e)
+place_apart layout (Cell y i) (Local x) plain one other apart e =
+    header_cell layout 0 x y i (omega arith) other (sym e)
 place_apart layout (ThreadWord u) (Local x) plain one other apart e = absurd
     (omega (arith, plain.few_workers, one, e))
 place_apart layout (Shared x) (Local y) plain one other apart e = absurd
@@ -137,10 +139,12 @@ place_apart layout (Shared x) (Gate y) plain one other apart e = absurd
     (omega (arith, header_line 1 2 x y (omega arith) (omega arith) e))
 place_apart layout (Shared x) (KindOf y) plain one other apart e = absurd
     (omega (arith, header_line 1 3 x y (omega arith) (omega arith) e))
-place_apart layout (Shared x) (Cell y i) plain one other apart e = header_cell layout 1 x y i (omega arith) one e
+place_apart layout (Shared x) (Cell y i) plain one other apart e =
+    header_cell layout 1 x y i (omega arith) one e
 place_apart layout (Shared x) (ThreadWord u) plain one other apart e = absurd
     (omega (arith, plain.few_workers, other, e))
-place_apart layout (Cell y i) (Shared x) plain one other apart e = header_cell layout 1 x y i (omega arith) other (sym e)
+place_apart layout (Cell y i) (Shared x) plain one other apart e =
+    header_cell layout 1 x y i (omega arith) other (sym e)
 place_apart layout (ThreadWord u) (Shared x) plain one other apart e = absurd
     (omega (arith, plain.few_workers, one, e))
 place_apart layout (Gate x) (Local y) plain one other apart e = absurd
@@ -150,10 +154,12 @@ place_apart layout (Gate x) (Shared y) plain one other apart e = absurd
 place_apart layout (Gate x) (Gate y) plain one other apart e = not_same x y apart (header_row 2 x y (omega arith) e)
 place_apart layout (Gate x) (KindOf y) plain one other apart e = absurd
     (omega (arith, header_line 2 3 x y (omega arith) (omega arith) e))
-place_apart layout (Gate x) (Cell y i) plain one other apart e = header_cell layout 2 x y i (omega arith) one e
+place_apart layout (Gate x) (Cell y i) plain one other apart e =
+    header_cell layout 2 x y i (omega arith) one e
 place_apart layout (Gate x) (ThreadWord u) plain one other apart e = absurd
     (omega (arith, plain.few_workers, other, e))
-place_apart layout (Cell y i) (Gate x) plain one other apart e = header_cell layout 2 x y i (omega arith) other (sym e)
+place_apart layout (Cell y i) (Gate x) plain one other apart e =
+    header_cell layout 2 x y i (omega arith) other (sym e)
 place_apart layout (ThreadWord u) (Gate x) plain one other apart e = absurd
     (omega (arith, plain.few_workers, one, e))
 place_apart layout (KindOf x) (Local y) plain one other apart e = absurd
@@ -163,10 +169,12 @@ place_apart layout (KindOf x) (Shared y) plain one other apart e = absurd
 place_apart layout (KindOf x) (Gate y) plain one other apart e = absurd
     (omega (arith, header_line 3 2 x y (omega arith) (omega arith) e))
 place_apart layout (KindOf x) (KindOf y) plain one other apart e = not_same x y apart (header_row 3 x y (omega arith) e)
-place_apart layout (KindOf x) (Cell y i) plain one other apart e = header_cell layout 3 x y i (omega arith) one e
+place_apart layout (KindOf x) (Cell y i) plain one other apart e =
+    header_cell layout 3 x y i (omega arith) one e
 place_apart layout (KindOf x) (ThreadWord u) plain one other apart e = absurd
     (omega (arith, plain.few_workers, other, e))
-place_apart layout (Cell y i) (KindOf x) plain one other apart e = header_cell layout 3 x y i (omega arith) other (sym e)
+place_apart layout (Cell y i) (KindOf x) plain one other apart e =
+    header_cell layout 3 x y i (omega arith) other (sym e)
 place_apart layout (ThreadWord u) (KindOf x) plain one other apart e = absurd
     (omega (arith, plain.few_workers, one, e))
 place_apart layout (Cell x i) (Cell y j) plain one other apart e =

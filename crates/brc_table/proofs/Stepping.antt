@@ -102,12 +102,13 @@ written_reads layout words memory a left word plain long says has reads b there 
           get_or-set_same words (place layout a) left 0 (omega (arith, long, place_within layout a plain has)) in
           let found : written memory a word b ≡ word = ap (λ (e : Bool). cond e word (memory b)) one in
           let there' : reading b (slice_index (set words (place layout a) left) (place layout b)) ≡ word =
-          subst (λ (c : Address). reading c (slice_index (set words (place layout a) left) (place layout c)) ≡ word) (same_is a b one)
-          (ap (reading a) here ∙ says) in
+          subst (λ (c : Address). reading c (slice_index (set words (place layout a) left) (place layout c)) ≡ word)
+          (same_is a b one) (ap (reading a) here ∙ says) in
           found ∙ sym there'
       | inr other ↦
           let apart : place layout b ≢ place layout a = λ e. place_apart layout a b plain has there other (sym e) in
-          let same : slice_index (set words (place layout a) left) (place layout b) ≡ slice_index words (place layout b) =
+          let same : slice_index (set words (place layout a) left) (place layout b)
+          ≡ slice_index words (place layout b) =
           get_or-set_other words (place layout a) (place layout b) left 0 apart in
           ap (λ (e : Bool). cond e word (memory b)) other ∙ (reads b there ∙ ap (reading b) (sym same))
     ]

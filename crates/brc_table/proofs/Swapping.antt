@@ -161,7 +161,8 @@ module _ (put : WorkIsPutAside) (free : ImmortalsAreFree) (there : AccountsAreTh
     cell_has = (
       subst (λ (l : Layout). x < row_count l) told (change_there (rested v) x rows may.changes),
       subst (λ (l : Layout). i < l.cells) told
-          (known_low (rested v) x i rows (record { word = may.knows.word; seen = may.knows.seen; low = may.knows.low })),
+          (known_low (rested v) x i rows
+          (record { word = may.knows.word; seen = may.knows.seen; low = may.knows.low })),
     )
 
     -- The cell has what the table's word says.
@@ -293,7 +294,8 @@ module _ (put : WorkIsPutAside) (free : ImmortalsAreFree) (there : AccountsAreTh
     }
 
     -- The rule holds after the swap.
-    pub passes_swapped : Passes layout (set words (cell_place m.layout x i) word) (set views id after) v.taken v.actor.locked
+    pub passes_swapped : Passes layout (set words (cell_place m.layout x i) word) (set views id after) v.taken
+        v.actor.locked
         s.machine
     unfolding changes
     passes_swapped =
@@ -316,7 +318,8 @@ module _ (put : WorkIsPutAside) (free : ImmortalsAreFree) (there : AccountsAreTh
     found_there = item_there found refl
 
   -- The swap is allowed.
-  pub swap_allowed : {T : Type 0} (slots id index : ℕ) (me : Me (Option T) View) → me.0 ≡ v → index ≡ cell_place layout x i
+  pub swap_allowed : {T : Type 0} (slots id index : ℕ) (me : Me (Option T) View) → me.0 ≡ v
+      → index ≡ cell_place layout x i
       → Allows (λ (s : State (Option T) View). TableStands layout s.words s.homes s.views) slots id me index
       (λ found. word)
       (λ found after. Swaps x i word me found after)
@@ -342,8 +345,8 @@ module _ (put : WorkIsPutAside) (free : ImmortalsAreFree) (there : AccountsAreTh
       v.actor.locked
       puts.stands.machine) same
       (subst (λ (j : ℕ). Passes layout (set s.words j word)
-      (set resting id (swapped v x i word (slice_index s.words (cell_place puts.stands.machine.layout x i)))) v.taken v.actor.locked
-      puts.stands.machine)
+      (set resting id (swapped v x i word (slice_index s.words (cell_place puts.stands.machine.layout x i)))) v.taken
+      v.actor.locked puts.stands.machine)
       (sym at_now) after)) in
       let now = moved.stands in
       let held_slots : SlotsStand now.machine s.homes (set s.views id w) =

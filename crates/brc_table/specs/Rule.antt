@@ -51,7 +51,8 @@ pub record Stands (layout : Layout) (words : List ℕ) (views : List View) : Typ
   pub layout_is : machine.layout ≡ layout
   pub plain : IsPlainLayout machine.layout
   pub length_is : length words ≡ word_count machine.layout
-  pub reads : (a : Address) → HasWord machine.layout a → machine.memory a ≡ reading a (slice_index words (place machine.layout a))
+  pub reads : (a : Address) → HasWord machine.layout a
+      → machine.memory a ≡ reading a (slice_index words (place machine.layout a))
   -- each view is its thread's
   pub acts : (id : ℕ) (v : View) → get_elem? views id ≡ some v
       → slice_get machine.actors v.thread ≡ Some v.actor

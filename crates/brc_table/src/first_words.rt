@@ -50,8 +50,8 @@ fn blank_word(index: usize) -> u64
     }
 }
 
-/// Returns the first value of a word that is no cell. None is immortal. The root is a list of eight cells, and main, which owns it,
-/// holds the only reference to it.
+/// Returns the first value of a word that is no cell. None is immortal. The root is a list of eight cells, and main,
+/// which owns it, holds the only reference to it.
 fn first_word(index: usize) -> u64
     ensures { result ≡ first_word index }
 {

@@ -10,10 +10,10 @@ ghost use Rattle.brc_work.specs.Performs.{Performs, Waits};
 
 use crate::variables::{Variables, row_in};
 use crate::worker::Worker;
+use brc_free::Backoff;
 use brc_heap::Hand;
 use brc_lang::Variable;
 use brc_list::Lists;
-use crossbeam_utils::Backoff;
 use std::sync::Wait;
 
 impl<'h, T: Drop> Worker<'h, T> {
@@ -30,13 +30,13 @@ impl<'h, T: Drop> Worker<'h, T> {
         ensures done { HasDone (instructions.Lock object) Success rows.now hand.old rows.now hand.new }
         ensures made { Performs [] (instructions.Lock object) Success rows.now hand.old.view rows.now hand.new.view }
     {
-        let backoff = Backoff::new();
+        let mut backoff = Backoff::new();
         for _ in rt.forever() {
             if self.tries_lock(rows, hand, object) {
                 return;
             }
             // The thread that has the lock may need this processor.
-            backoff.snooze();
+            backoff.wait();
         }
         unreachable!()
     }

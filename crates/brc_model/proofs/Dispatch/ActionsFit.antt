@@ -161,7 +161,8 @@ module _ {p : Accounts} {n : ℕ} {m : Machine} where
   starts_small t a d rest core few wide found (Bears h w room below said) =
       row_small m.layout (row_at m.layout t a.used) d (next_within t a core found room) (λ y. refl)
       (omega (arith, below, wide))
-  starts_small t a d rest core few wide found (Asks row backs) = backs_small t row a d core backs (λ y. refl) (omega arith)
+  starts_small t a d rest core few wide found (Asks row backs) =
+      backs_small t row a d core backs (λ y. refl) (omega arith)
   starts_small t a d rest core few wide found (Locks row backs counted none) =
       backs_small t row a d core backs (λ y. refl) (omega arith)
   starts_small t a d rest core few wide found (Unlocks row backs has none) =

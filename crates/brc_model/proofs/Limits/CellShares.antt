@@ -42,7 +42,8 @@ over_at f u (suc t) low none = elim (eqb_tells t u) [
   | inr apart ↦ omega (arith, over_at f u t (omega (arith, low, apart.1)) none, none t apart.1)
 ]
 
-cells_each : (f g : ℕ → ℕ → ℕ) (layout : Layout) → ((y i : ℕ) → f y i ≡ g y i) → over_cells f layout ≡ over_cells g layout
+cells_each : (f g : ℕ → ℕ → ℕ) (layout : Layout) → ((y i : ℕ) → f y i ≡ g y i)
+    → over_cells f layout ≡ over_cells g layout
 cells_each f g layout each =
     over_each (λ y. over_threads (f y) layout.cells) (λ y. over_threads (g y) layout.cells) (row_count layout)
     (λ y. over_each (f y) (g y) layout.cells (each y))
@@ -57,9 +58,11 @@ cells_sum f g layout =
 
 cells_none : (f : ℕ → ℕ → ℕ) (layout : Layout) → ((y i : ℕ) → f y i ≡ 0) → over_cells f layout ≡ 0
 cells_none f layout none =
-    over_zero (λ y. over_threads (f y) layout.cells) (row_count layout) (λ y low. over_zero (f y) layout.cells (λ i under. none y i))
+    over_zero (λ y. over_threads (f y) layout.cells) (row_count layout)
+    (λ y low. over_zero (f y) layout.cells (λ i under. none y i))
 
-cells_at : (f : ℕ → ℕ → ℕ) (u j : ℕ) (layout : Layout) → u < row_count layout → j < layout.cells → ((y i : ℕ) → y ≢ u → f y i ≡ 0)
+cells_at : (f : ℕ → ℕ → ℕ) (u j : ℕ) (layout : Layout) → u < row_count layout → j < layout.cells
+    → ((y i : ℕ) → y ≢ u → f y i ≡ 0)
     → ((i : ℕ) → i ≢ j → f u i ≡ 0) → over_cells f layout ≡ f u j
 cells_at f u j layout low under rest others =
     over_at (λ y. over_threads (f y) layout.cells) u (row_count layout) low
@@ -99,8 +102,8 @@ all_same true true false one two three = absurd cc
 holder_in : (x : ℕ) (layout : Layout) (h : Holder) (bag : List Reference)
     → HasNoOthers x layout (record { holder = h; object = x } ∷ bag)
     → over_cells (is_cells x (record { holder = h; object = x })) layout ≡ one_if (is_in_cell h)
-holder_in x layout (ByThread t k) bag none = cells_none (is_cells x (record { holder = ByThread t k; object = x })) layout
-    (λ y i. refl)
+holder_in x layout (ByThread t k) bag none =
+    cells_none (is_cells x (record { holder = ByThread t k; object = x })) layout (λ y i. refl)
 holder_in x layout (ByCell u j) bag none =
     let here = held_itself (cell_reference u j x) bag in
     let low : u < row_count layout = elim (cases_lt u (row_count layout)) [

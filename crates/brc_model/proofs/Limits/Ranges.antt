@@ -33,8 +33,8 @@ use Rattle.brc_model.specs.Layout.{row_count, block_of, mark_bit, is_immortal_ro
 
 -- ---- duties
 
-pub row_small : (layout : Layout) (x : ℕ) (d : Duty) → x < row_count layout → ((y : ℕ) → is_about y d ≡ (x == y)) → cells_named d ≤ layout.cells
-    → IsSmall layout d
+pub row_small : (layout : Layout) (x : ℕ) (d : Duty) → x < row_count layout
+    → ((y : ℕ) → is_about y d ≡ (x == y)) → cells_named d ≤ layout.cells → IsSmall layout d
 row_small layout x d low about few = record {
   row = λ y e. subst (λ (z : ℕ). z < row_count layout) (eqb-true x y (sym (about y) ∙ e)) low;
   cells = few;
@@ -88,7 +88,8 @@ origin_small layout d found (CellSwap x i y h) origin few = absurd origin
 origin_small layout d found _ origin few = omega arith
 
 next_small : (layout : Layout) {t head found : ℕ} (d : Duty) (next : List Duty)
-    → Continuation layout t head found d next → IsSmall layout d → FindsSmall layout t head d found → AreSmall layout next
+    → Continuation layout t head found d next → IsSmall layout d → FindsSmall layout t head d found
+    → AreSmall layout next
 next_small layout d next (Ends inner) small finds = tt
 next_small layout d next Finishes small finds = tt
 next_small layout {t = t} {head = head} {found = found} d next (GoesOn e leads) small finds = (
@@ -116,7 +117,8 @@ next_small layout d next (Claims x set) small finds =
     (record { row = small.row; cells = omega arith }, (settle_small layout, tt))
 next_small layout d next (ClaimsNone x) small finds = (settle_small layout, tt)
 next_small layout d next (Exits i n) small finds = (scan_small layout i n, (finish_small layout, tt))
-next_small layout d next (Scans w n) small finds = (take_small layout w _, (scan_small layout (w + 1) (n - marks_of_word), tt))
+next_small layout d next (Scans w n) small finds =
+    (take_small layout w _, (scan_small layout (w + 1) (n - marks_of_word), tt))
 next_small layout {t = t} d next (Takes w marks set) small finds = (
   row_small layout (found_row layout t w marks) (MergeSwap (found_row layout t w marks) Handed) (finds set) (λ y. refl)
       (omega arith),
@@ -124,8 +126,8 @@ next_small layout {t = t} d next (Takes w marks set) small finds = (
 )
 next_small layout d next (TakesNone w marks) small finds = (settle_small layout, (take_small layout w _, tt))
 
-ready_step : (layout : Layout) (head : ℕ) (d : Duty) (rest : List Duty) → AreSmall layout (d ∷ rest) → AreSmall layout (ready head rest)
-    → AreSmall layout (ready head (d ∷ rest))
+ready_step : (layout : Layout) (head : ℕ) (d : Duty) (rest : List Duty) → AreSmall layout (d ∷ rest)
+    → AreSmall layout (ready head rest) → AreSmall layout (ready head (d ∷ rest))
 ready_step layout zero Settle rest small later = later
 ready_step layout (suc head) Settle rest small later = small
 ready_step layout zero (Scan x zero) rest small later = later
@@ -139,7 +141,8 @@ ready_step layout (suc head) (TakeFound x (suc n)) rest small later = small
 ready_step layout zero _ rest small later = small
 ready_step layout (suc head) _ rest small later = small
 
-ready_small : (layout : Layout) (head : ℕ) (agenda : List Duty) → AreSmall layout agenda → AreSmall layout (ready head agenda)
+ready_small : (layout : Layout) (head : ℕ) (agenda : List Duty) → AreSmall layout agenda
+    → AreSmall layout (ready head agenda)
 ready_small layout head [] small = tt
 ready_small layout head (d ∷ rest) small = ready_step layout head d rest small (ready_small layout head rest small.1)
 

@@ -39,7 +39,9 @@ step-item-requires-clause-next g c =
 
 pub step-item-requires-clause-cell : goal.step-item-requires-clause-cell
 step-item-requires-clause-cell g c =
-    omega (arith, c.requires.duty.low, subst NamesFewCells c.requires.duty.next c.rows_are_there.ensures.cells)
+    let few =
+    subst (NamesFewCells c.args.hand.now.view.layout) c.requires.duty.next c.rows_are_there.ensures.cells in
+    omega (arith, c.requires.duty.low, few)
 
 pub returns-then-item-eq0-clause-work : goal.returns-then-item-eq0-clause-work
 returns-then-item-eq0-clause-work g c =

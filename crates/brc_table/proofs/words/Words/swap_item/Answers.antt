@@ -33,7 +33,8 @@ swap-requires g c =
     ∙ ap (λ (l : Layout). cell_place l g.B.Swap.list g.B.Swap.cell) (sym layout_is)))
     in (
       ap (λ (h : HandState). h.table) c.hand.view_is ∙ (c.requires.table.0 ∙ sym table_is),
-      subst (λ (i : ℕ). i < shared.table_id.words) (sym at) (subst (λ (k : ℕ). cell_place layout c.args.row c.args.cell < k)
+      subst (λ (i : ℕ). i < shared.table_id.words) (sym at)
+          (subst (λ (k : ℕ). cell_place layout c.args.row c.args.cell < k)
           (sym (c.self.invariant.1 ∙ ap word_count layout_is)) there),
       subst (λ (w : ℕ). Allows (λ (s : State (Option _) View). TableStands shared.key s.words s.homes s.views)
           shared.table_id.slots hand.seat.id hand.seat.me c.place-index.result (λ found. w)
