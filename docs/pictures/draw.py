@@ -133,11 +133,12 @@ def read_places():
     """The sizes of a table's parts, and the line of each sort of word in a tile."""
     text = (TABLE / "Places.antt").read_text()
     sizes = values_in(TABLE / "Places.antt", values_in(MODEL / "Limits.antt", {}))
-    lines = {int(number): name for name, number in re.findall(r"^place \((\w+) x\) = in_tile (\d+) x$", text, re.M)}
-    want("\ntile = line * (header_lines + line)\n" in text, "a tile has another number of lines")
-    sizes["tile"] = sizes["line"] * (sizes["header_lines"] + sizes["line"])
-    want("\nplace (Marks t w) = marks_front + mark_room * t + w\n" in text, "the mark words are elsewhere")
-    want(sorted(lines) == list(range(sizes["header_lines"])), "the lines of a tile aren't those before the cells")
+    lines = {sizes[number]: name for name, number in re.findall(r"^place layout \((\w+) x\) = in_tile (\w+) x$", text, re.M)}
+    want("\ntile = line * tile_lines\n" in text, "a tile has another number of lines")
+    sizes["tile"] = sizes["line"] * sizes["tile_lines"]
+    want("\nplace layout (Marks t w) = marks_front + mark_room * t + w\n" in text, "the mark words are elsewhere")
+    want("\ncells_front layout = front + tile * tiles layout\n" in text, "the cells are elsewhere")
+    want(sorted(lines) == list(range(sizes["tile_lines"])), "the lines of a tile aren't its words")
     return sizes, [lines[number] for number in sorted(lines)]
 
 
@@ -458,6 +459,8 @@ def draw_tile():
     for number in range(2):
         lines += part(front + tile * number, f"tile {number}: rows {line * number} to {line * number + line - 1}")
     lines += part(front + tile * 2, "and so on")
+    lines += part("F", "the cells: cell i of row x at F + c x + i,")
+    lines.append(" " * 7 + "│" + " if a list may have c cells: 8 in each text".ljust(wide) + "│")
     lines += [" " * 7 + "└" + "─" * wide + "┘", ""]
     lines.append(f"tile k, from place {front} + {tile} k on; its rows are {line} k to {line} k + {line - 1}")
     columns = "".join(f"+ {i}".ljust(width + 1) for i in (0, 1)) + "..".ljust(7) + f"+ {line - 1}"
@@ -473,16 +476,9 @@ def draw_tile():
 
     lines.append(rule("┌", "┬", "┐"))
     for number, sort in enumerate(TILE_LINES):
+        if number:
+            lines.append(rule("├", "┼", "┤"))
         lines.append(words(line * number, lambda i: names[sort]) + f" the {names[sort]} word of each row")
-        lines.append(rule("├", "┼", "┤"))
-    first = len(TILE_LINES)
-    lines.append(words(line * first, lambda i: f"cell {i}") + " the cells of its first row")
-    lines.append(rule("├", "┼", "┤"))
-    lines.append(words(line * (first + 1), lambda i: f"cell {i}") + " the cells of its second row")
-    lines.append(rule("├", "┼", "┤"))
-    lines.append("   .. │" + " and so on".ljust(3 * width + 6 + 3) + "│")
-    lines.append(rule("├", "┼", "┤"))
-    lines.append(words(tile - line, lambda i: f"cell {i}") + " the cells of its last row")
     lines.append(rule("└", "┴", "┘"))
     return indented(lines)
 

@@ -21,7 +21,7 @@ pub struct Backoff {
 }
 
 impl Backoff {
-    /// Returns a back-off that hasn't waited yet.
+    /// Returns a back-off whose first wait comes next.
     pub fn new() -> Backoff
         ensures { result.yields ≡ 2 }
     {

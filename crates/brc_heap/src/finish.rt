@@ -1,6 +1,7 @@
 //! The end of a heap: once every thread is gone, it tells what was closed, and what is left.
 
 ghost use Rattle.std.specs.Prelude.{◌≡◌, ◌<◌, IfOk, IfErr, All};
+ghost use Rattle.brc_model.specs.Limits.{text_cells};
 ghost use Rattle.brc_model.specs.Kinds.{kind_of_word};
 ghost use Rattle.brc_model.specs.Layout.{row_count};
 ghost use Rattle.brc_table.specs.Hands.{IsOf};
@@ -120,7 +121,7 @@ impl<T: Drop> Final<T> {
     /// Returns what a cell of the row has: the row of an object, or `None` if the cell is empty.
     pub fn cell(&self, row: u32, cell: u32) -> Option<u32>
         requires there { row < row_count self.now.layout }
-        requires cell { cell < self.now.layout.cells }
+        requires cell { cell < text_cells }
         ensures { result ≡ named_row (cell_at self.now.layout self.now.words row cell) }
     {
         self.closed.layout_is_plain();

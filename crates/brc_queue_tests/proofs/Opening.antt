@@ -47,5 +47,5 @@ still_holds {heap} {before} {after} thread has table gives same = record {
   aside = gives.keeps.aside ∙ open_is has;
   references = gives.keeps.references ∙ has.references;
   unlocked = gives.keeps.locked ∙ has.unlocked;
-  none = none_still before after same has.none;
+  none = none_still before after same gives.keeps.layout has.none;
 }

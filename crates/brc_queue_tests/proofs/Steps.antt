@@ -7,12 +7,12 @@ use Rattle.brc_host.specs.HostCalls.{HostCall}
 use Rattle.brc_model.specs.declared.duty.Duty.{Duty}
 use Rattle.brc_model.specs.declared.duty.Duty.TheVariants.{MergeSwap, SharedLoad}
 use Rattle.brc_model.specs.declared.duty.Reason.TheVariants.{Handed}
-use Rattle.brc_model.specs.Limits.{row_limit}
+use Rattle.brc_model.specs.declared.layout.Layout.{Layout}
 use Rattle.brc_effect.specs.declared.outcomes.MergeStep.{MergeStep}
 use Rattle.brc_effect.specs.declared.outcomes.MergeStep.TheVariants as merge
 use Rattle.brc_free.specs.Works.{HasWorked, ComesToSettle, AtOnce, to_settle}
 use Rattle.brc_model.specs.OpenWork.{is_about}
-use Rattle.brc_table.specs.Hands.{TableState, HandState, IsOf, carried_of}
+use Rattle.brc_table.specs.Hands.{TableState, HandState, IsOf, carried_of, carried_place}
 use Rattle.brc_table.specs.Views.{open_work}
 use Rattle.brc_heap.specs.Calls.{Leaves, Merges, merge_left}
 use Rattle.brc_queue_tests.specs.Sharing.{HasWork, shared_row}
@@ -25,10 +25,12 @@ open_is {heap} {hand} {rows} {work} has =
     ∙ (ap (λ (ds : List Duty). work ++ ds) has.aside ∙ append-nil work)
 
 -- A hand still carries nothing from the shared row after a call that leaves what it carries.
-pub none_still : (before after : HandState) → after.carried ≡ before.carried → carried_of before shared_row ≡ None
+pub none_still : (before after : HandState) → after.carried ≡ before.carried
+    → after.view.layout ≡ before.view.layout → carried_of before shared_row ≡ None
     → carried_of after shared_row ≡ None
-none_still before after same none =
-    ap (λ (counts : List (Option ℕ)). slice_index_or counts (shared_row % row_limit) None) same ∙ none
+none_still before after same layout none =
+    ap (λ (counts : List (Option ℕ)). slice_index_or counts (carried_place after.view.layout shared_row) None) same
+    ∙ (ap (λ (l : Layout). slice_index_or before.carried (carried_place l shared_row) None) layout ∙ none)
 
 -- After a call about a row, a hand whose work was about that row alone has what the call leaves.
 pub after_call : {heap : TableState} {before after : HandState} {rows : List ℕ} {work : List Duty} (x : ℕ)
@@ -64,7 +66,7 @@ settled {heap} {before} {after} has table stands same = record {
   aside = stands.keeps.aside ∙ has.aside;
   references = stands.keeps.references ∙ has.references;
   unlocked = stands.keeps.locked ∙ has.unlocked;
-  none = none_still before after same has.none;
+  none = none_still before after same stands.keeps.layout has.none;
 }
 
 -- A hand that has taken the shared row's mark has a merge to begin.
