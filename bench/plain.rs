@@ -14,21 +14,18 @@ use std::sync::{Arc, Barrier, Mutex};
 use std::thread;
 use std::time::{Duration, Instant};
 
-// The block: the threads' words, then three lines of mark words for each of 33 threads, then a tile for each 8 rows. A
-// tile has 8 words for each field, then the rows' cells.
+// The block: the threads' words, then three lines of mark words for each of 33 threads, then a tile for each 8 rows, with
+// 8 words for each field, and then the rows' cells.
 const THREAD_WORDS: u64 = 40;
 const MARK_ROOM: u64 = 24;
 const FRONT: u64 = THREAD_WORDS + 33 * MARK_ROOM;
 const TILE_ROWS: u64 = 8;
-const TILE_WORDS: u64 = 96;
-
-/// The line of a tile that has the cells of the tile's first row.
-const CELL_LINE: u64 = 4;
+const TILE_WORDS: u64 = 32;
 
 /// The marks of a mark word: one bit for each row.
 const MARKS_OF_WORD: u64 = 64;
 
-/// What a word is to its row. A tile has these, and then the rows' cells.
+/// What a word is to its row.
 #[derive(Clone, Copy)]
 enum Field {
     Local = 0,
@@ -40,11 +37,6 @@ enum Field {
 /// Returns the index of the word of `field` for `row`.
 fn place(field: Field, row: u64) -> usize {
     (FRONT + TILE_WORDS * (row / TILE_ROWS) + TILE_ROWS * field as u64 + row % TILE_ROWS) as usize
-}
-
-/// Returns the index of the word of cell `cell` of `row`. The cells of a row are a line.
-fn cell_place(row: u64, cell: u64) -> usize {
-    (FRONT + TILE_WORDS * (row / TILE_ROWS) + TILE_ROWS * (CELL_LINE + row % TILE_ROWS) + cell) as usize
 }
 
 // A local word, a gate and a kind word each have a high half and a low half of 32 bits.
@@ -85,10 +77,12 @@ fn gate_locked(thread: u64) -> u64 {
     thread + 2
 }
 
-/// The words of all threads and rows, and how many rows each worker has.
+/// The words of all threads and rows, how many rows each worker has, where the cells begin, and how many each row has.
 struct Block {
     words: Vec<AtomicU64>,
     rows_each: u64,
+    cells_front: u64,
+    cells_each: u64,
 }
 
 impl Block {
@@ -96,10 +90,10 @@ impl Block {
     fn new(workers: u64, rows_each: u64) -> Block {
         assert!(workers < THREAD_WORDS);
         let rows = FIRST_WORKER_ROW + workers * rows_each;
-        let len = FRONT + TILE_WORDS * rows.div_ceil(TILE_ROWS);
-        let words = (0..len).map(|_| AtomicU64::new(0)).collect();
-        // A counter is for blocks of any number of rows, so the compiler isn't to know it.
-        let block = Block { words, rows_each: black_box(rows_each) };
+        let cells_front = FRONT + TILE_WORDS * rows.div_ceil(TILE_ROWS);
+        let words = (0..cells_front + CELLS * rows).map(|_| AtomicU64::new(0)).collect();
+        // A counter is for blocks of any number of rows, and lists of any length, so the compiler isn't to know them.
+        let block = Block { words, rows_each: black_box(rows_each), cells_front, cells_each: black_box(CELLS) };
         for row in 0..rows {
             block.word(Field::Local, row).store(NO_OWNER, SeqCst);
             block.word(Field::Shared, row).store(ZERO_DEFAULT, SeqCst);
@@ -121,7 +115,7 @@ impl Block {
     }
 
     fn cell(&self, row: u64, cell: u64) -> &AtomicU64 {
-        &self.words[cell_place(row, cell)]
+        &self.words[(self.cells_front + self.cells_each * row + cell) as usize]
     }
 
     /// Returns the words of `row` that releases and retains change: local, shared, gate.

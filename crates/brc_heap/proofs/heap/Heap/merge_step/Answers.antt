@@ -1,4 +1,4 @@
-use Rattle.std.proofs.Common.{◌≡◌, ℕ, ◌<◌, ◌∙◌, [], inl, inr, sym, ap, subst}
+use Rattle.std.proofs.Common.{ℕ, ◌<◌, ◌∙◌, [], inl, inr, sym, ap, subst}
 use Rattle.brc_model.specs.declared.duty.Reason.{Reason}
 use Rattle.brc_model.specs.declared.layout.Layout.{Layout}
 use Rattle.brc_model.specs.Layout.{row_count}
