@@ -6,14 +6,13 @@ use Rattle.std.proofs.lemmas.List.Sums.{sum_by-cons}
 use Rattle.brc_model.specs.declared.actor.Status.TheVariants.{Running, Gone}
 use Rattle.brc_model.specs.declared.duty.Duty.{Duty}
 use Rattle.brc_model.specs.declared.layout.Layout.{Layout}
-use Rattle.brc_model.specs.Limits.{row_limit}
 use Rattle.brc_model.specs.Layout.{root_row, is_immortal_row}
 use Rattle.brc_table.specs.declared.view.View.{View}
 use Rattle.brc_table.specs.Views.{holds, work_about, open_work, with_reference, without_reference, without_one, main_view, worker_view, next_row}
 use Rattle.brc_table.specs.Opening.{plain_layout}
 use Rattle.brc_model.specs.OpenWork.{is_about}
 use Rattle.std.specs.List.{filter}
-use Rattle.brc_table.specs.Hands.{TableState, HandState, IsOf, IsRunning, HoldsOne, Borrows, KeepsLock, MayWait, CarriesNothing, most_references}
+use Rattle.brc_table.specs.Hands.{TableState, HandState, IsOf, IsRunning, HoldsOne, Borrows, KeepsLock, MayWait, carried_place, CarriesNothing, most_references}
 use Rattle.brc_table.specs.Calls.{CanAct}
 use Rattle.brc_heap.specs.Calls.{Leaves, HasGiven, HasBorn}
 use Rattle.brc_heap.proofs.Leaving.{leaves_then}
@@ -44,10 +43,11 @@ pub acts_still : {x : ℕ} {left : List Duty} {v u : View} → CanAct v → Leav
 acts_still acts leaves = ((λ gone. acts.0 (sym leaves.keeps.status ∙ gone)), leaves.waits)
 
 -- A hand that carries nothing carries nothing after a call that leaves what it carries.
-pub carries_still : (before after : HandState) → after.carried ≡ before.carried → CarriesNothing before
-    → CarriesNothing after
-carries_still before after same none x =
-    ap (λ (counts : List (Option ℕ)). slice_index_or counts (x % row_limit) None) same ∙ none x
+pub carries_still : (before after : HandState) → after.carried ≡ before.carried
+    → after.view.layout ≡ before.view.layout → CarriesNothing before → CarriesNothing after
+carries_still before after same layout none x =
+    ap (λ (counts : List (Option ℕ)). slice_index_or counts (carried_place after.view.layout x) None) same
+    ∙ (ap (λ (l : Layout). slice_index_or before.carried (carried_place l x) None) layout ∙ none x)
 
 -- A running hand still runs after a call.
 pub still_runs : {x : ℕ} {left : List Duty} {v u : View} → IsRunning v → Leaves x left v u → IsRunning u

@@ -10,15 +10,16 @@ use Rattle.brc_heap_tests.proofs.queue.claims.Goals as goal
 
 -- A hand that has claimed the root's mark, and carries nothing, has a merge to begin.
 claimed : (before after : HandState) → work_about root_row after.view ≡ MergeSwap root_row Handed ∷ []
-    → after.carried ≡ before.carried → CarriesNothing before → Merges Handed after root_row
-claimed before after duty same none =
-    inl (record { duty = duty; none = carries_still before after same none root_row })
+    → after.carried ≡ before.carried → after.view.layout ≡ before.view.layout → CarriesNothing before
+    → Merges Handed after root_row
+claimed before after duty same layout none =
+    inl (record { duty = duty; none = carries_still before after same layout none root_row })
 
 pub merge_step-requires-clause-duty : goal.merge_step-requires-clause-duty
 merge_step-requires-clause-duty c = (
   Handed,
   claimed c.args.hand.now c.look.new.hand c.in-Claimed.ensures.left.left_is c.in-Claimed.ensures.carried
-      c.requires.carries,
+      c.in-Claimed.ensures.left.keeps.layout c.requires.carries,
 )
 
 pub try_release_shared-requires-clause-acts : goal.try_release_shared-requires-clause-acts
@@ -26,7 +27,7 @@ try_release_shared-requires-clause-acts c =
     let merged =
     c.in-Kept.ensures.left Handed
     (claimed c.args.hand.now c.look.new.hand c.in-Claimed.ensures.left.left_is c.in-Claimed.ensures.carried
-    c.requires.carries) in
+    c.in-Claimed.ensures.left.keeps.layout c.requires.carries) in
     acts_still (acts_still c.requires.acts c.in-Claimed.ensures.left) merged.1
 
 pub try_release_shared-requires-clause-duty : goal.try_release_shared-requires-clause-duty
@@ -34,5 +35,5 @@ try_release_shared-requires-clause-duty c =
     let merged =
     c.in-Kept.ensures.left Handed
     (claimed c.args.hand.now c.look.new.hand c.in-Claimed.ensures.left.left_is c.in-Claimed.ensures.carried
-    c.requires.carries) in
+    c.in-Claimed.ensures.left.keeps.layout c.requires.carries) in
     (Handed, merged.1.left_is)
