@@ -8,10 +8,17 @@ mod RoundTrips
 mod KindWords
 mod ModeWords
 mod OperandForms
+mod ArgumentLists
+mod Callees
+mod OwnWords
+mod Calls
 mod HostForms
 mod Instructions
 mod TargetsFit
+mod Parameters
 mod Headings
+mod Below
+mod Depths
 mod Machine
 mod Uniqueness
 mod Bodies

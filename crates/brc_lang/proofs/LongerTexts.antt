@@ -4,6 +4,7 @@ use Rattle.std.proofs.Common.{Some, None, ap, ◌∙◌, append_assoc, inl, inr}
 use Rattle.std.specs.List.{list_any}
 use Rattle.std.proofs.lemmas.List.{take-append-le}
 use Rattle.brc_lang.specs.declared.fault.FaultCode.{FaultCode}
+use Rattle.brc_lang.specs.declared.version.Version.TheVariants as versions
 use Rattle.brc_lang.specs.declared.fault.FaultCode.TheVariants.{CutOff}
 use Rattle.brc_lang.specs.Grammar.{first_line}
 use Rattle.brc_lang.specs.Fault.{beginning, Beginning, fault_of, is_line_feed, is_whole, HasFault}
@@ -22,11 +23,11 @@ longer_rest b rest more code whole fault =
       ]
     ]
 
-pub fault_stays : (bytes more : List ℕ) (line : ℕ) (code : FaultCode) → length first_line ≤ length bytes
+pub fault_stays : (bytes more : List ℕ) (line : ℕ) (code : FaultCode) → length (first_line versions.One) ≤ length bytes
     → code ≢ CutOff → HasFault bytes line code → HasFault (bytes ++ more) line code
 fault_stays bytes more line code long whole (inl h) =
     inl (record {
-      other = rw (take-append-le (length first_line) bytes more long) h.other;
+      other = rw (take-append-le (length (first_line versions.One)) bytes more long) h.other;
       numbered = h.numbered;
       fault = h.fault;
     })

@@ -2,52 +2,58 @@
 use Rattle.std.proofs.Common.{◌≡◌, ℕ, ◌+◌, ◌<◌, ◌≤◌, true, false, cond, eqb, ◌&&◌, List, [], ◌∷◌, ◌++◌, length, drop}
 use Rattle.std.proofs.Common.{get_or, Option, Some, None, Result, Ok, Err, refl, sym, ap, ◌∙◌, append_assoc, add-zero}
 use Rattle.std.proofs.Common.{arith, inl, inr}
-use Rattle.std.specs.Prelude.{codes, nat_eq}
-use Rattle.std.specs.List.{list_any, slice_split, before_first, after_first, starts_with, AllByRecursion}
+use Rattle.std.specs.Prelude.{codes}
+use Rattle.std.specs.List.{list_any, slice_split, before_first, after_first, AllByRecursion}
 use Rattle.std.specs.Str.{bytes_eq}
 use Rattle.std.proofs.lemmas.Bool.{lt-leb, ne_eqb}
 use Rattle.std.proofs.lemmas.List.{append-nil, length-append, get_or_append_left}
 use Rattle.brc_lang.specs.declared.module.Module.{Module}
 use Rattle.brc_lang.specs.declared.module.Function.{Function}
 use Rattle.brc_lang.specs.declared.module.Instr.{Instr}
+use Rattle.brc_lang.specs.declared.parameter.Parameter.{Parameter}
+use Rattle.brc_lang.specs.declared.version.Version.{Version}
+use Rattle.brc_lang.specs.declared.version.Version.TheVariants as versions
 use Rattle.brc_lang.specs.declared.fault.FaultCode.{FaultCode}
 use Rattle.brc_lang.specs.declared.fault.FaultCode.TheVariants.{FirstLine, CutOff}
-use Rattle.brc_lang.specs.Grammar.{line, instruction, instructions, heading, function, functions, first_line, is_name}
-use Rattle.brc_lang.specs.Grammar.{IsInstruction, IsFunction, AreNamedApart}
-use Rattle.brc_lang.specs.Fault.{words, instruction_in, Beginning, beginning, open_text, named, IsBeginning}
-use Rattle.brc_lang.specs.Fault.{line_fault_of, is_whole, is_line_feed, fault_of, line_count}
+use Rattle.brc_lang.specs.Grammar.{line, spaced, instruction, instructions, heading, function, functions_below, functions}
+use Rattle.brc_lang.specs.Grammar.{first_line, is_name, IsInstruction, IsFunction, AreNamedApart, most_parameters, Runs}
+use Rattle.brc_lang.specs.Grammar.{CallFits, FitsBelow, CallsFit}
+use Rattle.brc_lang.specs.Fault.{words, instruction_in, heading_in, Beginning, beginning, open_text, named, IsBeginning}
+use Rattle.brc_lang.specs.Fault.{line_fault_of, is_whole, is_line_feed, fault_of, line_count, version_in}
 use Rattle.brc_lang.specs.Progress.{opened, closed}
 use Rattle.brc_lang.specs.Limits.{function_limit, instruction_limit}
+use Rattle.brc_lang.proofs.Below.{calls_parts}
+use Rattle.brc_lang.proofs.Bodies.{all_push}
 use Rattle.brc_lang.proofs.Cuts.{first_part, one_part, parts_some}
 use Rattle.brc_lang.proofs.Lines.{line_at, line_cut, line_count-append, line_count_one}
-use Rattle.brc_lang.proofs.Spelling.{name_plain}
 use Rattle.brc_lang.proofs.Tests.{chosen}
 use Rattle.brc_lang.proofs.Instructions.{instruction_again, instruction_plain, instruction_not_end}
 use Rattle.brc_lang.proofs.TargetsFit.{means_fit}
-use Rattle.brc_lang.proofs.Headings.{has_name, heading_again, new_name_from}
+use Rattle.brc_lang.proofs.Headings.{has_name, heading_words, heading_plain, heading_again, opening_fine, new_name_from}
 
 -- ---- the machine
 
 abbrev pub Answer : Type 0
 Answer = Result Module (ℕ × FaultCode)
 
-abbrev second_word : List (List ℕ) → List ℕ
-second_word (w ∷ n ∷ []) = n
-second_word _ = []
-
 abbrev with_instruction : Function → Result Instr FaultCode → Function
-with_instruction f (Ok i) = opened f.name (f.code ++ i ∷ [])
+with_instruction f (Ok i) = opened f.name f.parameters (f.code ++ i ∷ [])
 with_instruction f (Err e) = f
 
-abbrev inside : List Function → List ℕ → List Instr → Beginning
-inside done name code = record { done = done; open_function = Some (opened name code) }
+abbrev opened_by : Result (List ℕ × List Parameter) FaultCode → Function
+opened_by (Ok h) = opened h.0 h.1 []
+opened_by (Err e) = opened [] [] []
+
+-- the text above a line of an open function
+abbrev open_at : Version → List Function → Function → Beginning
+open_at version done f = record { version = version; done = done; open_function = Some f }
 
 -- the text above the next line, if this one has no fault
-abbrev after : List Function → Option Function → List ℕ → Beginning
-after done None text = inside done (second_word (words text)) []
-after done (Some f) text =
-    cond (bytes_eq text (codes "end")) (closed (done ++ f ∷ []))
-    (record { done = done; open_function = Some (with_instruction f (instruction_in (words text))) })
+abbrev after : Version → List Function → Option Function → List ℕ → Beginning
+after version done None text = open_at version done (opened_by (heading_in version (words text)))
+after version done (Some f) text =
+    cond (bytes_eq text (codes "end")) (closed version (done ++ f ∷ []))
+    (open_at version done (with_instruction f (instruction_in version done (words text))))
 
 abbrev stop_or : Option FaultCode → ℕ → Answer → Answer
 stop_or None n answer = answer
@@ -56,11 +62,11 @@ stop_or (Some code) n answer = Err (n, code)
 -- from the line n on; the last part has no line feed at its end
 abbrev read_from : ℕ → Beginning → List ℕ → List (List ℕ) → Answer
 read_from n b first [] =
-    cond (eqb (length first) 0 && is_whole b.done b.open_function) (Ok (record { functions = b.done }))
-    (Err (n, CutOff))
+    cond (eqb (length first) 0 && is_whole b.done b.open_function)
+    (Ok (record { version = b.version; functions = b.done })) (Err (n, CutOff))
 read_from n b first (next ∷ others) =
-    stop_or (line_fault_of b.done b.open_function first) n
-    (read_from (n + 1) (after b.done b.open_function first) next others)
+    stop_or (line_fault_of b.version b.done b.open_function first) n
+    (read_from (n + 1) (after b.version b.done b.open_function first) next others)
 
 abbrev read_parts : ℕ → Beginning → List (List ℕ) → Answer
 read_parts n b [] = Err (n, CutOff)
@@ -69,13 +75,17 @@ read_parts n b (first ∷ others) = read_from n b first others
 abbrev pub read_rest : ℕ → Beginning → List ℕ → Answer
 read_rest n b text = read_parts n b (slice_split is_line_feed text)
 
+abbrev reading_below : Option Version → List ℕ → Answer
+reading_below None below = Err (1, FirstLine)
+reading_below (Some version) below = read_rest 2 (closed version []) below
+
 abbrev pub reading : List ℕ → Answer
-reading bytes = cond (starts_with nat_eq bytes first_line) (read_rest 2 (closed []) (drop 9 bytes)) (Err (1, FirstLine))
+reading bytes = reading_below (version_in bytes) (drop 9 bytes)
 
 -- ---- one line
 
 passes_line : (n : ℕ) (b c : Beginning) (text rest : List ℕ) → list_any is_line_feed text ≡ false
-    → line_fault_of b.done b.open_function text ≡ None → after b.done b.open_function text ≡ c
+    → line_fault_of b.version b.done b.open_function text ≡ None → after b.version b.done b.open_function text ≡ c
     → read_rest n b (line text ++ rest) ≡ read_rest (n + 1) c rest
 passes_line n b c text rest plain fine next =
     let q = parts_some is_line_feed rest in
@@ -87,8 +97,8 @@ passes_line n b c text rest plain fine next =
 pub stops : (n : ℕ) (b : Beginning) (rest : List ℕ) (code : FaultCode) → fault_of b rest ≡ Some code
     → read_rest n b rest ≡ Err (n, code)
 stops n b rest code e =
-    elim (chosen (list_any is_line_feed rest) (line_fault_of b.done b.open_function (before_first is_line_feed rest)) _
-    (Some code) e) [
+    elim (chosen (list_any is_line_feed rest)
+    (line_fault_of b.version b.done b.open_function (before_first is_line_feed rest)) _ (Some code) e) [
       | inl ended ↦
           let q = parts_some is_line_feed (after_first is_line_feed rest) in
           let parts : slice_split is_line_feed rest ≡ before_first is_line_feed rest ∷ q.0 ∷ q.1 =
@@ -110,127 +120,160 @@ then_more : (n : ℕ) (text rest : List ℕ) → list_any is_line_feed text ≡ 
     → (n + 1) + line_count rest ≡ n + line_count (line text ++ rest)
 then_more n text rest plain = omega (arith, line_count-append (line text) rest, line_count_one text plain)
 
-instructions_pass : (n : ℕ) (done : List Function) (name : List ℕ) (front code : List Instr) (rest : List ℕ)
-    → AllByRecursion IsInstruction code → length front + length code ≤ instruction_limit
-    → read_rest n (inside done name front) (instructions code ++ rest)
-    ≡ read_rest (n + line_count (instructions code)) (inside done name (front ++ code)) rest
-instructions_pass n done name front [] rest fits few = rw (append-nil front, add-zero n) refl
-instructions_pass n done name front (i ∷ code) rest fits few =
-    let text = instruction i in
-    let plain = instruction_plain i fits.0 in
-    let again = instruction_again i fits.0 in
-    let fine : line_fault_of done (Some (opened name front)) text ≡ None =
-    rw (instruction_not_end i, again, lt-leb instruction_limit (length front) (omega arith)) refl in
-    let next : after done (Some (opened name front)) text ≡ inside done name (front ++ i ∷ []) =
-    rw (instruction_not_end i, again) refl in
-    let others =
-    instructions_pass (n + 1) done name (front ++ i ∷ []) code rest fits.1
-    (omega (arith, length-append front (i ∷ []))) in
-    ap (read_rest n (inside done name front)) (append_assoc (line text) (instructions code) rest)
-    ∙ passes_line n (inside done name front) (inside done name (front ++ i ∷ [])) text (instructions code ++ rest)
-    plain fine next
-    ∙ others
-    ∙ rw (append_assoc front (i ∷ []) code, then_more n text (instructions code) plain) refl
-
-heading_passes : (n : ℕ) (done : List Function) (name rest : List ℕ) → is_name name ≡ true
-    → length done < function_limit
-    → has_name name done ≡ false
-    → read_rest n (closed done) (heading name ++ rest) ≡ read_rest (n + 1) (inside done name []) rest
-heading_passes n done name rest fits room new =
-    let again = heading_again done name fits room new in
-    passes_line n (closed done) (inside done name []) (codes "func " ++ name) rest (name_plain name fits) again.1
-    (ap (λ (ws : List (List ℕ)). inside done (second_word ws) []) again.0)
-
 -- an open function, as far as it goes
-open_passes : (n : ℕ) (done : List Function) (name : List ℕ) (code : List Instr) (rest : List ℕ) → is_name name ≡ true
-    → length done < function_limit → has_name name done ≡ false → AllByRecursion IsInstruction code
-    → length code ≤ instruction_limit
-    → read_rest n (closed done) ((heading name ++ instructions code) ++ rest)
-    ≡ read_rest (n + line_count (heading name ++ instructions code)) (inside done name code) rest
-open_passes n done name code rest fits room new all few =
-    ap (read_rest n (closed done)) (append_assoc (heading name) (instructions code) rest)
-    ∙ heading_passes n done name (instructions code ++ rest) fits room new
-    ∙ instructions_pass (n + 1) done name [] code rest all (omega arith)
-    ∙ ap (λ (k : ℕ). read_rest k (inside done name code) rest)
-    (then_more n (codes "func " ++ name) (instructions code) (name_plain name fits))
+module _ (version : Version) (done : List Function) (whole : AllByRecursion IsFunction done)
+    (apart : AreNamedApart done) where
+  instructions_pass : (n : ℕ) (name : List ℕ) (ps : List Parameter) (front code : List Instr) (rest : List ℕ)
+      → AllByRecursion IsInstruction code → AllByRecursion (CallFits version done) code
+      → length front + length code ≤ instruction_limit
+      → read_rest n (open_at version done (opened name ps front)) (instructions done code ++ rest)
+      ≡ read_rest (n + line_count (instructions done code)) (open_at version done (opened name ps (front ++ code)))
+      rest
+  instructions_pass n name ps front [] rest fits calls few = rw (append-nil front, add-zero n) refl
+  instructions_pass n name ps front (i ∷ code) rest fits calls few =
+      let text = instruction done i in
+      let plain = instruction_plain version done whole apart i fits.0 calls.0 in
+      let again = instruction_again version done whole apart i fits.0 calls.0 in
+      let here = open_at version done (opened name ps front) in
+      let there = open_at version done (opened name ps (front ++ i ∷ [])) in
+      let fine : line_fault_of version done (Some (opened name ps front)) text ≡ None =
+      rw (instruction_not_end done i, again, lt-leb instruction_limit (length front) (omega arith)) refl in
+      let next : after version done (Some (opened name ps front)) text ≡ there =
+      rw (instruction_not_end done i, again) refl in
+      let others =
+      instructions_pass (n + 1) name ps (front ++ i ∷ []) code rest fits.1 calls.1
+      (omega (arith, length-append front (i ∷ []))) in
+      ap (read_rest n here) (append_assoc (line text) (instructions done code) rest)
+      ∙ passes_line n here there text (instructions done code ++ rest) plain fine next
+      ∙ others
+      ∙ rw (append_assoc front (i ∷ []) code, then_more n text (instructions done code) plain) refl
 
-function_passes : (n : ℕ) (done : List Function) (f : Function) (rest : List ℕ) → IsFunction f
-    → length done < function_limit
-    → has_name f.name done ≡ false
-    → read_rest n (closed done) (function f ++ rest)
-    ≡ read_rest (n + line_count (function f)) (closed (done ++ f ∷ [])) rest
-function_passes n done f rest fits room new =
-    let above = heading f.name ++ instructions f.code in
-    let last = line (codes "end") in
-    let some : eqb (length f.code) 0 ≡ false =
-    (let has = fits.some in ne_eqb (length f.code) 0 (λ none. omega arith)) in
-    let fine : line_fault_of done (Some f) (codes "end") ≡ None = rw (some, means_fit f.code fits.targets) refl in
-    let count : (n + line_count above) + 1 ≡ n + line_count (function f) =
-    omega (arith, line_count-append above last) in
-    ap (read_rest n (closed done)) (append_assoc above last rest)
-    ∙ open_passes n done f.name f.code (last ++ rest) fits.name room new fits.code fits.most
-    ∙ passes_line (n + line_count above) (inside done f.name f.code) (closed (done ++ f ∷ [])) (codes "end") rest refl
-    fine refl
-    ∙ ap (λ (k : ℕ). read_rest k (closed (done ++ f ∷ [])) rest) count
+  heading_passes : (n : ℕ) (name : List ℕ) (ps : List Parameter) (rest : List ℕ) → is_name name ≡ true
+      → length ps ≤ most_parameters version → length done < function_limit → has_name name done ≡ false
+      → read_rest n (closed version done) (heading name ps ++ rest)
+      ≡ read_rest (n + 1) (open_at version done (opened name ps [])) rest
+  heading_passes n name ps rest fits few room new =
+      passes_line n (closed version done) (open_at version done (opened name ps [])) (spaced (heading_words name ps))
+      rest
+      (heading_plain name ps fits) (opening_fine version done name ps fits few room new)
+      (ap (λ r. open_at version done (opened_by r)) (heading_again version name ps fits few))
 
-functions_pass : (n : ℕ) (done fs : List Function) (rest : List ℕ) → AllByRecursion IsFunction fs
-    → AreNamedApart (done ++ fs) → length done + length fs ≤ function_limit
-    → read_rest n (closed done) (functions fs ++ rest)
-    ≡ read_rest (n + line_count (functions fs)) (closed (done ++ fs)) rest
-functions_pass n done [] rest fits apart few = rw (append-nil done, add-zero n) refl
-functions_pass n done (f ∷ fs) rest fits apart few =
+  open_passes : (n : ℕ) (f : Function) (rest : List ℕ) → is_name f.name ≡ true
+      → FitsBelow version done f → length done < function_limit → has_name f.name done ≡ false
+      → AllByRecursion IsInstruction f.code → length f.code ≤ instruction_limit
+      → read_rest n (closed version done) ((heading f.name f.parameters ++ instructions done f.code) ++ rest)
+      ≡ read_rest (n + line_count (heading f.name f.parameters ++ instructions done f.code)) (open_at version done f)
+      rest
+  open_passes n f rest fits below room new all few =
+      let first = heading f.name f.parameters in
+      let lines = instructions done f.code in
+      ap (read_rest n (closed version done)) (append_assoc first lines rest)
+      ∙ heading_passes n f.name f.parameters (lines ++ rest) fits below.parameters room new
+      ∙ instructions_pass (n + 1) f.name f.parameters [] f.code rest all below.calls (omega arith)
+      ∙ ap (λ (k : ℕ). read_rest k (open_at version done f) rest)
+      (then_more n (spaced (heading_words f.name f.parameters)) lines (heading_plain f.name f.parameters fits))
+
+  function_passes : (n : ℕ) (f : Function) (rest : List ℕ) → IsFunction f → FitsBelow version done f
+      → length done < function_limit
+      → has_name f.name done ≡ false
+      → read_rest n (closed version done) (function done f ++ rest)
+      ≡ read_rest (n + line_count (function done f)) (closed version (done ++ f ∷ [])) rest
+  function_passes n f rest fits below room new =
+      let above = heading f.name f.parameters ++ instructions done f.code in
+      let last = line (codes "end") in
+      let some : eqb (length f.code) 0 ≡ false =
+      (let has = fits.some in ne_eqb (length f.code) 0 (λ none. omega arith)) in
+      let fine : line_fault_of version done (Some f) (codes "end") ≡ None =
+      rw (some, means_fit f.code fits.targets) refl in
+      let count : (n + line_count above) + 1 ≡ n + line_count (function done f) =
+      omega (arith, line_count-append above last) in
+      ap (read_rest n (closed version done)) (append_assoc above last rest)
+      ∙ open_passes n f (last ++ rest) fits.name below room new fits.code fits.most
+      ∙ passes_line (n + line_count above) (open_at version done f) (closed version (done ++ f ∷ [])) (codes "end")
+      rest refl fine refl
+      ∙ ap (λ (k : ℕ). read_rest k (closed version (done ++ f ∷ [])) rest) count
+
+-- the names of functions, and then of others
+front_apart : (done fs : List Function) → AreNamedApart (done ++ fs) → AreNamedApart done
+front_apart done fs apart i j d lt below same =
+    let first : get_or (done ++ fs) i d ≡ get_or done i d = get_or_append_left done fs d i (omega arith) in
+    let second : get_or (done ++ fs) j d ≡ get_or done j d = get_or_append_left done fs d j below in
+    let longer : j < length (done ++ fs) = omega (arith, length-append done fs, below) in
+    apart i j d lt longer (ap (λ (g : Function). g.name) first ∙ same ∙ sym (ap (λ (g : Function). g.name) second))
+
+functions_pass : (version : Version) (n : ℕ) (done fs : List Function) (rest : List ℕ) → AllByRecursion IsFunction done
+    → AllByRecursion IsFunction fs → CallsFit version done fs → AreNamedApart (done ++ fs)
+    → length done + length fs ≤ function_limit
+    → read_rest n (closed version done) (functions_below done fs ++ rest)
+    ≡ read_rest (n + line_count (functions_below done fs)) (closed version (done ++ fs)) rest
+functions_pass version n done [] rest whole fits calls apart few = rw (append-nil done, add-zero n) refl
+functions_pass version n done (f ∷ fs) rest whole fits calls apart few =
     let regrouped : (done ++ f ∷ []) ++ fs ≡ done ++ f ∷ fs = append_assoc done (f ∷ []) fs in
+    let text = function done f in
+    let below = functions_below (done ++ f ∷ []) fs in
     let others =
-    functions_pass (n + line_count (function f)) (done ++ f ∷ []) fs rest fits.1 (rw regrouped apart)
-    (omega (arith, length-append done (f ∷ []))) in
-    let count : (n + line_count (function f)) + line_count (functions fs) ≡ n + line_count (functions (f ∷ fs)) =
-    omega (arith, line_count-append (function f) (functions fs)) in
-    ap (read_rest n (closed done)) (append_assoc (function f) (functions fs) rest)
-    ∙ function_passes n done f (functions fs ++ rest) fits.0 (omega arith) (new_name_from done f fs apart)
+    functions_pass version (n + line_count text) (done ++ f ∷ []) fs rest (all_push IsFunction done f whole fits.0)
+    fits.1 calls.1 (rw regrouped apart) (omega (arith, length-append done (f ∷ []))) in
+    let count : (n + line_count text) + line_count below ≡ n + line_count (functions_below done (f ∷ fs)) =
+    omega (arith, line_count-append text below) in
+    ap (read_rest n (closed version done)) (append_assoc text below rest)
+    ∙ function_passes version done whole (front_apart done (f ∷ fs) apart) n f (below ++ rest) fits.0 calls.0
+    (omega arith) (new_name_from done f fs apart)
     ∙ others
     ∙ rw (regrouped, count) refl
-
-open_end : (n : ℕ) (done : List Function) (o : Option Function) (rest : List ℕ)
-    → IsBeginning (record { done = done; open_function = o })
-    → read_rest n (closed done) (open_text o ++ rest)
-    ≡ read_rest (n + line_count (open_text o)) (record { done = done; open_function = o }) rest
-open_end n done None rest fits = rw (add-zero n) refl
-open_end n done (Some f) rest fits =
-    let room : length done < function_limit = omega (arith, length-append done (f ∷ []), fits.most) in
-    open_passes n done f.name f.code rest fits.open_fits.name room (new_name_from done f [] fits.names)
-    fits.open_fits.code fits.open_fits.most
 
 pub done_apart : (done : List Function) (o : Option Function) → AreNamedApart (named done o)
     → length (named done o) ≤ function_limit → AreNamedApart done × (length done ≤ function_limit)
 done_apart done None apart few = (apart, few)
 done_apart done (Some f) apart few =
-    let len = length-append done (f ∷ []) in (
-      λ i j d lt below same.
-          let first : get_or (done ++ f ∷ []) i d ≡ get_or done i d =
-          get_or_append_left done (f ∷ []) d i (omega arith) in
-          let second : get_or (done ++ f ∷ []) j d ≡ get_or done j d = get_or_append_left done (f ∷ []) d j below in
-          apart i j d lt (omega arith) (ap (λ (g : Function). g.name) first ∙ same
-          ∙ sym (ap (λ (g : Function). g.name) second)),
-      omega arith,
-    )
+    (front_apart done (f ∷ []) apart, omega (arith, few, length-append done (f ∷ [])))
+
+-- the functions above an open one fit
+pub done_calls : (version : Version) (done : List Function) (o : Option Function) → CallsFit version [] (named done o)
+    → CallsFit version [] done
+done_calls version done None calls = calls
+done_calls version done (Some f) calls = (calls_parts version done (f ∷ []) calls).0
+
+open_end : (version : Version) (n : ℕ) (done : List Function) (o : Option Function) (rest : List ℕ)
+    → IsBeginning (record { version = version; done = done; open_function = o })
+    → read_rest n (closed version done) (open_text done o ++ rest)
+    ≡ read_rest (n + line_count (open_text done o)) (record { version = version; done = done; open_function = o }) rest
+open_end version n done None rest fits = rw (add-zero n) refl
+open_end version n done (Some f) rest fits =
+    let room : length done < function_limit = omega (arith, length-append done (f ∷ []), fits.most) in
+    open_passes version done fits.done (done_apart done (Some f) fits.names fits.most).0 n f rest fits.open_fits.name
+    (calls_parts version done (f ∷ []) fits.calls).1.0 room
+    (new_name_from done f [] fits.names)
+    fits.open_fits.code fits.open_fits.most
+
+first_line_is_one : (version : Version) → line_count (first_line version) ≡ 1
+first_line_is_one versions.One = refl
+first_line_is_one versions.Two = refl
+
+-- the first line is read
+first_line_passes : (version : Version) (rest : List ℕ) → Runs version
+    → reading (first_line version ++ rest) ≡ read_rest 2 (closed version []) rest
+first_line_passes versions.One rest runs = refl
+first_line_passes versions.Two rest runs = absurd runs
 
 -- the text above is read, and then the rest
 pub beginning_passes : (b : Beginning) (rest : List ℕ) → IsBeginning b
     → reading (beginning b ++ rest) ≡ read_rest (line_count (beginning b) + 1) b rest
 beginning_passes b rest fits =
+    let first = first_line b.version in
+    let lines = functions b.done in
+    let last = open_text b.done b.open_function in
     let apart = done_apart b.done b.open_function fits.names fits.most in
-    let lines = functions b.done ++ open_text b.open_function in
-    let start : reading (beginning b ++ rest)
-    ≡ read_rest 2 (closed []) (functions b.done ++ (open_text b.open_function ++ rest)) =
-    ap (read_rest 2 (closed [])) (append_assoc (functions b.done) (open_text b.open_function) rest) in
-    let count : (2 + line_count (functions b.done)) + line_count (open_text b.open_function) ≡ line_count (beginning b)
-    + 1 =
-    omega (
-      arith,
-      line_count-append (first_line ++ functions b.done) (open_text b.open_function),
-      line_count-append first_line (functions b.done),
-    ) in
+    let start : reading (beginning b ++ rest) ≡ read_rest 2 (closed b.version []) (lines ++ (last ++ rest)) =
+    ap reading (ap (λ (x : List ℕ). x ++ rest) (append_assoc first lines last)
+    ∙ append_assoc first (lines ++ last) rest
+    ∙ ap (λ (x : List ℕ). first ++ x) (append_assoc lines last rest))
+    ∙ first_line_passes b.version (lines ++ (last ++ rest)) fits.version in
+    let one : line_count first ≡ 1 = first_line_is_one b.version in
+    let count : (2 + line_count lines) + line_count last ≡ line_count (beginning b) + 1 =
+    omega (arith, one, line_count-append (first ++ lines) last, line_count-append first lines) in
     start
-    ∙ functions_pass 2 [] b.done (open_text b.open_function ++ rest) fits.done apart.0 (omega (arith, apart.1))
-    ∙ open_end (2 + line_count (functions b.done)) b.done b.open_function rest fits
+    ∙ functions_pass b.version 2 [] b.done (last ++ rest) tt fits.done
+    (done_calls b.version b.done b.open_function fits.calls) apart.0 (omega (arith, apart.1))
+    ∙ open_end b.version (2 + line_count lines) b.done b.open_function rest fits
     ∙ ap (λ (k : ℕ). read_rest k b rest) count

@@ -1,55 +1,44 @@
 -- The fault of a text is never `NoMemory`.
-use Rattle.std.proofs.Common.{◌≢◌, ℕ, Bool, true, false, cond, leb, eqb, not, ◌&&◌, List, [], ◌∷◌, length, Option}
+use Rattle.std.proofs.Common.{◌≢◌, ℕ, ◌*◌, Bool, true, false, cond, leb, eqb, ◌&&◌, List, [], ◌∷◌, length, Option}
 use Rattle.std.proofs.Common.{Some, None, Result, Ok, Err, sym, subst, inl, inr}
 use Rattle.std.specs.Prelude.{codes}
 use Rattle.std.specs.List.{list_any, before_first}
 use Rattle.std.specs.Str.{bytes_eq}
-use Rattle.std.specs.Str.Parse.{digits_value}
+use Rattle.brc_lang.specs.declared.kind.Kind.TheVariants as kinds
 use Rattle.brc_lang.specs.declared.module.Function.{Function}
 use Rattle.brc_lang.specs.declared.module.Instr.{Instr}
+use Rattle.brc_lang.specs.declared.parameter.Parameter.{Parameter}
+use Rattle.brc_lang.specs.declared.version.Version.{Version}
 use Rattle.brc_lang.specs.declared.fault.FaultCode.{FaultCode}
 use Rattle.brc_lang.specs.declared.fault.FaultCode.TheVariants.{FirstLine, UnknownWord, Number, Target, NameTwice}
 use Rattle.brc_lang.specs.declared.fault.FaultCode.TheVariants.{OverLimit, CutOff, NoMemory}
-use Rattle.brc_lang.specs.Grammar.{is_name}
-use Rattle.brc_lang.specs.Fault.{words, is_numeral, number_in, variable_in, target_in, ◌>>=◌, one_variable_in}
+use Rattle.brc_lang.specs.Grammar.{most_parameters}
+use Rattle.brc_lang.specs.Fault.{words, number_in, variable_in, target_in, name_in, one_variable_in}
 use Rattle.brc_lang.specs.Fault.{two_variables_in, one_target_in, number_between, birth_in, taking_in, store_in, kind_in}
-use Rattle.brc_lang.specs.Fault.{mode_in, open_in, pair_in, as_in, fail_in, path_instruction_in, host_instruction_in, item_instruction_in}
-use Rattle.brc_lang.specs.Fault.{instruction_in, again_in, targets_fit}
-use Rattle.brc_lang.specs.Fault.{Beginning, heading_fault_of, end_fault_of, next_instruction_fault_of, line_fault_of}
+use Rattle.brc_lang.specs.Fault.{mode_in, open_in, pair_in, as_in, fail_in, path_instruction_in, host_instruction_in}
+use Rattle.brc_lang.specs.Fault.{item_instruction_in, plain_instruction_in, call_in, has_calls, instruction_in, again_in}
+use Rattle.brc_lang.specs.Fault.{passing_in, parameter_kind_in, parameters_in, parameters_within, heading_in}
+use Rattle.brc_lang.specs.Fault.{opening_fault_of, targets_fit}
+use Rattle.brc_lang.specs.Fault.{Beginning, end_fault_of, next_instruction_fault_of, line_fault_of}
 use Rattle.brc_lang.specs.Fault.{is_whole, is_line_feed, fault_of, HasFault, IsOwn, IsOwnFault}
-use Rattle.brc_lang.specs.Limits.{function_limit, instruction_limit, last_variable, last_target, value_limit}
+use Rattle.brc_lang.specs.Limits.{function_limit, instruction_limit, value_limit}
 use Rattle.brc_lang.specs.Limits.{text_cells, last_index, last_path, last_peer, read_limit, turn_limit}
+use Rattle.brc_lang.proofs.Calls.{call_own}
 use Rattle.brc_lang.proofs.Headings.{has_name}
+use Rattle.brc_lang.proofs.OwnWords.{own_then, own_either, own_word, own_number, own_limit, number_own, variable_own}
+use Rattle.brc_lang.proofs.OwnWords.{target_own, name_own}
 
 -- ---- results and options whose fault, if any, is the text's own
-
-pub own_then : {A B : Type 0} (r : Result A FaultCode) (f : A → Result B FaultCode) → IsOwn r
-    → ((x : A) → IsOwn (f x)) → IsOwn (r >>= f)
-own_then (Ok x) f here then = then x
-own_then (Err code) f here then = here
-
-pub own_either : {A : Type 0} (b : Bool) (x y : Result A FaultCode) → IsOwn x → IsOwn y → IsOwn (cond b x y)
-own_either true x y here there = here
-own_either false x y here there = there
 
 pub own_fault_either : (b : Bool) (x y : Option FaultCode) → IsOwnFault x → IsOwnFault y → IsOwnFault (cond b x y)
 own_fault_either true x y here there = here
 own_fault_either false x y here there = there
-
-pub own_word : UnknownWord ≢ NoMemory
-own_word e = cc
-
-pub own_number : Number ≢ NoMemory
-own_number e = cc
 
 own_target : Target ≢ NoMemory
 own_target e = cc
 
 own_name : NameTwice ≢ NoMemory
 own_name e = cc
-
-own_limit : OverLimit ≢ NoMemory
-own_limit e = cc
 
 pub own_cut : CutOff ≢ NoMemory
 own_cut e = cc
@@ -59,25 +48,10 @@ own_first e = cc
 
 -- ---- words
 
-pub number_own : (high : ℕ) (word : List ℕ) → IsOwn (number_in high word)
-number_own high word =
-    let n = digits_value 10 word in
-    own_either (is_numeral word && leb n high) (Ok n) (Err Number) tt own_number
-
 between_own : (low high : ℕ) (word : List ℕ) → IsOwn (number_between low high word)
 between_own low high word =
     own_then (number_in high word) _ (number_own high word) (λ n.
     own_either (leb low n) (Ok n) (Err Number) tt own_number)
-
-variable_own : (word : List ℕ) → IsOwn (variable_in word)
-variable_own [] = own_word
-variable_own (c ∷ cs) = own_either (eqb c 118) (number_in last_variable cs) (Err UnknownWord)
-    (number_own last_variable cs) own_word
-
-target_own : (word : List ℕ) → IsOwn (target_in word)
-target_own [] = own_word
-target_own (c ∷ cs) = own_either (eqb c 64) (number_in last_target cs) (Err UnknownWord) (number_own last_target cs)
-    own_word
 
 one_variable_own : (ws : List (List ℕ)) → IsOwn (one_variable_in ws)
 one_variable_own [] = own_word
@@ -231,9 +205,9 @@ item_instruction_own w ws =
     (own_either (bytes_eq w (codes "put")) _ _ (own_then (store_in ws) _ (store_own ws) (λ v. tt))
     (host_instruction_own w ws))))
 
-instruction_own : (ws : List (List ℕ)) → IsOwn (instruction_in ws)
-instruction_own [] = own_word
-instruction_own (w ∷ ws) =
+plain_instruction_own : (ws : List (List ℕ)) → IsOwn (plain_instruction_in ws)
+plain_instruction_own [] = own_word
+plain_instruction_own (w ∷ ws) =
     own_either (bytes_eq w (codes "num")) _ _
     (own_then (birth_in 0 value_limit ws) _ (birth_own 0 value_limit ws) (λ v. tt))
     (own_either (bytes_eq w (codes "list")) _ _
@@ -246,37 +220,68 @@ instruction_own (w ∷ ws) =
     (own_either (bytes_eq w (codes "unlock")) _ _ (own_then (one_variable_in ws) _ (one_variable_own ws) (λ v. tt))
     (item_instruction_own w ws))))))))
 
+instruction_own : (version : Version) (above : List Function) (ws : List (List ℕ))
+    → IsOwn (instruction_in version above ws)
+instruction_own version above [] = own_word
+instruction_own version above (w ∷ ws) =
+    own_either (bytes_eq w (codes "call") && has_calls version) (call_in above ws) _ (call_own above ws)
+    (plain_instruction_own (w ∷ ws))
+
 -- ---- lines
 
-heading_own : (done : List Function) (ws : List (List ℕ)) → IsOwnFault (heading_fault_of done ws)
-heading_own done [] = own_word
-heading_own done (w ∷ []) = own_word
-heading_own done (w ∷ n ∷ []) =
-    own_fault_either (not (bytes_eq w (codes "func") && is_name n)) (Some UnknownWord) _ own_word
-    (own_fault_either (leb function_limit (length done)) (Some OverLimit) _ own_limit
-    (own_fault_either (has_name n done) (Some NameTwice) None own_name tt))
-heading_own done (w ∷ n ∷ x ∷ ws) = own_word
+passing_own : (word : List ℕ) → IsOwn (passing_in word)
+passing_own word =
+    own_either (bytes_eq word (codes "borrow")) _ _ tt
+    (own_either (bytes_eq word (codes "steal")) _ (Err UnknownWord) tt own_word)
+
+parameters_own : (ws : List (List ℕ)) → IsOwn (parameters_in ws)
+parameters_own [] = tt
+parameters_own (word ∷ []) = own_word
+parameters_own (word ∷ kind ∷ ws) =
+    own_then (passing_in word) _ (passing_own word) (λ p.
+    own_then (parameter_kind_in kind) _
+    (own_either (bytes_eq kind (codes "any")) (Ok kinds.Any) _ tt (kind_own kind)) (λ k.
+    own_then (parameters_in ws) _ (parameters_own ws) (λ ps. tt)))
+
+heading_in_own : (version : Version) (ws : List (List ℕ)) → IsOwn (heading_in version ws)
+heading_in_own version [] = own_word
+heading_in_own version (w ∷ []) = own_word
+heading_in_own version (w ∷ n ∷ ws) =
+    own_either (bytes_eq w (codes "func")) _ (Err UnknownWord)
+    (own_then (name_in n) _ (name_own n) (λ name.
+    own_then (parameters_within (most_parameters version) ws) _
+    (own_either (leb (length ws) (2 * most_parameters version)) (parameters_in ws) (Err UnknownWord) (parameters_own ws)
+    own_word) (λ ps. tt))) own_word
+
+opening_own : (done : List Function) (r : Result (List ℕ × List Parameter) FaultCode) → IsOwn r
+    → IsOwnFault (opening_fault_of done r)
+opening_own done (Ok h) here =
+    own_fault_either (leb function_limit (length done)) (Some OverLimit) _ own_limit
+    (own_fault_either (has_name h.0 done) (Some NameTwice) None own_name tt)
+opening_own done (Err code) here = here
 
 end_own : (code : List Instr) → IsOwnFault (end_fault_of code)
 end_own code =
     own_fault_either (eqb (length code) 0) (Some OverLimit) _ own_limit
     (own_fault_either (targets_fit code) None (Some Target) tt own_target)
 
-next_own : (f : Function) (r : Result Instr FaultCode) → IsOwn r → IsOwnFault (next_instruction_fault_of f r)
-next_own f (Ok i) here = own_fault_either (leb instruction_limit (length f.code)) (Some OverLimit) None own_limit tt
-next_own f (Err code) here = here
+next_own : (code : List Instr) (r : Result Instr FaultCode) → IsOwn r → IsOwnFault (next_instruction_fault_of code r)
+next_own code (Ok i) here = own_fault_either (leb instruction_limit (length code)) (Some OverLimit) None own_limit tt
+next_own code (Err fault) here = here
 
-line_own : (done : List Function) (o : Option Function) (line : List ℕ) → IsOwnFault (line_fault_of done o line)
-line_own done None line = heading_own done (words line)
-line_own done (Some f) line =
+line_own : (version : Version) (done : List Function) (o : Option Function) (line : List ℕ)
+    → IsOwnFault (line_fault_of version done o line)
+line_own version done None line =
+    opening_own done (heading_in version (words line)) (heading_in_own version (words line))
+line_own version done (Some f) line =
     own_fault_either (bytes_eq line (codes "end")) (end_fault_of f.code) _ (end_own f.code)
-    (next_own f (instruction_in (words line)) (instruction_own (words line)))
+    (next_own f.code (instruction_in version done (words line)) (instruction_own version done (words line)))
 
 rest_own : (b : Beginning) (rest : List ℕ) → IsOwnFault (fault_of b rest)
 rest_own b rest =
     let line = before_first is_line_feed rest in
-    own_fault_either (list_any is_line_feed rest) (line_fault_of b.done b.open_function line) _
-    (line_own b.done b.open_function line)
+    own_fault_either (list_any is_line_feed rest) (line_fault_of b.version b.done b.open_function line) _
+    (line_own b.version b.done b.open_function line)
     (own_fault_either (eqb (length rest) 0 && is_whole b.done b.open_function) None (Some CutOff) tt own_cut)
 
 -- ---- texts

@@ -1,8 +1,8 @@
 -- The fault of a text: that of its first faulty line from the top.
 use Rattle.std.specs.Prelude.{◌≡◌, ◌≢◌, ℕ, ◌+◌, ◌≤◌, Bool, true, false, ◌&&◌, ◌||◌, ◌==◌, not, nat_le, nat_lt, nat_eq}
 use Rattle.std.specs.Prelude.{if◌then◌else◌, IsTrue, List, [], ◌∷◌, ◌++◌, length, Option, None, Some, Result, Ok, Err}
-use Rattle.std.specs.Prelude.{count_by, codes, ◌⊎◌, MatchResult}
-use Rattle.std.specs.List.{AllByRecursion, list_all, list_any, slice_split, before_first, starts_with}
+use Rattle.std.specs.Prelude.{count_by, codes, ◌⊎◌, ◌*◌, MatchResult, slice_get, position}
+use Rattle.std.specs.List.{AllByRecursion, list_all, list_any, slice_split, before_first, starts_with, slice_index_or}
 use Rattle.std.specs.Str.{bytes_eq}
 use Rattle.std.specs.Str.Parse.{digits_value}
 use Rattle.std.specs.Char.{is_ascii_digit}
@@ -13,15 +13,21 @@ use Rattle.brc_lang.specs.declared.module.Function.{Function}
 use Rattle.brc_lang.specs.declared.module.Instr.{Instr}
 use Rattle.brc_lang.specs.declared.module.Instr.TheVariants.{Num, List as ListObject, NoneObject, Newref, Move}
 use Rattle.brc_lang.specs.declared.module.Instr.TheVariants.{Drop, Lock, Unlock, Borrow, Fetch, Set, Put, As}
-use Rattle.brc_lang.specs.declared.module.Instr.TheVariants.{Open, Connect, Read, Write, Goto, Again, Ret, Fail}
+use Rattle.brc_lang.specs.declared.module.Instr.TheVariants.{Open, Connect, Read, Write, Call, Goto, Again, Ret, Fail}
+use Rattle.brc_lang.specs.declared.parameter.Parameter.{Parameter}
+use Rattle.brc_lang.specs.declared.parameter.Argument.{Argument}
+use Rattle.brc_lang.specs.declared.parameter.Passing.{Passing}
+use Rattle.brc_lang.specs.declared.parameter.Passing.TheVariants as passings
+use Rattle.brc_lang.specs.declared.version.Version.{Version}
+use Rattle.brc_lang.specs.declared.version.Version.TheVariants as versions
 use Rattle.brc_lang.specs.declared.fault.FaultCode.{FaultCode}
 use Rattle.brc_lang.specs.declared.fault.FaultCode.TheVariants.{FirstLine, UnknownWord, Number, Target, NameTwice}
-use Rattle.brc_lang.specs.declared.fault.FaultCode.TheVariants.{OverLimit, CutOff, NoMemory}
+use Rattle.brc_lang.specs.declared.fault.FaultCode.TheVariants.{OverLimit, CutOff, NoMemory, Callee}
 use Rattle.brc_lang.specs.declared.fault.ReadFault.{ReadFault}
 use Rattle.brc_lang.specs.declared.module.Module.{Module}
 use Rattle.brc_lang.specs.Grammar.{is_name, IsInstruction, jump, turn, IsFunction, AreNamedApart, heading}
-use Rattle.brc_lang.specs.Grammar.{instructions, functions, first_line}
-use Rattle.brc_lang.specs.Limits.{function_limit, instruction_limit, last_variable, last_target, value_limit}
+use Rattle.brc_lang.specs.Grammar.{instructions, functions, first_line, depths, most_parameters, CallsFit, Runs}
+use Rattle.brc_lang.specs.Limits.{function_limit, instruction_limit, last_variable, last_target, value_limit, depth_limit}
 use Rattle.brc_lang.specs.Limits.{text_cells, last_index, last_path, last_peer, read_limit, turn_limit}
 use Rattle.brc_lang.specs.Modes.{reads, writes, creates, mode_of}
 
@@ -70,6 +76,20 @@ mode_in word =
     else if bytes_eq word (codes "wc") then Ok (mode_of (writes + creates))
     else if bytes_eq word (codes "rwc") then Ok (mode_of (reads + writes + creates))
     else Err UnknownWord
+
+-- the word of a parameter's kind; `any` is one
+abbrev pub parameter_kind_in : List ℕ → Result Kind FaultCode
+parameter_kind_in word = if bytes_eq word (codes "any") then Ok kinds.Any else kind_in word
+
+-- the word of a passing
+abbrev pub passing_in : List ℕ → Result Passing FaultCode
+passing_in word =
+    if bytes_eq word (codes "borrow") then Ok passings.Borrow
+    else if bytes_eq word (codes "steal") then Ok passings.Steal
+    else Err UnknownWord
+
+abbrev pub name_in : List ℕ → Result (List ℕ) FaultCode
+name_in word = if is_name word then Ok word else Err UnknownWord
 
 infixl 10 ◌>>=◌
 abbrev pub ◌>>=◌ : {A B : Type 0} → Result A FaultCode → (A → Result B FaultCode) → Result B FaultCode
@@ -186,9 +206,10 @@ item_instruction_in w ws =
     else if bytes_eq w (codes "put") then (store_in ws >>= λ b. Ok (Put b.0 b.1 b.2 b.3))
     else host_instruction_in w ws
 
-abbrev pub instruction_in : List (List ℕ) → Result Instr FaultCode
-instruction_in [] = Err UnknownWord
-instruction_in (w ∷ ws) =
+-- one that calls no function
+abbrev pub plain_instruction_in : List (List ℕ) → Result Instr FaultCode
+plain_instruction_in [] = Err UnknownWord
+plain_instruction_in (w ∷ ws) =
     if bytes_eq w (codes "num") then (birth_in 0 value_limit ws >>= λ b. Ok (Num b.0 b.1 b.2))
     else if bytes_eq w (codes "list") then (birth_in 1 text_cells ws >>= λ b. Ok (ListObject b.0 b.1 b.2))
     else if bytes_eq w (codes "none") then (one_variable_in ws >>= λ d. Ok (NoneObject d))
@@ -198,6 +219,65 @@ instruction_in (w ∷ ws) =
     else if bytes_eq w (codes "lock") then (one_variable_in ws >>= λ c. Ok (Lock c))
     else if bytes_eq w (codes "unlock") then (one_variable_in ws >>= λ c. Ok (Unlock c))
     else item_instruction_in w ws
+
+-- ---- calls
+
+abbrev pub IsOk : {A : Type 0} → Result A FaultCode → Type 0
+IsOk (Ok x) = Unit {0}
+IsOk (Err code) = ⊥
+
+abbrev pub variables_in : List (List ℕ) → Result (List ℕ) FaultCode
+variables_in [] = Ok []
+variables_in (w ∷ ws) = variable_in w >>= λ v. variables_in ws >>= λ vs. Ok (v ∷ vs)
+
+-- each variable with its parameter
+abbrev pub arguments_of : List Parameter → List ℕ → List Argument
+arguments_of (p ∷ ps) (v ∷ vs) = record { from = v; parameter = p } ∷ arguments_of ps vs
+arguments_of ps vs = []
+
+-- the function of a number and its arguments: it has as many parameters, and its own calls leave room for one more
+abbrev pub callee_at : ℕ → ℕ → List ℕ → Option Function → Result (ℕ × List Argument) FaultCode
+callee_at number depth variables None = Err Callee
+callee_at number depth variables (Some f) =
+    if not (length f.parameters == length variables) then Err Callee
+    else if nat_le depth_limit depth then Err OverLimit
+    else Ok (number, arguments_of f.parameters variables)
+
+abbrev pub callee_found : List Function → List ℕ → Option ℕ → Result (ℕ × List Argument) FaultCode
+callee_found above variables None = Err Callee
+callee_found above variables (Some number) =
+    callee_at number (slice_index_or (depths above) number 0) variables (slice_get above number)
+
+-- the function of this name, which is one above, and its arguments
+abbrev pub callee_in : List Function → List ℕ → List ℕ → Result (ℕ × List Argument) FaultCode
+callee_in above name variables = callee_found above variables (position (λ f. bytes_eq f.name name) above)
+
+-- `else` is compared first, and the function is looked for last
+abbrev pub call_of : List Function → List ℕ → List ℕ → List (List ℕ) → List ℕ → List ℕ → Result Instr FaultCode
+call_of above to name variables word otherwise =
+    if bytes_eq word (codes "else")
+    then (variable_in to >>= λ d. name_in name >>= λ n. variables_in variables >>= λ vs. target_in otherwise >>= λ l.
+    callee_in above n vs >>= λ c. Ok (Call d c.0 c.1 l))
+    else Err UnknownWord
+
+-- a variable, a name, 0 to 4 variables, `else` and a target
+abbrev pub call_in : List Function → List (List ℕ) → Result Instr FaultCode
+call_in above (to ∷ name ∷ word ∷ l ∷ []) = call_of above to name [] word l
+call_in above (to ∷ name ∷ a ∷ word ∷ l ∷ []) = call_of above to name (a ∷ []) word l
+call_in above (to ∷ name ∷ a ∷ b ∷ word ∷ l ∷ []) = call_of above to name (a ∷ b ∷ []) word l
+call_in above (to ∷ name ∷ a ∷ b ∷ c ∷ word ∷ l ∷ []) = call_of above to name (a ∷ b ∷ c ∷ []) word l
+call_in above (to ∷ name ∷ a ∷ b ∷ c ∷ d ∷ word ∷ l ∷ []) = call_of above to name (a ∷ b ∷ c ∷ d ∷ []) word l
+call_in above _ = Err UnknownWord
+
+abbrev pub has_calls : Version → Bool
+has_calls versions.One = false
+has_calls versions.Two = true
+
+-- the instruction of a line below these functions
+abbrev pub instruction_in : Version → List Function → List (List ℕ) → Result Instr FaultCode
+instruction_in version above [] = Err UnknownWord
+instruction_in version above (w ∷ ws) =
+    if bytes_eq w (codes "call") && has_calls version then call_in above ws else plain_instruction_in (w ∷ ws)
 
 -- ---- the targets of a function
 
@@ -222,17 +302,18 @@ targets_fit code = targets_fit_from 0 (length code) code
 
 -- ---- a line after those above it
 
--- the text above a line: whole functions, and maybe one that is open
+-- the text above a line: the first line, whole functions, and maybe one that is open
 pub record Beginning : Type 0 where
+  pub version : Version
   pub done : List Function
   pub open_function : Option Function
 
-abbrev pub open_text : Option Function → List ℕ
-open_text None = []
-open_text (Some f) = heading f.name ++ instructions f.code
+abbrev pub open_text : List Function → Option Function → List ℕ
+open_text above None = []
+open_text above (Some f) = heading f.name f.parameters ++ instructions above f.code
 
 abbrev pub beginning : Beginning → List ℕ
-beginning b = first_line ++ functions b.done ++ open_text b.open_function
+beginning b = first_line b.version ++ functions b.done ++ open_text b.done b.open_function
 
 -- the functions whose names are above
 abbrev pub named : List Function → Option Function → List Function
@@ -251,18 +332,42 @@ IfOpen (Some f) = IsOpen f
 
 -- each line so far is one that the grammar allows there
 pub record IsBeginning (b : Beginning) : Type 0 where
+  pub version : Runs b.version
   pub most : length (named b.done b.open_function) ≤ function_limit
   pub done : AllByRecursion IsFunction b.done
   pub names : AreNamedApart (named b.done b.open_function)
+  pub calls : CallsFit b.version [] (named b.done b.open_function)
   pub open_fits : IfOpen b.open_function
 
-abbrev pub heading_fault_of : List Function → List (List ℕ) → Option FaultCode
-heading_fault_of done (w ∷ name ∷ []) =
-    if not (bytes_eq w (codes "func") && is_name name) then Some UnknownWord
-    else if nat_le function_limit (length done) then Some OverLimit
-    else if list_any (λ f. bytes_eq f.name name) done then Some NameTwice
+-- a passing and a kind for each parameter
+abbrev pub parameters_in : List (List ℕ) → Result (List Parameter) FaultCode
+parameters_in [] = Ok []
+parameters_in (word ∷ []) = Err UnknownWord
+parameters_in (word ∷ kind ∷ ws) =
+    passing_in word >>= λ p. parameter_kind_in kind >>= λ k. parameters_in ws >>= λ ps.
+    Ok (record { passing = p; kind = k } ∷ ps)
+
+-- at most as many parameters
+abbrev pub parameters_within : ℕ → List (List ℕ) → Result (List Parameter) FaultCode
+parameters_within most ws = if nat_le (length ws) (2 * most) then parameters_in ws else Err UnknownWord
+
+-- the name and the parameters of the function that a line opens
+abbrev pub heading_in : Version → List (List ℕ) → Result (List ℕ × List Parameter) FaultCode
+heading_in version (w ∷ name ∷ ws) =
+    if bytes_eq w (codes "func")
+    then (name_in name >>= λ n. parameters_within (most_parameters version) ws >>= λ ps. Ok (n, ps))
+    else Err UnknownWord
+heading_in version _ = Err UnknownWord
+
+abbrev pub opening_fault_of : List Function → Result (List ℕ × List Parameter) FaultCode → Option FaultCode
+opening_fault_of done (Err code) = Some code
+opening_fault_of done (Ok opening) =
+    if nat_le function_limit (length done) then Some OverLimit
+    else if list_any (λ f. bytes_eq f.name opening.0) done then Some NameTwice
     else None
-heading_fault_of done _ = Some UnknownWord
+
+abbrev pub heading_fault_of : Version → List Function → List (List ℕ) → Option FaultCode
+heading_fault_of version done ws = opening_fault_of done (heading_in version ws)
 
 abbrev pub end_fault_of : List Instr → Option FaultCode
 end_fault_of code =
@@ -270,16 +375,17 @@ end_fault_of code =
     else if targets_fit code then None
     else Some Target
 
-abbrev pub next_instruction_fault_of : Function → Result Instr FaultCode → Option FaultCode
-next_instruction_fault_of f (Err code) = Some code
-next_instruction_fault_of f (Ok i) = if nat_le instruction_limit (length f.code) then Some OverLimit else None
+-- the fault of a line below the code, which was read as this instruction
+abbrev pub next_instruction_fault_of : List Instr → Result Instr FaultCode → Option FaultCode
+next_instruction_fault_of code (Err fault) = Some fault
+next_instruction_fault_of code (Ok i) = if nat_le instruction_limit (length code) then Some OverLimit else None
 
 -- the fault of a line: outside a function only a heading is allowed, inside one only instructions and `end`
-abbrev pub line_fault_of : List Function → Option Function → List ℕ → Option FaultCode
-line_fault_of done None line = heading_fault_of done (words line)
-line_fault_of done (Some f) line =
+abbrev pub line_fault_of : Version → List Function → Option Function → List ℕ → Option FaultCode
+line_fault_of version done None line = heading_fault_of version done (words line)
+line_fault_of version done (Some f) line =
     if bytes_eq line (codes "end") then end_fault_of f.code
-    else next_instruction_fault_of f (instruction_in (words line))
+    else next_instruction_fault_of f.code (instruction_in version done (words line))
 
 -- no function is open, and there is one
 abbrev pub is_whole : List Function → Option Function → Bool
@@ -292,7 +398,8 @@ is_line_feed c = c == 10
 -- the fault of the line with which rest begins; `CutOff` if that line has no line feed or is missing
 abbrev pub fault_of : Beginning → List ℕ → Option FaultCode
 fault_of b rest =
-    if list_any is_line_feed rest then line_fault_of b.done b.open_function (before_first is_line_feed rest)
+    if list_any is_line_feed rest
+    then line_fault_of b.version b.done b.open_function (before_first is_line_feed rest)
     else if (length rest == 0) && is_whole b.done b.open_function then None
     else Some CutOff
 
@@ -310,8 +417,12 @@ pub record HasLaterFault (bytes : List ℕ) (line : ℕ) (code : FaultCode) : Ty
   pub numbered : line ≡ line_count (beginning above) + 1
   pub fault : fault_of above rest ≡ Some code
 
+-- the version that the first line names, if modules of it run
+abbrev pub version_in : List ℕ → Option Version
+version_in bytes = if starts_with nat_eq bytes (first_line versions.One) then Some versions.One else None
+
 pub record HasFirstLineFault (bytes : List ℕ) (line : ℕ) (code : FaultCode) : Type 0 where
-  pub other : starts_with nat_eq bytes first_line ≡ false
+  pub other : version_in bytes ≡ None
   pub numbered : line ≡ 1
   pub fault : code ≡ FirstLine
 

@@ -1,7 +1,7 @@
 -- The one spelling of a module: ASCII lines, each with a line feed at its end, of words that single spaces separate.
 use Rattle.std.specs.Prelude.{◌≡◌, ◌≢◌, ℕ, ◌<◌, ◌≤◌, ◌^◌, Bool, false, ◌&&◌, ◌||◌, ◌==◌, nat_le, IsTrue, List, [], ◌∷◌}
-use Rattle.std.specs.Prelude.{◌++◌, length, Option, None, Some, slice_get, AllPairs, codes}
-use Rattle.std.specs.List.{flat_map, join_with_byte, AllByRecursion, list_all}
+use Rattle.std.specs.Prelude.{◌++◌, length, map, Option, None, Some, slice_get, AllPairs, codes, max, suc}
+use Rattle.std.specs.List.{flat_map, join_with_byte, AllByRecursion, list_all, slice_index_or}
 use Rattle.std.specs.Fmt.{decimal}
 use Rattle.brc_lang.specs.declared.kind.Kind.{Kind}
 use Rattle.brc_lang.specs.declared.kind.Kind.TheVariants as kinds
@@ -10,9 +10,16 @@ use Rattle.brc_lang.specs.declared.module.Function.{Function}
 use Rattle.brc_lang.specs.declared.module.Instr.{Instr}
 use Rattle.brc_lang.specs.declared.module.Instr.TheVariants.{Num, List as ListObject, NoneObject, Newref, Move}
 use Rattle.brc_lang.specs.declared.module.Instr.TheVariants.{Drop, Lock, Unlock, Borrow, Fetch, Set, Put, As}
-use Rattle.brc_lang.specs.declared.module.Instr.TheVariants.{Open, Connect, Read, Write, Goto, Again, Ret, Fail}
+use Rattle.brc_lang.specs.declared.module.Instr.TheVariants.{Open, Connect, Read, Write, Call, Goto, Again, Ret, Fail}
+use Rattle.brc_lang.specs.declared.parameter.Parameter.{Parameter}
+use Rattle.brc_lang.specs.declared.parameter.Argument.{Argument}
+use Rattle.brc_lang.specs.declared.parameter.Passing.{Passing}
+use Rattle.brc_lang.specs.declared.parameter.Passing.TheVariants as passings
+use Rattle.brc_lang.specs.declared.version.Version.{Version}
+use Rattle.brc_lang.specs.declared.version.Version.TheVariants as versions
 use Rattle.brc_lang.specs.Limits.{function_limit, instruction_limit, variable_count, target_count, text_cells}
 use Rattle.brc_lang.specs.Limits.{index_count, path_count, peer_count, read_limit, turn_limit, name_rest_limit}
+use Rattle.brc_lang.specs.Limits.{parameter_limit, depth_limit}
 use Rattle.brc_lang.specs.Modes.{mode_name, IsMode}
 
 -- ---- spellings
@@ -33,7 +40,7 @@ variable number = codes "v" ++ decimal number
 abbrev pub target : ℕ → List ℕ
 target number = codes "@" ++ decimal number
 
--- the word of a kind; modules don't name `Any`
+-- the word of a kind; of these a module names `Any` as a parameter's kind alone
 abbrev pub kind_name : Kind → List ℕ
 kind_name kinds.None = codes "none"
 kind_name kinds.Num = codes "num"
@@ -42,61 +49,95 @@ kind_name kinds.File = codes "file"
 kind_name kinds.Sock = codes "sock"
 kind_name kinds.Any = codes "any"
 
-abbrev pub instruction_words : Instr → List (List ℕ)
-instruction_words (Num to value otherwise) =
+-- the word of a passing
+abbrev pub passing_name : Passing → List ℕ
+passing_name passings.Borrow = codes "borrow"
+passing_name passings.Steal = codes "steal"
+
+abbrev pub parameter_words : List Parameter → List (List ℕ)
+parameter_words [] = []
+parameter_words (p ∷ ps) = passing_name p.passing ∷ kind_name p.kind ∷ parameter_words ps
+
+-- the arguments of a call, and where a fault of it leads
+abbrev pub argument_words : List Argument → ℕ → List (List ℕ)
+argument_words [] otherwise = codes "else" ∷ target otherwise ∷ []
+argument_words (a ∷ others) otherwise = variable a.from ∷ argument_words others otherwise
+
+abbrev pub name_or_none : Option Function → List ℕ
+name_or_none None = []
+name_or_none (Some f) = f.name
+
+-- the name of the function of a number, from 0
+abbrev pub name_of : List Function → ℕ → List ℕ
+name_of fs number = name_or_none (slice_get fs number)
+
+-- the words of an instruction below these functions
+abbrev pub instruction_words : List Function → Instr → List (List ℕ)
+instruction_words above (Num to value otherwise) =
     codes "num" ∷ variable to ∷ decimal value ∷ codes "else" ∷ target otherwise ∷ []
-instruction_words (ListObject to cells otherwise) =
+instruction_words above (ListObject to cells otherwise) =
     codes "list" ∷ variable to ∷ decimal cells ∷ codes "else" ∷ target otherwise ∷ []
-instruction_words (NoneObject to) = codes "none" ∷ variable to ∷ []
-instruction_words (Newref to from) = codes "newref" ∷ variable to ∷ variable from ∷ []
-instruction_words (Move to from) = codes "move" ∷ variable to ∷ variable from ∷ []
-instruction_words (Drop from) = codes "drop" ∷ variable from ∷ []
-instruction_words (Lock object) = codes "lock" ∷ variable object ∷ []
-instruction_words (Unlock object) = codes "unlock" ∷ variable object ∷ []
-instruction_words (Borrow to list index otherwise) =
+instruction_words above (NoneObject to) = codes "none" ∷ variable to ∷ []
+instruction_words above (Newref to from) = codes "newref" ∷ variable to ∷ variable from ∷ []
+instruction_words above (Move to from) = codes "move" ∷ variable to ∷ variable from ∷ []
+instruction_words above (Drop from) = codes "drop" ∷ variable from ∷ []
+instruction_words above (Lock object) = codes "lock" ∷ variable object ∷ []
+instruction_words above (Unlock object) = codes "unlock" ∷ variable object ∷ []
+instruction_words above (Borrow to list index otherwise) =
     codes "borrow" ∷ variable to ∷ variable list ∷ decimal index ∷ codes "else" ∷ target otherwise ∷ []
-instruction_words (Fetch to list index otherwise) =
+instruction_words above (Fetch to list index otherwise) =
     codes "fetch" ∷ variable to ∷ variable list ∷ decimal index ∷ codes "else" ∷ target otherwise ∷ []
-instruction_words (Set list index from otherwise) =
+instruction_words above (Set list index from otherwise) =
     codes "set" ∷ variable list ∷ decimal index ∷ variable from ∷ codes "else" ∷ target otherwise ∷ []
-instruction_words (Put list index from otherwise) =
+instruction_words above (Put list index from otherwise) =
     codes "put" ∷ variable list ∷ decimal index ∷ variable from ∷ codes "else" ∷ target otherwise ∷ []
-instruction_words (Open to path mode otherwise) =
+instruction_words above (Open to path mode otherwise) =
     codes "open" ∷ variable to ∷ decimal path ∷ mode_name mode ∷ codes "else" ∷ target otherwise ∷ []
-instruction_words (Connect to peer otherwise) =
+instruction_words above (Connect to peer otherwise) =
     codes "connect" ∷ variable to ∷ decimal peer ∷ codes "else" ∷ target otherwise ∷ []
-instruction_words (Read to file most otherwise) =
+instruction_words above (Read to file most otherwise) =
     codes "read" ∷ variable to ∷ variable file ∷ decimal most ∷ codes "else" ∷ target otherwise ∷ []
-instruction_words (Write file number otherwise) =
+instruction_words above (Write file number otherwise) =
     codes "write" ∷ variable file ∷ variable number ∷ codes "else" ∷ target otherwise ∷ []
-instruction_words (As from kind otherwise) =
+instruction_words above (As from kind otherwise) =
     codes "as" ∷ variable from ∷ kind_name kind ∷ codes "else" ∷ target otherwise ∷ []
-instruction_words (Goto to) = codes "goto" ∷ target to ∷ []
-instruction_words (Again to times) = codes "again" ∷ target to ∷ decimal times ∷ []
-instruction_words (Ret from) = codes "ret" ∷ variable from ∷ []
-instruction_words Fail = codes "fail" ∷ []
+instruction_words above (Call to callee arguments otherwise) =
+    codes "call" ∷ variable to ∷ name_of above callee ∷ argument_words arguments otherwise
+instruction_words above (Goto to) = codes "goto" ∷ target to ∷ []
+instruction_words above (Again to times) = codes "again" ∷ target to ∷ decimal times ∷ []
+instruction_words above (Ret from) = codes "ret" ∷ variable from ∷ []
+instruction_words above Fail = codes "fail" ∷ []
 
-abbrev pub instruction : Instr → List ℕ
-instruction i = spaced (instruction_words i)
+abbrev pub instruction : List Function → Instr → List ℕ
+instruction above i = spaced (instruction_words above i)
 
-abbrev pub instructions : List Instr → List ℕ
-instructions code = flat_map (λ i. line (instruction i)) code
+abbrev pub instructions : List Function → List Instr → List ℕ
+instructions above code = flat_map (λ i. line (instruction above i)) code
 
 -- the line that opens a function
-abbrev pub heading : List ℕ → List ℕ
-heading name = line (codes "func " ++ name)
+abbrev pub heading : List ℕ → List Parameter → List ℕ
+heading name parameters = line (spaced (codes "func" ∷ name ∷ parameter_words parameters))
 
-abbrev pub function : Function → List ℕ
-function f = heading f.name ++ instructions f.code ++ line (codes "end")
+abbrev pub function : List Function → Function → List ℕ
+function above f = heading f.name f.parameters ++ instructions above f.code ++ line (codes "end")
+
+-- the functions below others
+abbrev pub functions_below : List Function → List Function → List ℕ
+functions_below above [] = []
+functions_below above (f ∷ fs) = function above f ++ functions_below (above ++ f ∷ []) fs
 
 abbrev pub functions : List Function → List ℕ
-functions fs = flat_map function fs
+functions fs = functions_below [] fs
 
-abbrev pub first_line : List ℕ
-first_line = line (codes "module 1")
+abbrev pub version_word : Version → List ℕ
+version_word versions.One = codes "1"
+version_word versions.Two = codes "2"
+
+abbrev pub first_line : Version → List ℕ
+first_line version = line (codes "module " ++ version_word version)
 
 abbrev pub text : Module → List ℕ
-text m = first_line ++ functions m.functions
+text m = first_line m.version ++ functions m.functions
 
 -- ---- the modules that have a spelling
 
@@ -139,6 +180,9 @@ IsInstruction (Write file number otherwise) =
     (file < variable_count) × (number < variable_count) × (otherwise < target_count)
 IsInstruction (As from kind otherwise) =
     (from < variable_count) × (kind ≢ kinds.Any) × (otherwise < target_count)
+IsInstruction (Call to callee arguments otherwise) =
+    (to < variable_count) × (callee < function_limit) × (length arguments ≤ parameter_limit)
+    × AllByRecursion (λ a. a.from < variable_count) arguments × (otherwise < target_count)
 IsInstruction (Goto to) = to < target_count
 IsInstruction (Again to times) = (to < target_count) × (0 < times) × (times ≤ turn_limit)
 IsInstruction (Ret from) = from < variable_count
@@ -163,6 +207,7 @@ jump (Connect to peer otherwise) = Some otherwise
 jump (Read to file most otherwise) = Some otherwise
 jump (Write file number otherwise) = Some otherwise
 jump (As from kind otherwise) = Some otherwise
+jump (Call to callee arguments otherwise) = Some otherwise
 jump (Goto to) = Some to
 jump (Again to times) = None
 jump (Ret from) = None
@@ -197,16 +242,79 @@ pub record IsFunction (f : Function) : Type 0 where
   pub code : AllByRecursion IsInstruction f.code
   pub targets : TargetsFit f.code
 
+-- ---- calls
+
+-- the depth of the function that an instruction calls, where the functions above have these depths
+abbrev pub called_depth : List ℕ → Instr → ℕ
+called_depth depths (Call to callee arguments otherwise) = slice_index_or depths callee 0
+called_depth depths i = 0
+
+-- the depth of a function of this code: how many calls may be open at once from its own on
+abbrev pub depth_of : List ℕ → List Instr → ℕ
+depth_of depths [] = 1
+depth_of depths (i ∷ code) = max (suc (called_depth depths i)) (depth_of depths code)
+
+abbrev pub depths_below : List ℕ → List Function → List ℕ
+depths_below depths [] = depths
+depths_below depths (f ∷ fs) = depths_below (depths ++ depth_of depths f.code ∷ []) fs
+
+-- the depth of each function
+abbrev pub depths : List Function → List ℕ
+depths fs = depths_below [] fs
+
+-- a function is called with an argument for each parameter, and its own calls leave room for one more
+pub record MayCall (depth : ℕ) (arguments : List Argument) (f : Function) : Type 0 where
+  pub same : map (λ a. a.parameter) arguments ≡ f.parameters
+  pub room : depth < depth_limit
+
+abbrev pub IfFound : Option Function → (Function → Type 0) → Type 0
+IfFound None holds = ⊥
+IfFound (Some f) holds = holds f
+
+-- the function of this number, which is one above, is called with these arguments; in version 1 no call is allowed
+abbrev pub IsCall : Version → List Function → ℕ → List Argument → Type 0
+IsCall versions.One above callee arguments = ⊥
+IsCall versions.Two above callee arguments =
+    IfFound (slice_get above callee) (MayCall (slice_index_or (depths above) callee 0) arguments)
+
+-- if the instruction is a call, it is one that the version and the functions above allow
+abbrev pub CallFits : Version → List Function → Instr → Type 0
+CallFits version above (Call to callee arguments otherwise) = IsCall version above callee arguments
+CallFits version above i = Unit {0}
+
+-- in version 1 no function has parameters
+abbrev pub most_parameters : Version → ℕ
+most_parameters versions.One = 0
+most_parameters versions.Two = parameter_limit
+
+-- what a version and the functions above allow a function
+pub record FitsBelow (version : Version) (above : List Function) (f : Function) : Type 0 where
+  pub parameters : length f.parameters ≤ most_parameters version
+  pub calls : AllByRecursion (CallFits version above) f.code
+
+abbrev pub CallsFit : Version → List Function → List Function → Type 0
+CallsFit version above [] = Unit {0}
+CallsFit version above (f ∷ fs) = FitsBelow version above f × CallsFit version (above ++ f ∷ []) fs
+
+-- ---- modules
+
 -- no two functions have the same name
 abbrev pub AreNamedApart : List Function → Type 0
 AreNamedApart fs = AllPairs (λ f g. f.name ≢ g.name) fs
 
+-- modules of this version run: those of version 2 don't yet
+abbrev pub Runs : Version → Type 0
+Runs versions.One = Unit {0}
+Runs versions.Two = ⊥
+
 -- 1 to 64 functions
 pub record IsModule (m : Module) : Type 0 where
+  pub version : Runs m.version
   pub some : 0 < length m.functions
   pub most : length m.functions ≤ function_limit
   pub functions : AllByRecursion IsFunction m.functions
   pub names : AreNamedApart m.functions
+  pub calls : CallsFit m.version [] m.functions
 
 -- the grammar: the bytes are the module's one text
 pub record Spells (bytes : List ℕ) (m : Module) : Type 0 where

@@ -8,6 +8,14 @@ function_limit = 64
 abbrev pub instruction_limit : ℕ
 instruction_limit = 256
 
+-- the most parameters of a function
+abbrev pub parameter_limit : ℕ
+parameter_limit = 4
+
+-- the most calls that a thread has open at once
+abbrev pub depth_limit : ℕ
+depth_limit = 8
+
 -- v0 to v15
 abbrev pub variable_count : ℕ
 variable_count = 16

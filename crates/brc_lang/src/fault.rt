@@ -5,7 +5,7 @@ use std::alloc::AllocError;
 use std::fmt;
 use thiserror::Error;
 
-/// What is wrong with a line of a text, by the codes L1 to L8.
+/// What is wrong with a line of a text, by the codes L1 to L9.
 #[derive(Clone, Copy, Debug, PartialEq, Eq)]
 pub enum FaultCode {
     /// L1: the first line is missing, has no line feed, or is another.
@@ -18,12 +18,14 @@ pub enum FaultCode {
     Target,
     /// L5: the name of an earlier function.
     NameTwice,
-    /// L6: too many functions or instructions, or a function without instructions.
+    /// L6: too many functions, instructions or calls open at once, or a function without instructions.
     OverLimit,
     /// L7: the text ends too early, or its last line has no line feed.
     CutOff,
     /// L8: memory was refused.
     NoMemory,
+    /// L9: a call of a function that doesn't stand above, or with an argument too many or too few.
+    Callee,
 }
 
 impl fmt::Display for FaultCode {
@@ -37,6 +39,7 @@ impl fmt::Display for FaultCode {
             FaultCode::OverLimit => "L6",
             FaultCode::CutOff => "L7",
             FaultCode::NoMemory => "L8",
+            FaultCode::Callee => "L9",
         };
         write!(f, "{code}")
     }

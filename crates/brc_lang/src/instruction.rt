@@ -1,9 +1,15 @@
 //! The instruction of a line.
 
-ghost use Rattle.std.specs.Prelude.{◌≡◌, ◌∷◌, []};
-ghost use Rattle.brc_lang.specs.Fault.{words, instruction_in, item_instruction_in, host_instruction_in};
-ghost use Rattle.brc_lang.specs.Fault.{path_instruction_in};
+ghost use Rattle.std.specs.Prelude.{◌≡◌, ◌≤◌, List, ◌∷◌, [], length};
+ghost use Rattle.brc_lang.specs.declared.module.Function.{Function};
+ghost use Rattle.brc_lang.specs.declared.version.Version.{Version};
+ghost use Rattle.brc_lang.specs.Fault.{words, instruction_in, plain_instruction_in, item_instruction_in};
+ghost use Rattle.brc_lang.specs.Fault.{host_instruction_in, path_instruction_in, has_calls};
+ghost use Rattle.brc_lang.specs.Limits.{function_limit};
+ghost use Rattle.brc_lang.specs.Progress.{KnowsDepths};
 
+use crate::above::Above;
+use crate::calling::call;
 use crate::fault::FaultCode;
 use crate::lexing::{is_word, split_word};
 use crate::module::Instr;
@@ -11,6 +17,7 @@ use crate::operands::{
     asked_kind, birth, loop_bounds, one_target, one_variable, opening, pair, store, taking,
     two_variables,
 };
+use crate::version::Version;
 
 /// The most cells of a list.
 const MOST_CELLS: u32 = 8;
@@ -26,19 +33,44 @@ const MOST_BYTES: u32 = 4096;
 /// Reads the instruction of a line.
 ///
 /// Returns the line's first fault: the first word, the number of words and `else` come first (`UnknownWord`), then the
-/// operands from left to right.
-pub(crate) fn instruction(line: &[u8]) -> Result<Instr, FaultCode>
-    ensures { result ≡ instruction_in (words line.now) }
+/// operands from left to right, and at last whether a call is of a function above.
+pub(crate) fn instruction(above: &Above, line: &[u8]) -> Result<Instr, FaultCode>
+    requires known { KnowsDepths above.now }
+    requires few { length above.now.functions ≤ function_limit }
+    ensures { result ≡ instruction_in above.now.version above.now.functions (words line.now) }
 {
     let (word, operands) = split_word(line);
     match operands {
-        Some(operands) => instruction_with(word, operands),
-        None => plain_instruction(word),
+        Some(operands) => instruction_with(above, word, operands),
+        None => lone_word(word),
     }
 }
 
-fn plain_instruction(word: &[u8]) -> Result<Instr, FaultCode>
-    ensures { result ≡ instruction_in (word.now ∷ []) }
+/// Reads the instruction of this name with the words after it.
+fn instruction_with(above: &Above, word: &[u8], operands: &[u8]) -> Result<Instr, FaultCode>
+    requires known { KnowsDepths above.now }
+    requires few { length above.now.functions ≤ function_limit }
+    ensures { result ≡ instruction_in above.now.version above.now.functions (word.now ∷ words operands.now) }
+{
+    if is_word(word, b"call") && has_calls(above.version) {
+        call(above, operands)
+    } else {
+        plain_instruction(word, operands)
+    }
+}
+
+fn has_calls(version: Version) -> bool
+    ensures { result ≡ has_calls version }
+{
+    match version {
+        Version::One => false,
+        Version::Two => true,
+    }
+}
+
+/// Reads an instruction without operands.
+fn lone_word(word: &[u8]) -> Result<Instr, FaultCode>
+    ensures { (version : Version) (above : List Function) → result ≡ instruction_in version above (word.now ∷ []) }
 {
     if is_word(word, b"fail") {
         Ok(Instr::Fail)
@@ -47,9 +79,9 @@ fn plain_instruction(word: &[u8]) -> Result<Instr, FaultCode>
     }
 }
 
-/// Reads the instruction of this name with the words after it.
-fn instruction_with(word: &[u8], operands: &[u8]) -> Result<Instr, FaultCode>
-    ensures { result ≡ instruction_in (word.now ∷ words operands.now) }
+/// Reads an instruction that calls no function.
+fn plain_instruction(word: &[u8], operands: &[u8]) -> Result<Instr, FaultCode>
+    ensures { result ≡ plain_instruction_in (word.now ∷ words operands.now) }
 {
     if is_word(word, b"num") {
         let (to, value, otherwise) = birth(0, u32::MAX, operands)?;

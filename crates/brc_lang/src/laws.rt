@@ -4,6 +4,7 @@ ghost use Rattle.std.specs.Prelude.{◌≡◌, ◌≢◌, ◌⊎◌, ℕ, ◌≤
 ghost use Rattle.brc_lang.specs.declared.fault.FaultCode.{FaultCode};
 ghost use Rattle.brc_lang.specs.declared.fault.FaultCode.TheVariants.{CutOff, NoMemory};
 ghost use Rattle.brc_lang.specs.declared.module.Module.{Module};
+ghost use Rattle.brc_lang.specs.declared.version.Version.TheVariants as versions;
 ghost use Rattle.brc_lang.specs.Grammar.{Spells, IsModule, text, first_line};
 ghost use Rattle.brc_lang.specs.Fault.{HasFault};
 ghost use Rattle.brc_lang.specs.EachText.{SpellsAModule, HasAFault};
@@ -26,8 +27,8 @@ pub fn each_text_reads()
 
 /// A fault other than `CutOff` stays, however the text goes on behind at least as many bytes as the first line has.
 pub fn fault_stays()
-    ensures { (bytes more : List ℕ) (line : ℕ) (code : FaultCode) → length first_line ≤ length bytes → code ≢ CutOff
-        → HasFault bytes line code → HasFault (bytes ++ more) line code }
+    ensures { (bytes more : List ℕ) (line : ℕ) (code : FaultCode) → length (first_line versions.One) ≤ length bytes
+        → code ≢ CutOff → HasFault bytes line code → HasFault (bytes ++ more) line code }
 {}
 
 /// Two modules with the same text are equal.

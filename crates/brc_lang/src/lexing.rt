@@ -103,6 +103,59 @@ pub(crate) fn five_words(line: &[u8]) -> Option<FiveWords<'_>>
     Some((first, second, third, fourth, fifth))
 }
 
+type SixWords<'a> = (&'a [u8], &'a [u8], &'a [u8], &'a [u8], &'a [u8], &'a [u8]);
+
+/// Returns the six words of the line, or `None` if it has another number of words.
+pub(crate) fn six_words(line: &[u8]) -> Option<SixWords<'_>>
+    ensures { MatchOption result (length (words line.now) ≢ 6)
+        (λ w. words line.now ≡ w.0.now ∷ w.1.now ∷ w.2.now ∷ w.3.now ∷ w.4.now ∷ w.5.now ∷ []) }
+{
+    let (first, rest) = split_word(line);
+    let (second, third, fourth, fifth, sixth) = five_words(rest?)?;
+    Some((first, second, third, fourth, fifth, sixth))
+}
+
+type SevenWords<'a> = (
+    &'a [u8],
+    &'a [u8],
+    &'a [u8],
+    &'a [u8],
+    &'a [u8],
+    &'a [u8],
+    &'a [u8],
+);
+
+/// Returns the seven words of the line, or `None` if it has another number of words.
+pub(crate) fn seven_words(line: &[u8]) -> Option<SevenWords<'_>>
+    ensures { MatchOption result (length (words line.now) ≢ 7)
+        (λ w. words line.now ≡ w.0.now ∷ w.1.now ∷ w.2.now ∷ w.3.now ∷ w.4.now ∷ w.5.now ∷ w.6.now ∷ []) }
+{
+    let (first, rest) = split_word(line);
+    let (second, third, fourth, fifth, sixth, seventh) = six_words(rest?)?;
+    Some((first, second, third, fourth, fifth, sixth, seventh))
+}
+
+type EightWords<'a> = (
+    &'a [u8],
+    &'a [u8],
+    &'a [u8],
+    &'a [u8],
+    &'a [u8],
+    &'a [u8],
+    &'a [u8],
+    &'a [u8],
+);
+
+/// Returns the eight words of the line, or `None` if it has another number of words.
+pub(crate) fn eight_words(line: &[u8]) -> Option<EightWords<'_>>
+    ensures { MatchOption result (length (words line.now) ≢ 8)
+        (λ w. words line.now ≡ w.0.now ∷ w.1.now ∷ w.2.now ∷ w.3.now ∷ w.4.now ∷ w.5.now ∷ w.6.now ∷ w.7.now ∷ []) }
+{
+    let (first, rest) = split_word(line);
+    let (second, third, fourth, fifth, sixth, seventh, eighth) = seven_words(rest?)?;
+    Some((first, second, third, fourth, fifth, sixth, seventh, eighth))
+}
+
 fn position_of(wanted: u8, text: &[u8]) -> Option<usize>
     ensures { result ≡ position (λ byte. byte == wanted) text.now }
 {

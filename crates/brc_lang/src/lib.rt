@@ -1,9 +1,13 @@
 //! The text of a native extension module: its types, its one spelling, and the functions that read and write it.
 #![tactic(auto)]
 
+mod above;
+mod arguments;
+mod calling;
 mod check_code;
 mod cursor;
 mod fault;
+mod heading;
 mod instruction;
 mod kind;
 mod laws;
@@ -13,12 +17,15 @@ mod module;
 mod name;
 mod operands;
 mod output;
+mod parameter;
 mod reading;
 mod sequence;
 mod targets;
 mod variable;
+mod version;
 mod writing;
 
+pub use arguments::Arguments;
 pub use check_code::CheckCode;
 pub use cursor::Cursor;
 pub use fault::{FaultCode, ReadFault};
@@ -32,7 +39,9 @@ pub use mode::Mode;
 pub use module::{Function, Instr, Module};
 pub use name::Name;
 pub use output::{write_bytes, write_number, write_pieces};
+pub use parameter::{Argument, Parameter, Passing};
 pub use reading::read;
 pub use sequence::Sequence;
 pub use variable::Variable;
+pub use version::Version;
 pub use writing::{write, write_instruction};

@@ -1,22 +1,28 @@
 ghost use Rattle.std.specs.Prelude.{◌≡◌};
 ghost use Rattle.brc_lang.specs.Grammar.{jump, turn};
 
+use crate::arguments::Arguments;
 use crate::kind::Kind;
 use crate::mode::Mode;
 use crate::name::Name;
+use crate::parameter::Parameter;
 use crate::sequence::Sequence;
 use crate::variable::Variable;
+use crate::version::Version;
 
-/// A module: 1 to 64 functions with names of their own, in the order of the text.
+/// A module: its version, and 1 to 64 functions with names of their own, in the order of the text.
 #[derive(Debug, Drop)]
 pub struct Module {
+    pub version: Version,
     pub functions: Sequence<Function>,
 }
 
-/// A function: its name and its 1 to 256 instructions, which are numbered from 0.
+/// A function: its name, 0 to 4 parameters, and its 1 to 256 instructions, which are numbered from 0.
 #[derive(Debug, Drop)]
 pub struct Function {
     pub name: Name,
+    /// They are the variables from v1 on at the function's entry. In version 1 there are none.
+    pub parameters: Sequence<Parameter>,
     pub code: Sequence<Instr>,
 }
 
@@ -135,6 +141,16 @@ pub enum Instr {
         kind: Kind,
         otherwise: u8,
     },
+    /// `call vD NAME vA .. else @L`: calls the function of this name, which stands above, with an argument for each
+    /// of its parameters, and owns what it returns in vD; goes on at L if it fails. It steals the arguments of `steal`
+    /// parameters on both exits: their variables are empty afterwards. In version 1 there is none.
+    Call {
+        to: Variable,
+        /// The number of the function, from 0 in the order of the text.
+        callee: u8,
+        arguments: Arguments,
+        otherwise: u8,
+    },
     /// `goto @L`: goes on at the instruction L.
     Goto {
         target: u8,
@@ -169,7 +185,8 @@ impl Instr {
             | Instr::Connect { otherwise, .. }
             | Instr::Read { otherwise, .. }
             | Instr::Write { otherwise, .. }
-            | Instr::As { otherwise, .. } => Some(otherwise),
+            | Instr::As { otherwise, .. }
+            | Instr::Call { otherwise, .. } => Some(otherwise),
             Instr::Goto { target } => Some(target),
             _ => None,
         }

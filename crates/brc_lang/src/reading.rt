@@ -1,30 +1,28 @@
 //! From bytes to a module, line by line.
 
-ghost use Rattle.std.specs.Prelude.{◌≡◌, ◌∷◌, ◌++◌, [], ℕ, ◌+◌, ◌<◌, ◌^◌, length, Some, OnOk, IfOk, IfErr, MatchResult};
-ghost use Rattle.std.specs.Prelude.{IsTrue};
-ghost use Rattle.std.specs.List.{list_any};
-ghost use Rattle.std.specs.Str.{bytes_eq};
+ghost use Rattle.std.specs.Prelude.{◌≡◌, ℕ, ◌+◌, ◌<◌, ◌≤◌, ◌^◌, length, OnOk, IfOk, IfErr, MatchResult};
 ghost use Rattle.brc_lang.specs.declared.fault.FaultCode.{FaultCode};
 ghost use Rattle.brc_lang.specs.declared.module.Module.{Module};
-ghost use Rattle.brc_lang.specs.Grammar.{Spells, is_name};
-ghost use Rattle.brc_lang.specs.Fault.{words, instruction_in, heading_fault_of, end_fault_of};
+ghost use Rattle.std.specs.List.{AllByRecursion};
+ghost use Rattle.brc_lang.specs.Grammar.{Spells, depth_of, called_depth, depths, CallFits};
+ghost use Rattle.brc_lang.specs.Fault.{words, instruction_in, end_fault_of};
 ghost use Rattle.brc_lang.specs.Fault.{next_instruction_fault_of, HasFault, IsFaultOf, ReadsAs, Refuses, IsBeginning};
-ghost use Rattle.brc_lang.specs.Progress.{IsLineFault, Opens, Appends, Ends, IsFaultInside, ReadsFunction};
-ghost use Rattle.brc_lang.specs.Progress.{IsFaultBelow, opened, closed};
+ghost use Rattle.brc_lang.specs.Progress.{IsLineFault, Appends, Ends, IsFaultInside, ReadsFunction, KnowsDepths};
+ghost use Rattle.brc_lang.specs.Progress.{IsFaultBelow, closed};
+ghost use Rattle.brc_lang.specs.Limits.{function_limit, depth_limit};
 
+use crate::above::Above;
 use crate::cursor::Cursor;
 use crate::fault::{FaultCode, ReadFault};
+use crate::heading::{heading, version};
 use crate::instruction::instruction;
-use crate::lexing::{is_name, is_word, split_line, two_words};
+use crate::lexing::{is_word, split_line};
 use crate::module::{Function, Instr, Module};
-use crate::name::Name;
 use crate::sequence::Sequence;
 use crate::targets::targets_fit;
 use std::alloc::Global;
 
-const FIRST_LINE: &[u8] = b"module 1\n";
-
-const MOST_FUNCTIONS: usize = 64;
+const FIRST_LINE_LENGTH: usize = 9;
 
 const MOST_INSTRUCTIONS: usize = 256;
 
@@ -47,40 +45,51 @@ pub fn read(alloc: Global, bytes: &[u8]) -> Result<Module, ReadFault>
 fn read_module(alloc: Global, bytes: &[u8]) -> Result<Module, ReadFault>
     ensures { MatchResult result (λ m. Spells bytes.now m) (λ e. IsFaultOf bytes.now e) }
 {
-    if !bytes.starts_with(FIRST_LINE) {
+    let Some(version) = version(bytes) else {
         return Err(ReadFault {
             line: 1,
             code: FaultCode::FirstLine,
         });
-    }
-    let mut functions = Sequence::new(alloc);
+    };
+    let mut above = Above {
+        version,
+        functions: Sequence::new(alloc),
+        depths: [0; 64],
+    };
     let mut cursor = Cursor {
-        rest: &bytes[FIRST_LINE.len()..],
+        rest: &bytes[FIRST_LINE_LENGTH..],
         line: 2,
     };
     while !cursor.rest.is_empty() {
-        cursor = read_function(alloc, &mut functions, cursor)?;
+        cursor = read_function(alloc, &mut above, cursor)?;
     }
-    if functions.len() == 0 {
+    if above.functions.len() == 0 {
         return Err(ReadFault {
             line: cursor.line,
             code: FaultCode::CutOff,
         });
     }
-    Ok(Module { functions })
+    Ok(Module {
+        version,
+        functions: above.functions,
+    })
 }
 
 /// Reads the next function, appends it, and returns the position below it.
 fn read_function<'a>(
     alloc: Global,
-    functions: &mut Sequence<Function>,
+    above: &mut Above,
     cursor: Cursor<'a>,
 ) -> Result<Cursor<'a>, ReadFault>
     requires some { 0 < length cursor.rest.now }
-    requires fits { IsBeginning (closed functions.old) }
+    requires fits { IsBeginning (closed above.old.version above.old.functions) }
+    requires known { KnowsDepths above.old }
     requires lines { cursor.line + length cursor.rest.now < 2 ^ 64 }
-    ensures ok { IfOk result (λ after. ReadsFunction functions.old functions.new cursor.entry after) }
-    ensures err { IfErr result (λ e. IsFaultBelow functions.old cursor.entry e) }
+    ensures ok { IfOk result (λ after.
+        ReadsFunction above.old.version above.old.functions above.new.functions cursor.entry after) }
+    ensures known { IfOk result (λ _. KnowsDepths above.new) }
+    ensures version { above.new.version ≡ above.old.version }
+    ensures err { IfErr result (λ e. IsFaultBelow above.old.version above.old.functions cursor.entry e) }
 {
     let line = cursor.line;
     let Some((text, rest)) = split_line(cursor.rest) else {
@@ -89,17 +98,27 @@ fn read_function<'a>(
             code: FaultCode::CutOff,
         });
     };
-    let name = match heading(functions, text) {
-        Ok(name) => name,
+    let (name, parameters) = match heading(alloc, above, text) {
+        Ok(opening) => opening,
         Err(code) => return Err(ReadFault { line, code }),
     };
     let below = Cursor {
         rest,
         line: line + 1,
     };
-    let (function, after) = read_body(alloc, name, below)?;
-    match functions.push(function) {
-        Ok(()) => Ok(after),
+    let (code, after) = read_body(alloc, above, below)?;
+    let number = above.functions.len();
+    let depth = depth(above, code.as_slice());
+    let function = Function {
+        name,
+        parameters,
+        code,
+    };
+    match above.functions.push(function) {
+        Ok(()) => {
+            above.depths[number] = depth;
+            Ok(after)
+        }
         Err(_) => Err(ReadFault {
             line: after.line - 1,
             code: FaultCode::NoMemory,
@@ -107,44 +126,46 @@ fn read_function<'a>(
     }
 }
 
-/// Returns the name in the line that opens a function. Its faults are `UnknownWord`, `OverLimit` and `NameTwice`.
-fn heading(functions: &Sequence<Function>, text: &[u8]) -> Result<Name, FaultCode>
-    ensures ok { IfOk result (λ name. Opens functions.now text.now name) }
-    ensures err { IfErr result (λ code. heading_fault_of functions.now (words text.now) ≡ Some code) }
+/// Returns how many calls may be open at once from a function of this code on.
+fn depth(above: &Above, code: &[Instr]) -> u8
+    requires known { KnowsDepths above.now }
+    requires few { length above.now.functions ≤ function_limit }
+    requires calls { AllByRecursion (CallFits above.now.version above.now.functions) code.now }
+    ensures { result ≡ depth_of (depths above.now.functions) code.now }
 {
-    let Some((word, name)) = two_words(text) else {
-        return Err(FaultCode::UnknownWord);
-    };
-    if !is_word(word, b"func") || !is_name(name) {
-        return Err(FaultCode::UnknownWord);
+    let mut depth = 1;
+    for instr in code {
+        depth = depth.max(called_depth(above, instr) + 1);
     }
-    if functions.len() >= MOST_FUNCTIONS {
-        return Err(FaultCode::OverLimit);
-    }
-    if has_name(functions.as_slice(), name) {
-        return Err(FaultCode::NameTwice);
-    }
-    Ok(Name::new(name))
+    depth
 }
 
-fn has_name(functions: &[Function], name: &[u8]) -> bool
-    ensures { result ≡ list_any (λ f. bytes_eq f.name name.now) functions.now }
+/// Returns the depth of the function that the instruction calls, or 0 if it calls none.
+fn called_depth(above: &Above, instr: &Instr) -> u8
+    requires known { KnowsDepths above.now }
+    requires few { length above.now.functions ≤ function_limit }
+    requires calls { CallFits above.now.version above.now.functions instr.now }
+    ensures value { result ≡ called_depth (depths above.now.functions) instr.now }
+    ensures low { result < depth_limit }
 {
-    functions
-        .iter()
-        .any(|function| is_word(function.name.as_bytes(), name))
+    match instr {
+        Instr::Call { callee, .. } => above.depths[*callee as usize],
+        _ => 0,
+    }
 }
 
-/// Reads the function below its first line, and returns the position below its last line.
+/// Reads the instructions of a function below its first line, and returns the position below its last line.
 fn read_body<'a>(
     alloc: Global,
-    name: Name,
+    above: &Above,
     start: Cursor<'a>,
-) -> Result<(Function, Cursor<'a>), ReadFault>
-    requires named { IsTrue (is_name name) }
+) -> Result<(Sequence<Instr>, Cursor<'a>), ReadFault>
+    requires known { KnowsDepths above.now }
+    requires few { length above.now.functions ≤ function_limit }
     requires lines { start.line + length start.rest.now < 2 ^ 64 }
-    ensures ok { IfOk result (λ read. Ends name start.entry read.0 read.1) }
-    ensures err { IfErr result (λ e. IsFaultInside name start.entry e) }
+    ensures ok { IfOk result (λ read.
+        Ends above.now.version above.now.functions start.entry read.0 read.1) }
+    ensures err { IfErr result (λ e. IsFaultInside above.now.version above.now.functions start.entry e) }
 {
     let mut code = Sequence::new(alloc);
     let mut cursor = start;
@@ -158,9 +179,9 @@ fn read_body<'a>(
             if let Some(code) = end_fault(code.as_slice()) {
                 return Err(ReadFault { line, code });
             }
-            return Ok((Function { name, code }, below));
+            return Ok((code, below));
         }
-        if let Err(code) = read_instruction(&mut code, text) {
+        if let Err(code) = read_instruction(above, &mut code, text) {
             return Err(ReadFault { line, code });
         }
         cursor = below;
@@ -185,12 +206,14 @@ fn end_fault(code: &[Instr]) -> Option<FaultCode>
 }
 
 /// Reads the instruction of a line and appends it to its function.
-fn read_instruction(code: &mut Sequence<Instr>, text: &[u8]) -> Result<(), FaultCode>
-    ensures ok { OnOk result (Appends code.old code.new text.now) }
-    ensures err { IfErr result (λ fault. IsLineFault
-        (next_instruction_fault_of (opened [] code.old) (instruction_in (words text.now))) fault) }
+fn read_instruction(above: &Above, code: &mut Sequence<Instr>, text: &[u8]) -> Result<(), FaultCode>
+    requires known { KnowsDepths above.now }
+    requires few { length above.now.functions ≤ function_limit }
+    ensures ok { OnOk result (Appends above.now.version above.now.functions code.old code.new text.now) }
+    ensures err { IfErr result (λ fault. IsLineFault (next_instruction_fault_of code.old
+        (instruction_in above.now.version above.now.functions (words text.now))) fault) }
 {
-    let instr = instruction(text)?;
+    let instr = instruction(above, text)?;
     if code.len() >= MOST_INSTRUCTIONS {
         return Err(FaultCode::OverLimit);
     }

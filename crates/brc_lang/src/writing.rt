@@ -1,17 +1,21 @@
-ghost use Rattle.std.specs.Prelude.{[], ◌∷◌, ◌++◌, OnOk, OnErr, codes, decimal};
+ghost use Rattle.std.specs.Prelude.{[], ◌≡◌, ◌∷◌, ◌++◌, OnOk, OnErr, codes, decimal};
+ghost use Rattle.std.specs.List.{flat_map};
 ghost use Rattle.std.specs.Io.KnownBytes.{Appends};
 ghost use Rattle.brc_lang.specs.Written.{AppendsBeginning};
 ghost use Rattle.brc_lang.specs.Grammar.{spaced, variable as variable_text, target as target_text};
 ghost use Rattle.brc_lang.specs.Grammar.{instruction as instruction_text};
 ghost use Rattle.brc_lang.specs.declared.module.Instr.TheVariants.{Num, Open, As, Again};
 ghost use Rattle.brc_lang.specs.Grammar.{instructions as instructions_text, line as line_text, heading as heading_text};
-ghost use Rattle.brc_lang.specs.Grammar.{function as function_text, text as module_text};
+ghost use Rattle.brc_lang.specs.Grammar.{function as function_text, text as module_text, first_line, parameter_words};
+ghost use Rattle.brc_lang.specs.Grammar.{argument_words, name_of};
 
 use crate::kind::Kind;
 use crate::mode::Mode;
 use crate::module::{Function, Instr, Module};
 use crate::output::{write_bytes, write_number};
+use crate::parameter::{Argument, Parameter};
 use crate::variable::Variable;
+use crate::version::Version;
 use std::io;
 use std::io::Write;
 
@@ -21,59 +25,118 @@ pub fn write<W: Write>(module: &Module, writer: &mut W) -> io::Result<()>
     ensures begun { OnErr result (AppendsBeginning (W.contents writer.old) (W.contents writer.new)
         (module_text «module».now)) }
 {
-    write_bytes(b"module 1\n", writer)?;
-    for function in module.functions.as_slice() {
-        write_function(function, writer)?;
+    write_first_line(module.version, writer)?;
+    let functions = module.functions.as_slice();
+    for (number, function) in functions.iter().enumerate() {
+        write_function(&functions[..number], function, writer)?;
     }
     Ok(())
 }
 
-fn write_function<W: Write>(function: &Function, writer: &mut W) -> io::Result<()>
-    ensures whole { OnOk result (Appends (W.contents writer.old) (W.contents writer.new) (function_text function.now)) }
+fn write_first_line<W: Write>(version: Version, writer: &mut W) -> io::Result<()>
+    ensures whole { OnOk result (Appends (W.contents writer.old) (W.contents writer.new) (first_line version)) }
     ensures begun { OnErr result (AppendsBeginning (W.contents writer.old) (W.contents writer.new)
-        (function_text function.now)) }
+        (first_line version)) }
 {
-    write_heading(function.name.as_bytes(), writer)?;
-    write_instructions(function.code.as_slice(), writer)?;
+    match version {
+        Version::One => write_bytes(b"module 1\n", writer),
+        Version::Two => write_bytes(b"module 2\n", writer),
+    }
+}
+
+/// Writes the function, below these.
+fn write_function<W: Write>(
+    above: &[Function],
+    function: &Function,
+    writer: &mut W,
+) -> io::Result<()>
+    ensures whole { OnOk result (Appends (W.contents writer.old) (W.contents writer.new)
+        (function_text above.now function.now)) }
+    ensures begun { OnErr result (AppendsBeginning (W.contents writer.old) (W.contents writer.new)
+        (function_text above.now function.now)) }
+{
+    write_heading(
+        function.name.as_bytes(),
+        function.parameters.as_slice(),
+        writer,
+    )?;
+    write_instructions(above, function.code.as_slice(), writer)?;
     write_bytes(b"end\n", writer)
 }
 
-fn write_heading<W: Write>(name: &[u8], writer: &mut W) -> io::Result<()>
-    ensures whole { OnOk result (Appends (W.contents writer.old) (W.contents writer.new) (heading_text name.now)) }
+fn write_heading<W: Write>(name: &[u8], parameters: &[Parameter], writer: &mut W) -> io::Result<()>
+    ensures whole { OnOk result (Appends (W.contents writer.old) (W.contents writer.new)
+        (heading_text name.now parameters.now)) }
     ensures begun { OnErr result (AppendsBeginning (W.contents writer.old) (W.contents writer.new)
-        (heading_text name.now)) }
+        (heading_text name.now parameters.now)) }
 {
     write_bytes(b"func ", writer)?;
     write_bytes(name, writer)?;
+    write_parameters(parameters, writer)?;
     write_bytes(b"\n", writer)
 }
 
-fn write_instructions<W: Write>(code: &[Instr], writer: &mut W) -> io::Result<()>
-    ensures whole { OnOk result (Appends (W.contents writer.old) (W.contents writer.new) (instructions_text code.now)) }
+/// Writes each parameter behind a space.
+fn write_parameters<W: Write>(parameters: &[Parameter], writer: &mut W) -> io::Result<()>
+    ensures whole { OnOk result (Appends (W.contents writer.old) (W.contents writer.new)
+        (flat_map (λ p. 32 ∷ spaced (parameter_words (p ∷ []))) parameters.now)) }
     ensures begun { OnErr result (AppendsBeginning (W.contents writer.old) (W.contents writer.new)
-        (instructions_text code.now)) }
+        (flat_map (λ p. 32 ∷ spaced (parameter_words (p ∷ []))) parameters.now)) }
 {
-    for instr in code {
-        write_line(*instr, writer)?;
+    for parameter in parameters {
+        write_parameter(*parameter, writer)?;
     }
     Ok(())
 }
 
-fn write_line<W: Write>(instr: Instr, writer: &mut W) -> io::Result<()>
+/// Writes the parameter behind a space.
+fn write_parameter<W: Write>(parameter: Parameter, writer: &mut W) -> io::Result<()>
     ensures whole { OnOk result (Appends (W.contents writer.old) (W.contents writer.new)
-        (line_text (instruction_text instr))) }
+        (32 ∷ spaced (parameter_words (parameter ∷ [])))) }
     ensures begun { OnErr result (AppendsBeginning (W.contents writer.old) (W.contents writer.new)
-        (line_text (instruction_text instr))) }
+        (32 ∷ spaced (parameter_words (parameter ∷ [])))) }
 {
-    write_instruction(instr, writer)?;
+    write_word(b" ", parameter.passing.name(), writer)?;
+    write_word(b" ", parameter.kind.name(), writer)
+}
+
+fn write_instructions<W: Write>(
+    above: &[Function],
+    code: &[Instr],
+    writer: &mut W,
+) -> io::Result<()>
+    ensures whole { OnOk result (Appends (W.contents writer.old) (W.contents writer.new)
+        (instructions_text above.now code.now)) }
+    ensures begun { OnErr result (AppendsBeginning (W.contents writer.old) (W.contents writer.new)
+        (instructions_text above.now code.now)) }
+{
+    for instr in code {
+        write_line(above, *instr, writer)?;
+    }
+    Ok(())
+}
+
+fn write_line<W: Write>(above: &[Function], instr: Instr, writer: &mut W) -> io::Result<()>
+    ensures whole { OnOk result (Appends (W.contents writer.old) (W.contents writer.new)
+        (line_text (instruction_text above.now instr))) }
+    ensures begun { OnErr result (AppendsBeginning (W.contents writer.old) (W.contents writer.new)
+        (line_text (instruction_text above.now instr))) }
+{
+    write_instruction(above, instr, writer)?;
     write_bytes(b"\n", writer)
 }
 
-/// Writes the instruction's text, which has no line feed, with the errors of `write_bytes`.
-pub fn write_instruction<W: Write>(instr: Instr, writer: &mut W) -> io::Result<()>
-    ensures whole { OnOk result (Appends (W.contents writer.old) (W.contents writer.new) (instruction_text instr)) }
+/// Writes the instruction's text below these functions, without a line feed, with the errors of `write_bytes`. A call
+/// of a function that isn't among them is written without a name.
+pub fn write_instruction<W: Write>(
+    above: &[Function],
+    instr: Instr,
+    writer: &mut W,
+) -> io::Result<()>
+    ensures whole { OnOk result (Appends (W.contents writer.old) (W.contents writer.new)
+        (instruction_text above.now instr)) }
     ensures begun { OnErr result (AppendsBeginning (W.contents writer.old) (W.contents writer.new)
-        (instruction_text instr)) }
+        (instruction_text above.now instr)) }
 {
     match instr {
         Instr::Num {
@@ -143,11 +206,62 @@ pub fn write_instruction<W: Write>(instr: Instr, writer: &mut W) -> io::Result<(
             kind,
             otherwise,
         } => write_as(from, kind, otherwise, writer),
+        Instr::Call {
+            to,
+            callee,
+            arguments,
+            otherwise,
+        } => {
+            let name = name_of(above, callee);
+            write_call(to, name, arguments.as_slice(), otherwise, writer)
+        }
         Instr::Goto { target } => write_numeral(b"goto @", u64::from(target), writer),
         Instr::Again { target, times } => write_again(target, times, writer),
         Instr::Ret { from } => write_operand(b"ret ", from, writer),
         Instr::Fail => write_bytes(b"fail", writer),
     }
+}
+
+/// Returns the name of the function of the number, which is empty if there is none.
+fn name_of(functions: &[Function], number: u8) -> &[u8]
+    ensures { result.now ≡ name_of functions.now number }
+{
+    match functions.get(number as usize) {
+        Some(function) => function.name.as_bytes(),
+        None => b"",
+    }
+}
+
+fn write_call<W: Write>(
+    to: Variable,
+    name: &[u8],
+    arguments: &[Argument],
+    otherwise: u8,
+    writer: &mut W,
+) -> io::Result<()>
+    ensures whole { OnOk result (Appends (W.contents writer.old) (W.contents writer.new)
+        (spaced (codes "call" ∷ variable_text to ∷ name.now ∷ argument_words arguments.now otherwise))) }
+    ensures begun { OnErr result (AppendsBeginning (W.contents writer.old) (W.contents writer.new)
+        (spaced (codes "call" ∷ variable_text to ∷ name.now ∷ argument_words arguments.now otherwise))) }
+{
+    write_operand(b"call ", to, writer)?;
+    write_bytes(b" ", writer)?;
+    write_bytes(name, writer)?;
+    write_arguments(arguments, writer)?;
+    write_numeral(b" else @", u64::from(otherwise), writer)
+}
+
+/// Writes the variable of each argument behind a space.
+fn write_arguments<W: Write>(arguments: &[Argument], writer: &mut W) -> io::Result<()>
+    ensures whole { OnOk result (Appends (W.contents writer.old) (W.contents writer.new)
+        (flat_map (λ a. 32 ∷ variable_text a.from) arguments.now)) }
+    ensures begun { OnErr result (AppendsBeginning (W.contents writer.old) (W.contents writer.new)
+        (flat_map (λ a. 32 ∷ variable_text a.from) arguments.now)) }
+{
+    for argument in arguments {
+        write_operand(b" ", argument.from, writer)?;
+    }
+    Ok(())
 }
 
 /// Writes the bytes and then the variable, the number, `else` and the target.
@@ -219,9 +333,9 @@ fn write_open<W: Write>(
     writer: &mut W,
 ) -> io::Result<()>
     ensures whole { OnOk result (Appends (W.contents writer.old) (W.contents writer.new)
-        (instruction_text (Open to path mode otherwise))) }
+        (instruction_text [] (Open to path mode otherwise))) }
     ensures begun { OnErr result (AppendsBeginning (W.contents writer.old) (W.contents writer.new)
-        (instruction_text (Open to path mode otherwise))) }
+        (instruction_text [] (Open to path mode otherwise))) }
 {
     write_operand(b"open ", to, writer)?;
     write_numeral(b" ", u64::from(path), writer)?;
@@ -238,9 +352,11 @@ fn write_pair<W: Write>(
     writer: &mut W,
 ) -> io::Result<()>
     ensures whole { OnOk result (Appends (W.contents writer.old) (W.contents writer.new)
-        (before.now ++ spaced (variable_text first ∷ variable_text second ∷ codes "else" ∷ target_text otherwise ∷ []))) }
+        (before.now ++ spaced (variable_text first ∷ variable_text second ∷ codes "else"
+        ∷ target_text otherwise ∷ []))) }
     ensures begun { OnErr result (AppendsBeginning (W.contents writer.old) (W.contents writer.new)
-        (before.now ++ spaced (variable_text first ∷ variable_text second ∷ codes "else" ∷ target_text otherwise ∷ []))) }
+        (before.now ++ spaced (variable_text first ∷ variable_text second ∷ codes "else"
+        ∷ target_text otherwise ∷ []))) }
 {
     write_operands(before, first, second, writer)?;
     write_numeral(b" else @", u64::from(otherwise), writer)
@@ -248,9 +364,9 @@ fn write_pair<W: Write>(
 
 fn write_as<W: Write>(from: Variable, kind: Kind, otherwise: u8, writer: &mut W) -> io::Result<()>
     ensures whole { OnOk result (Appends (W.contents writer.old) (W.contents writer.new)
-        (instruction_text (As from kind otherwise))) }
+        (instruction_text [] (As from kind otherwise))) }
     ensures begun { OnErr result (AppendsBeginning (W.contents writer.old) (W.contents writer.new)
-        (instruction_text (As from kind otherwise))) }
+        (instruction_text [] (As from kind otherwise))) }
 {
     write_operand(b"as ", from, writer)?;
     write_word(b" ", kind.name(), writer)?;
@@ -259,9 +375,9 @@ fn write_as<W: Write>(from: Variable, kind: Kind, otherwise: u8, writer: &mut W)
 
 fn write_again<W: Write>(target: u8, times: u16, writer: &mut W) -> io::Result<()>
     ensures whole { OnOk result (Appends (W.contents writer.old) (W.contents writer.new)
-        (instruction_text (Again target times))) }
+        (instruction_text [] (Again target times))) }
     ensures begun { OnErr result (AppendsBeginning (W.contents writer.old) (W.contents writer.new)
-        (instruction_text (Again target times))) }
+        (instruction_text [] (Again target times))) }
 {
     write_numeral(b"again @", u64::from(target), writer)?;
     write_numeral(b" ", u64::from(times), writer)

@@ -5,7 +5,7 @@ pub struct Layout {
     pub workers: u8,
     /// The rows of each worker.
     pub rows: u16,
-    /// The cells of a list.
+    /// The most cells of a list.
     pub cells: u8,
     /// The immortal lists, whose rows come after those of the workers.
     pub immortal_lists: u8,

@@ -20,8 +20,8 @@ pub record TableState : Type 0 where
 pub record HandState : Type 0 where
   pub table : TableId
   pub view : View
-  -- of each begun merge of a row of the thread's own block, the local count that was swapped out, by the row modulo
-  -- the most rows of a block
+  -- of each begun merge of a row of the thread's own block, the local count that was swapped out, by the row's
+  -- index in its block
   pub carried : List (Option ℕ)
   -- the rows whose slots the hand has taken, the last one first, and how many resources each slot holds
   pub slots : List (ℕ × ℕ)

@@ -24,8 +24,8 @@ pub struct Hand<T> {
     pub(crate) used: u32,
     // Of main's hand, by worker: the memory that the worker's hand needs, until main gives that hand out.
     pub(crate) spares: Vec<Option<Spare>>,
-    // Of each begun merge of a row of the thread's own block, the local count that was swapped out, by the row modulo
-    // the most rows of a block.
+    // Of each begun merge of a row of the thread's own block, the local count that was swapped out, by the row's
+    // index in its block.
     pub(crate) carried: Carried,
 }
 

@@ -1,9 +1,15 @@
 use Rattle.std.proofs.lemmas.Result.{err_from_is_err_and}
-use Rattle.brc_lang.proofs.Functions.{fault_below}
+use Rattle.brc_lang.proofs.Functions.{fault_below, knows_on}
 use Rattle.brc_lang.proofs.reading.read_module.Goals as goal
 
 pub returns-in_err-cursor : goal.returns-in_err-cursor
 returns-in_err-cursor c =
     let p = err_from_is_err_and c.from_residual.result c.from_residual.ensures.1 in
-    rw (p.1, p.2) (fault_below c.args.bytes.now c.loop-alloc.functions c.loop-alloc.cursor c.in_err-cursor.field-0.0
-    c.loop-alloc.invariant c.in_err-cursor.ensures.err)
+    rw (p.1, p.2) (fault_below c.loop-alloc.above.version c.args.bytes.now c.loop-alloc.above.functions
+    c.loop-alloc.cursor c.in_err-cursor.field-0.0 c.loop-alloc.invariant.read c.in_err-cursor.ensures.err)
+
+pub loop-alloc-preserved : goal.loop-alloc-preserved
+loop-alloc-preserved c =
+    knows_on c.args.bytes.now _ c.loop-alloc.above c.read_function.new.above c.loop-alloc.cursor
+    c.in_ok-cursor.cursor c.loop-alloc.invariant c.in_ok-cursor.ensures.ok c.in_ok-cursor.ensures.known
+    c.read_function.ensures.version

@@ -4,7 +4,7 @@ use Rattle.std.specs.Io.KnownBytes.{Appends}
 use Rattle.brc_lang.specs.Grammar.{first_line, functions}
 use Rattle.brc_lang.proofs.writing.write.Given as goal
 
-abbrev pub invariant-loop-function : goal.invariant-loop-function
-invariant-loop-function g l =
+abbrev pub invariant-loop-number : goal.invariant-loop-number
+invariant-loop-number g l =
     Appends (g.W.Write.contents l.fn.writer) (g.W.Write.contents l.writer)
-    (first_line ++ functions (take l.function-index l.fn.module.functions))
+    (first_line l.module.version ++ functions (take l.number l.functions))

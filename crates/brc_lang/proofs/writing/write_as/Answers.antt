@@ -1,4 +1,4 @@
-use Rattle.std.proofs.Common.{◌≡◌, ◌++◌, ℕ, codes, decimal, refl, sym, append_assoc}
+use Rattle.std.proofs.Common.{◌≡◌, ◌++◌, [], ℕ, codes, decimal, refl, sym, append_assoc}
 use Rattle.std.proofs.KnownBytes.{Appends-trans}
 use Rattle.brc_lang.specs.declared.kind.Kind.{Kind}
 use Rattle.brc_lang.specs.declared.module.Instr.TheVariants.{As}
@@ -7,7 +7,7 @@ use Rattle.brc_lang.proofs.Written.{stops_early, stops_between, stops_late}
 use Rattle.brc_lang.proofs.writing.write_as.Goals as goal
 
 parts : (from : ℕ) (kind : Kind) (otherwise : ℕ)
-    → instruction (As from kind otherwise) ≡ (codes "as " ++ variable from) ++ (codes " " ++ kind_name kind)
+    → instruction [] (As from kind otherwise) ≡ (codes "as " ++ variable from) ++ (codes " " ++ kind_name kind)
     ++ (codes " else @" ++ decimal otherwise)
 parts from kind otherwise =
     sym (append_assoc (codes "as " ++ variable from) (codes " " ++ kind_name kind)

@@ -7,8 +7,9 @@ pub returns-in_err-write_line-clause-begun : goal.returns-in_err-write_line-clau
 returns-in_err-write_line-clause-begun g c =
     let code = c.args.code.now in
     let i = c.loop-instr.instr-index in
-    stops_between _ _ _ _ _ (instructions (take i code)) (line (instruction c.instr-item.result))
-    (instructions (drop (suc i) code))
-    (flat_map_around (λ instr. line (instruction instr)) code i c.instr-item.result c.instr-item.result
+    let above = c.args.above.now in
+    stops_between _ _ _ _ _ (instructions above (take i code)) (line (instruction above c.instr-item.result))
+    (instructions above (drop (suc i) code))
+    (flat_map_around (λ instr. line (instruction above instr)) code i c.instr-item.result c.instr-item.result
     c.loop-instr-test.true c.instr-item.is)
     c.loop-instr.invariant c.in_err-write_line.ensures.begun

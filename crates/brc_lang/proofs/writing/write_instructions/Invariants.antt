@@ -7,4 +7,4 @@ use Rattle.brc_lang.proofs.writing.write_instructions.Given as goal
 abbrev pub invariant-loop-instr : goal.invariant-loop-instr
 invariant-loop-instr g l =
     Appends (g.W.Write.contents l.initial.writer) (g.W.Write.contents l.writer)
-    (instructions (take l.instr-index l.code))
+    (instructions l.initial.above (take l.instr-index l.code))

@@ -1,4 +1,4 @@
-use Rattle.std.proofs.Common.{◌≡◌, ◌++◌, ◌∙◌, List, ℕ, codes, decimal, refl, sym, append_assoc}
+use Rattle.std.proofs.Common.{◌≡◌, ◌++◌, ◌∙◌, [], List, ℕ, codes, decimal, refl, sym, append_assoc}
 use Rattle.std.proofs.KnownBytes.{Appends-trans}
 use Rattle.brc_lang.specs.declared.mode.Mode.{Mode}
 use Rattle.brc_lang.specs.declared.module.Instr.TheVariants.{Open}
@@ -21,11 +21,11 @@ abbrev exit : ℕ → List ℕ
 exit otherwise = codes " else @" ++ decimal otherwise
 
 after_path : (to path : ℕ) (mode : Mode) (otherwise : ℕ)
-    → instruction (Open to path mode otherwise) ≡ (opened to ++ place path) ++ (word mode ++ exit otherwise)
+    → instruction [] (Open to path mode otherwise) ≡ (opened to ++ place path) ++ (word mode ++ exit otherwise)
 after_path to path mode otherwise = sym (append_assoc (opened to) (place path) (word mode ++ exit otherwise))
 
 after_mode : (to path : ℕ) (mode : Mode) (otherwise : ℕ)
-    → instruction (Open to path mode otherwise) ≡ ((opened to ++ place path) ++ word mode) ++ exit otherwise
+    → instruction [] (Open to path mode otherwise) ≡ ((opened to ++ place path) ++ word mode) ++ exit otherwise
 after_mode to path mode otherwise =
     after_path to path mode otherwise
     ∙ sym (append_assoc (opened to ++ place path) (word mode) (exit otherwise))
