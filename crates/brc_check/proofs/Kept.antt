@@ -8,7 +8,7 @@ use Rattle.std.proofs.lemmas.Option.{none-some, same_Some, slice_get_read}
 use Rattle.brc_lang.specs.declared.module.Instr.{Instr}
 use Rattle.brc_lang.specs.declared.module.Instr.TheVariants.{Num, List as ListObject, NoneObject, Newref, Move}
 use Rattle.brc_lang.specs.declared.module.Instr.TheVariants.{Drop, Lock, Unlock, Borrow, Fetch, Set, Put, As}
-use Rattle.brc_lang.specs.declared.module.Instr.TheVariants.{Open, Connect, Read, Write, Goto, Again, Ret, Fail}
+use Rattle.brc_lang.specs.declared.module.Instr.TheVariants.{Open, Connect, Read, Write, Call, Goto, Again, Ret, Fail}
 use Rattle.brc_lang.specs.declared.check_code.CheckCode.{CheckCode}
 use Rattle.brc_lang.specs.declared.check_code.CheckCode.TheVariants.{RunsOff}
 use Rattle.brc_model.specs.declared.state.State.{State}
@@ -73,6 +73,8 @@ instr_arrives (Write file number otherwise) Success at next s e = inr (onward at
 instr_arrives (Write file number otherwise) Fault at next s e = inl (same_target otherwise next false e)
 instr_arrives (As from kind otherwise) Success at next s e = inr (onward at next e, e, refl)
 instr_arrives (As from kind otherwise) Fault at next s e = inl (same_target otherwise next false e)
+instr_arrives (Call to callee arguments otherwise) Success at next s e = inr (onward at next e, e, refl)
+instr_arrives (Call to callee arguments otherwise) Fault at next s e = inl (same_target otherwise next false e)
 instr_arrives (Goto to) exit at next s e = inl (same_target to next false e)
 instr_arrives (Again to times) Success at next s e = inr (onward at next e, e, refl)
 instr_arrives (Again to times) Fault at next s e = inl (eq-eqb to next (same_Some to next e))

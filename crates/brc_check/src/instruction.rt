@@ -36,6 +36,8 @@ pub fn refusal(instr: Instr, state: &State) -> Option<CheckCode>
         Instr::Read { to, file, .. } => read_refusal(state, to, file),
         Instr::Write { file, number, .. } => write_refusal(state, file, number),
         Instr::As { from, kind, .. } => as_refusal(state, from, kind),
+        // No call is run yet, so each is refused.
+        Instr::Call { .. } => Some(CheckCode::WrongKind),
         Instr::Goto { .. } | Instr::Again { .. } => None,
         Instr::Ret { from } => ret_refusal(state, from),
         Instr::Fail => fail_refusal(state),
@@ -95,6 +97,7 @@ pub fn apply(instr: Instr, exit: Exit, state: &mut State)
             }
         }
         Instr::Write { .. }
+        | Instr::Call { .. }
         | Instr::Goto { .. }
         | Instr::Again { .. }
         | Instr::Ret { .. }
@@ -118,7 +121,8 @@ pub fn target_of(instr: Instr, exit: Exit, at: usize) -> Option<usize>
         | Instr::Connect { otherwise, .. }
         | Instr::Read { otherwise, .. }
         | Instr::Write { otherwise, .. }
-        | Instr::As { otherwise, .. } => Some(match exit {
+        | Instr::As { otherwise, .. }
+        | Instr::Call { otherwise, .. } => Some(match exit {
             Exit::Success => at + 1,
             Exit::Fault => otherwise as usize,
         }),

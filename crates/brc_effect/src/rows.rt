@@ -1,4 +1,4 @@
-//! The rows of each thread's block, by the layout.
+//! The rows of each thread's block, by the layout, and the cells of their lists.
 
 ghost use Rattle.std.specs.Prelude.{◌≡◌, ◌<◌, ◌^◌};
 ghost use Rattle.brc_model.specs.Layout.{worker_rows, row_count, block_of, block_size, row_at, index_of, is_immortal_row};
@@ -13,6 +13,12 @@ pub const ROOT: u32 = 1;
 
 /// Main's rows in front of the workers': none's and the root's.
 pub const FRONT_ROWS: u32 = 2;
+
+/// The most cells of a list in a text.
+pub const TEXT_CELLS: u8 = 8;
+
+/// The cells of the root.
+pub const ROOT_CELLS: u32 = 8;
 
 /// Returns the number of rows of all workers.
 #[inline(always)]

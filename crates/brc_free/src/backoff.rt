@@ -1,6 +1,7 @@
 //! Waiting between two tries of a step that another thread came before.
 
 ghost use Rattle.std.specs.Prelude.{◌≡◌, ◌*◌, nat_lt, if◌then◌else◌};
+ghost use Rattle.brc_free.specs.declared.backoff.TheConstants.{LEAST_YIELDS, MOST_YIELDS};
 
 use std::thread;
 
@@ -23,7 +24,7 @@ pub struct Backoff {
 impl Backoff {
     /// Returns a back-off whose first wait comes next.
     pub fn new() -> Backoff
-        ensures { result.yields ≡ 2 }
+        ensures { result.yields ≡ LEAST_YIELDS }
     {
         Backoff {
             yields: LEAST_YIELDS,
@@ -32,7 +33,8 @@ impl Backoff {
 
     /// Waits, and will wait longer the next time.
     pub fn wait(&mut self)
-        ensures { self.new.yields ≡ (if nat_lt self.old.yields 8 then 2 * self.old.yields else self.old.yields) }
+        ensures { self.new.yields
+            ≡ (if nat_lt self.old.yields MOST_YIELDS then 2 * self.old.yields else self.old.yields) }
     {
         for _ in 0..self.yields {
             thread::yield_now();

@@ -2,7 +2,7 @@
 use Rattle.std.specs.Prelude.{ℕ, zero, suc, ◌+◌, ◌*◌, Bool, true, false, ◌&&◌, ◌==◌, nat_lt, if◌then◌else◌, List, [], ◌∷◌, length, Option, None, Some, slice_get, slice_index_or, slice_set, replicate}
 use Rattle.brc_word.specs.declared.values.TheConstants.{NUM, LIST, FILE, SOCK}
 use Rattle.brc_lang.specs.declared.module.Instr.{Instr}
-use Rattle.brc_lang.specs.declared.module.Instr.TheVariants.{Num, List as ListObject, NoneObject, Newref, Move as MoveReference, Drop, Lock, Unlock, Borrow, Fetch, Set, Put, Goto, Again, Ret, Fail, As, Open, Connect, Read, Write}
+use Rattle.brc_lang.specs.declared.module.Instr.TheVariants.{Num, List as ListObject, NoneObject, Newref, Move as MoveReference, Drop, Lock, Unlock, Borrow, Fetch, Set, Put, Goto, Again, Ret, Fail, As, Open, Connect, Read, Write, Call}
 use Rattle.brc_lang.specs.declared.module.Function.{Function}
 use Rattle.brc_word.specs.Words.{half, free_word}
 use Rattle.brc_model.specs.declared.thread.Choice.{Choice}
@@ -192,6 +192,7 @@ dispatch_instruction layout t used before context at variables (Some (As from ki
     with_row (row_of variables from)
     (λ row. Does (KindLoad row) []
     (λ found. InCall context (if same_kind (kind_of_word found) kind then at + 1 else otherwise) variables))
+dispatch_instruction layout t used before context at variables (Some (Call to callee arguments otherwise)) = Stuck
 dispatch_instruction layout t used before context at variables (Some (Goto to)) =
     Silent [] (InCall context to variables)
 dispatch_instruction layout t used before context at variables (Some (Again to times)) =

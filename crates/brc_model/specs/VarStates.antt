@@ -6,7 +6,7 @@ use Rattle.std.specs.List.{list_any, slice_index_or}
 use Rattle.brc_lang.specs.declared.kind.Kind.{Kind}
 use Rattle.brc_lang.specs.declared.kind.Kind.TheVariants as kinds
 use Rattle.brc_lang.specs.declared.module.Instr.{Instr}
-use Rattle.brc_lang.specs.declared.module.Instr.TheVariants.{Num, List as ListObject, NoneObject, Newref, Move, Drop, Lock, Unlock, Borrow, Fetch, Set, Put, Goto, Again, Ret, Fail, As, Open, Connect, Read, Write}
+use Rattle.brc_lang.specs.declared.module.Instr.TheVariants.{Num, List as ListObject, NoneObject, Newref, Move, Drop, Lock, Unlock, Borrow, Fetch, Set, Put, Goto, Again, Ret, Fail, As, Open, Connect, Read, Write, Call}
 use Rattle.brc_model.specs.Kinds.{same_kind}
 use Rattle.brc_lang.specs.declared.check_code.CheckCode.{CheckCode}
 use Rattle.brc_lang.specs.declared.check_code.CheckCode.TheVariants.{EmptyUsed, WrongKind, NotOwned, StillOwns, LeftOwned, LeftLocked, SecondLock, NotLocked, LockedChanged}
@@ -152,6 +152,8 @@ conditions_of (Read to file most otherwise) =
 conditions_of (Write file number otherwise) =
     Use file ∷ IsOneOf file with_resource ∷ IsLocked file ∷ Use number ∷ IsOneOf number (kinds.Num ∷ []) ∷ []
 conditions_of (As from kind otherwise) = Use from ∷ MayBe from kind ∷ []
+-- no state meets this condition: the checker refuses every call, until calls are run
+conditions_of (Call to callee arguments otherwise) = IsOneOf to [] ∷ []
 conditions_of (Goto to) = []
 conditions_of (Again to times) = []
 conditions_of (Ret from) = Give from ∷ NothingOwnedBut from ∷ NothingLocked ∷ []
@@ -198,6 +200,7 @@ after (Read to file most otherwise) exit s = put s to (birth_var kinds.Num exit)
 after (Write file number otherwise) exit s = s
 after (As from kind otherwise) Success s = put s from (with_kind (var_of s from) kind)
 after (As from kind otherwise) Fault s = s
+after (Call to callee arguments otherwise) exit s = s
 after (Goto to) exit s = s
 after (Again to times) exit s = s
 after (Ret from) exit s = s
@@ -233,6 +236,8 @@ target (Write file number otherwise) Success at = Some (at + 1)
 target (Write file number otherwise) Fault at = Some otherwise
 target (As from kind otherwise) Success at = Some (at + 1)
 target (As from kind otherwise) Fault at = Some otherwise
+target (Call to callee arguments otherwise) Success at = Some (at + 1)
+target (Call to callee arguments otherwise) Fault at = Some otherwise
 target (Goto to) exit at = Some to
 target (Again to times) Success at = Some (at + 1)
 target (Again to times) Fault at = Some to

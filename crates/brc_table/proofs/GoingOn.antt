@@ -12,10 +12,10 @@ use Rattle.brc_table.specs.declared.work.Work.TheVariants.{Next, Aside}
 use Rattle.brc_table.specs.Accesses.{HasAccess, IsNext, row_of}
 use Rattle.brc_table.specs.Begins.{Becomes}
 use Rattle.brc_table.specs.Turns.{MayGoOn, turned_to}
-use Rattle.brc_table.specs.Views.{RowsAreThere}
+use Rattle.brc_table.specs.Views.{RowsAreThere, work_about}
 use Rattle.brc_table.proofs.Becoming.{turned_becomes}
 use Rattle.brc_table.proofs.Changing.{itself_becomes}
-use Rattle.brc_table.proofs.NextDuty.{next_there, work_row_there}
+use Rattle.brc_table.proofs.NextDuty.{coming, next_there}
 
 -- The hand may become what it goes on with,
 pub goes_on_becomes : WorkIsPutAside → WorkIsTakenBack → (layout : Layout) (work : Work) (v : View) (x : ℕ)
@@ -32,4 +32,5 @@ goes_on_alive Aside v x may = may.0
 pub goes_on_row : (work : Work) (v : View) (d : Duty) → HasAccess d → RowsAreThere v
     → IsNext d (turned_to work v (row_of d)).actor.agenda → is_about (row_of d) d ≡ true → row_of d < row_count v.layout
 goes_on_row Next v d has rows next this = next_there v d next has rows this
-goes_on_row Aside v d has rows next this = work_row_there v (row_of d) d rows next
+goes_on_row Aside v d has rows next this =
+    let c = coming d (work_about (row_of d) v) next in rows.work (row_of d) c.first c.rest c.is

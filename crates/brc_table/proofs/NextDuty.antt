@@ -26,7 +26,7 @@ use Rattle.brc_table.specs.Rule.{reading}
 use Rattle.brc_table.specs.Places.{HasWord, IsObjectWord, IsTableWord}
 use Rattle.brc_table.specs.Plays.{overwritten, overwritten_by}
 use Rattle.brc_table.specs.Uses.{first_use, first_due, held_after}
-use Rattle.brc_table.specs.Views.{RowsAreThere, view_by, view_after, work_about}
+use Rattle.brc_table.specs.Views.{RowsAreThere, view_by, view_after}
 use Rattle.brc_table.proofs.Places.{mark_has}
 use Rattle.brc_table.proofs.Bare.{IsLike, alike}
 use Rattle.brc_table.proofs.Duties.{first_there, rows_few}
@@ -193,12 +193,6 @@ module _ (u : View) (d : Duty) (next : IsNext d u.actor.agenda) (has : HasAccess
 
   pub used_next : (found : ℕ) → (view_after u found).actor.used ≡ used_by u.actor.used d
   used_next found = ap (λ (v : View). v.actor.used) (view_next found) ∙ c.like.used u.actor.used
-
--- The row of work that is about it is there.
-pub work_row_there : (v : View) (x : ℕ) (d : Duty) → RowsAreThere v → IsNext d (work_about x v)
-    → x < row_count v.layout
-work_row_there v x d rows next =
-    let c = coming d (work_about x v) next in rows.work x c.first c.rest c.is
 
 -- A word of an object says what it is, and so does one of a thread that is started.
 says_itself : (a : Address) (before : ℕ) → ((t : ℕ) → a ≡ ThreadWord t → 0 < before) → reading a before ≡ before

@@ -5,7 +5,7 @@ ghost use Rattle.brc_table.specs.Opening.{blank_line, blank_word, first_word, Ar
 
 use crate::place::{FRONT, GATE, KIND, LINE, LOCAL, SHARED, TILE, in_line};
 use crate::size::{tile_count, word_count};
-use brc_effect::rows::{NONE_ROW, ROOT, row_count};
+use brc_effect::rows::{NONE_ROW, ROOT, ROOT_CELLS, row_count};
 use brc_model::Layout;
 use brc_word::values::{EMPTY, FREE, LIST, NONE, RUNNING};
 use brc_word::{kind_word, local_word};
@@ -22,9 +22,6 @@ const FRESH: u64 = 1 << 42;
 
 /// The local count of an immortal object.
 const IMMORTAL: u32 = u32::MAX;
-
-/// The cells of the root.
-const ROOT_CELLS: u32 = 8;
 
 /// Returns the first value of the words in a line of a tile, of rows that aren't born.
 fn blank_line(line: usize) -> u64

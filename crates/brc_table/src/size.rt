@@ -9,9 +9,6 @@ use brc_effect::rows::{block_size, row_count};
 use brc_model::Layout;
 use brc_word::MARKS_OF_WORD;
 
-/// The most cells of a list in a text.
-pub(crate) const TEXT_CELLS: u8 = 8;
-
 /// Returns the number of tiles. The last one may have fewer rows than eight.
 pub(crate) fn tile_count(layout: Layout) -> usize
     ensures { result ≡ tiles layout }

@@ -5,7 +5,7 @@ use Rattle.std.proofs.lemmas.Bool.{not-false}
 use Rattle.std.proofs.lemmas.List.{length-set}
 use Rattle.brc_lang.specs.declared.kind.Kind.TheVariants as kinds
 use Rattle.brc_lang.specs.declared.module.Instr.{Instr}
-use Rattle.brc_lang.specs.declared.module.Instr.TheVariants.{Num, List as ListObject, NoneObject, Newref, Move as MoveReference, Drop, As, Lock, Unlock, Borrow, Fetch, Set, Put, Goto, Again, Ret, Fail, Open, Connect, Read, Write}
+use Rattle.brc_lang.specs.declared.module.Instr.TheVariants.{Num, List as ListObject, NoneObject, Newref, Move as MoveReference, Drop, As, Lock, Unlock, Borrow, Fetch, Set, Put, Goto, Again, Ret, Fail, Open, Connect, Read, Write, Call}
 use Rattle.brc_word.specs.Words.{free_word}
 use Rattle.brc_model.specs.declared.actor.Place.{Place}
 use Rattle.brc_model.specs.declared.actor.Context.{Context}
@@ -280,6 +280,7 @@ module _ (code : List Instr) (memory : Address → ℕ) (locked : Option ℕ) (c
       (items_with_kind new locked s variables from kind (omega (arith, here.operands.0, here.inside.vars))
       (items_stay memory new locked stays s variables here.items)))
       (goes_on_same new otherwise (As from kind otherwise) FaultExit stays here refl refl))
+  instruction_uses layout t used before (Call to callee arguments otherwise) knew here = tt
   instruction_uses layout t used before (Goto to) knew here =
       goes_on_same memory to (Goto to) Success (all_stay memory locked) here refl refl
   instruction_uses layout t used before (Again to times) knew here =

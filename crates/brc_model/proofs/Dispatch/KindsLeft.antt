@@ -5,7 +5,7 @@ use Rattle.std.proofs.lemmas.List.{length-set}
 use Rattle.brc_lang.specs.declared.kind.Kind.{Kind}
 use Rattle.brc_lang.specs.declared.kind.Kind.TheVariants as kinds
 use Rattle.brc_lang.specs.declared.module.Instr.{Instr}
-use Rattle.brc_lang.specs.declared.module.Instr.TheVariants.{Num, List as ListObject, NoneObject, Newref, Move as MoveReference, Drop, As, Lock, Unlock, Borrow, Fetch, Set, Put, Goto, Again, Ret, Fail, Open, Connect, Read, Write}
+use Rattle.brc_lang.specs.declared.module.Instr.TheVariants.{Num, List as ListObject, NoneObject, Newref, Move as MoveReference, Drop, As, Lock, Unlock, Borrow, Fetch, Set, Put, Goto, Again, Ret, Fail, Open, Connect, Read, Write, Call}
 use Rattle.brc_lang.specs.Grammar.{IsInstruction}
 use Rattle.brc_word.specs.Words.{free_word, half, kind_part}
 use Rattle.brc_model.specs.declared.actor.Place.{Place}
@@ -277,6 +277,8 @@ instruction_leaves code words layout t used before context at variables s (As fr
     ∙ same_kind_is (kind_of_word found) kind same)) here.known))
     (goes_on code words context at otherwise variables variables s (As from kind otherwise) FaultExit here refl
     here.known))
+instruction_leaves code words layout t used before context at variables s (Call to callee arguments otherwise) knew
+    here = tt
 instruction_leaves code words layout t used before context at variables s (Goto to) knew here =
     goes_on code words context at to variables variables s (Goto to) Success here refl here.known
 instruction_leaves code words layout t used before context at variables s (Again to times) knew here =

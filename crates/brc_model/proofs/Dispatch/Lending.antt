@@ -6,7 +6,7 @@ use Rattle.brc_model.specs.declared.state.Exit.TheVariants.{Success, Fault}
 use Rattle.std.proofs.Common.{◌≡◌, ℕ, zero, suc, ◌+◌, List, [], Option, None, Some, ◌∙◌, ap, sym, refl, cond}
 use Rattle.std.specs.Prelude.{◌==◌, slice_get, slice_set, nat_lt}
 use Rattle.brc_lang.specs.declared.module.Instr.{Instr}
-use Rattle.brc_lang.specs.declared.module.Instr.TheVariants.{Num, List as ListObject, Newref, Move as MoveReference, Drop, Lock, Unlock, Borrow, Fetch, Set, Put, Again, Ret, As, Open, Connect, Read, Write, NoneObject, Goto, Fail}
+use Rattle.brc_lang.specs.declared.module.Instr.TheVariants.{Num, List as ListObject, Newref, Move as MoveReference, Drop, Lock, Unlock, Borrow, Fetch, Set, Put, Again, Ret, As, Open, Connect, Read, Write, NoneObject, Goto, Fail, Call}
 use Rattle.brc_word.specs.Words.{free_word}
 use Rattle.brc_model.specs.declared.actor.Place.{Place}
 use Rattle.brc_model.specs.declared.actor.Context.{Context}
@@ -181,6 +181,10 @@ instruction_lent code layout t used before context at variables
     row_lent code lent (row_of variables number) _ (λ row found full. none)
 instruction_lent code layout t used before context at variables (Some (As from kind otherwise)) lent is none back =
     row_lent code lent (row_of variables from) _ (λ row found full. none)
+instruction_lent code layout t used before context at variables
+    (Some (Call to callee arguments otherwise)) lent is none back
+    =
+    tt
 instruction_lent code layout t used before context at variables (Some (Again to times)) lent is none back =
     either (λ (place : Place). lent ≡ lent_at code place) (nat_lt (turns_at context at) times)
     (InCall (with_turn context at) to variables) (InCall context (at + 1) variables) (λ more. none) none

@@ -3,6 +3,8 @@ use Rattle.std.proofs.Common.{◌≡◌, ℕ, Bool, true, false, cond, List, [],
 use Rattle.std.specs.Prelude.{find, nat_lt, slice_get}
 use Rattle.std.proofs.lemmas.List.Sums.{fold-append}
 use Rattle.brc_lang.specs.declared.module.Instr.{Instr}
+use Rattle.brc_lang.specs.declared.module.Instr.TheVariants.{Call}
+use Rattle.brc_lang.specs.declared.parameter.Argument.{Argument}
 use Rattle.brc_lang.specs.declared.check_code.CheckCode.{CheckCode}
 use Rattle.brc_lang.specs.declared.check_code.CheckCode.TheVariants.{EmptyUsed, WrongKind, NotOwned, StillOwns, LeftOwned, LeftLocked, SecondLock, NotLocked, LockedChanged, RunsOff}
 use Rattle.brc_model.specs.declared.state.State.{State}
@@ -54,6 +56,11 @@ are_met i s none =
       has_lock = h.0;
       unlocked = k.0;
     }
+
+-- No state meets the condition of a call: no call is run yet.
+pub no_call_is_met : (s : State) (to callee : ℕ) (arguments : List Argument) (otherwise : ℕ)
+    → AreMet (Call to callee arguments otherwise) s → ⊥
+no_call_is_met s to callee arguments otherwise met = let no : true ≡ false = met.right_kind in absurd cc
 
 pub record PassesOn (code : List Instr) (exits : List Exit) (at : ℕ) (s : State) : Type 0 where
   pub here : Instr

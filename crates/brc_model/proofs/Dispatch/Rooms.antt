@@ -5,7 +5,7 @@ use Rattle.std.proofs.Common.{◌≡◌, ℕ, zero, suc, ◌+◌, Bool, true, fa
 use Rattle.std.specs.Prelude.{◌==◌, nat_lt, slice_get, slice_set}
 use Rattle.brc_lang.specs.declared.module.Function.{Function}
 use Rattle.brc_lang.specs.declared.module.Instr.{Instr}
-use Rattle.brc_lang.specs.declared.module.Instr.TheVariants.{Num, List as ListObject, NoneObject, Newref, Move as MoveReference, Drop, Lock, Unlock, Borrow, Fetch, Set, Put, Goto, Again, Ret, Fail, As, Open, Connect, Read, Write}
+use Rattle.brc_lang.specs.declared.module.Instr.TheVariants.{Num, List as ListObject, NoneObject, Newref, Move as MoveReference, Drop, Lock, Unlock, Borrow, Fetch, Set, Put, Goto, Again, Ret, Fail, As, Open, Connect, Read, Write, Call}
 use Rattle.brc_word.specs.Words.{free_word}
 use Rattle.brc_model.specs.declared.state.Exit.{Exit}
 use Rattle.brc_model.specs.declared.thread.Choice.{Choice}
@@ -161,6 +161,7 @@ module _ (code : List Instr) (layout : Layout) (t used : ℕ) where
       row_room code (has_room layout t used) (row_of variables number) _ (λ row found e. absurd cc)
   instruction_room before context at variables (Some (As from kind otherwise)) is none =
       row_room code (has_room layout t used) (row_of variables from) _ (λ row found e. absurd cc)
+  instruction_room before context at variables (Some (Call to callee arguments otherwise)) is none = tt
   instruction_room before context at variables (Some (Goto to)) is none = λ e. absurd cc
   instruction_room before context at variables (Some (Again to times)) is none =
       silent_none code (has_room layout t used) (again_place context at variables to times)

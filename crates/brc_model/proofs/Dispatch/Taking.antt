@@ -4,7 +4,7 @@ use Rattle.std.specs.Prelude.{◌==◌, ◌&&◌, slice_get, slice_set}
 use Rattle.std.specs.List.{list_any}
 use Rattle.std.proofs.lemmas.List.{length-set}
 use Rattle.brc_lang.specs.declared.module.Instr.{Instr}
-use Rattle.brc_lang.specs.declared.module.Instr.TheVariants.{Num, List as ListObject, NoneObject, Newref, Move as MoveReference, Drop, Lock, Unlock, Borrow, Fetch, Set, Put, Goto, Again, Ret, Fail, As, Open, Connect, Read, Write}
+use Rattle.brc_lang.specs.declared.module.Instr.TheVariants.{Num, List as ListObject, NoneObject, Newref, Move as MoveReference, Drop, Lock, Unlock, Borrow, Fetch, Set, Put, Goto, Again, Ret, Fail, As, Open, Connect, Read, Write, Call}
 use Rattle.brc_model.specs.declared.state.VarState.TheVariants.{Empty, Owned}
 use Rattle.brc_model.specs.declared.state.State.{State}
 use Rattle.brc_model.specs.declared.state.Exit.TheVariants.{Success}
@@ -36,7 +36,7 @@ use Rattle.brc_model.proofs.Dispatch.TakingHost.{open_taken, connect_taken, read
 use Rattle.brc_model.proofs.Dispatch.TakingKinds.{as_taken}
 use Rattle.brc_model.proofs.Dispatch.TakingStores.{inside_taken}
 use Rattle.brc_model.proofs.Dispatch.Items.{entry_items}
-use Rattle.brc_model.proofs.Dispatch.Passing.{passes_on}
+use Rattle.brc_model.proofs.Dispatch.Passing.{passes_on, no_call_is_met}
 use Rattle.brc_model.proofs.Stepping.Counts.{flip_eqb}
 use Rattle.brc_model.proofs.Frame.Aside.{HoldsAlone}
 use Rattle.brc_model.proofs.Dispatch.Coded.{PlaceFits, has_stage, in_flight}
@@ -202,6 +202,8 @@ module _ {code : List Instr} {g : Scene} {before : Place} {context : Context} {a
   instruction_taken (Write file number otherwise) here =
       write_taken code g context at variables s before file number otherwise here
   instruction_taken (As from kind otherwise) here = as_taken from kind otherwise here
+  instruction_taken (Call to callee arguments otherwise) here =
+      absurd (no_call_is_met s to callee arguments otherwise here.met)
   instruction_taken (Ret from) here = ret_taken from here
   instruction_taken (Goto to) here = goto_taken to here
   instruction_taken (Again to times) here = again_taken to times here

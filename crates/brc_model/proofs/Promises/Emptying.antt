@@ -4,7 +4,7 @@ use Rattle.brc_model.specs.declared.state.Exit.TheVariants.{Success, Fault as Fa
 use Rattle.std.proofs.Common.{◌≡◌, ℕ, zero, suc, Bool, true, false, cond, List, [], ◌∷◌, ◌++◌, Option, None, Some, refl, sym, ap, ◌∙◌, subst}
 use Rattle.std.specs.Prelude.{not, slice_get}
 use Rattle.brc_lang.specs.declared.module.Instr.{Instr}
-use Rattle.brc_lang.specs.declared.module.Instr.TheVariants.{Num, List as ListObject, NoneObject, Newref, Move as MoveReference, Drop, Lock, Unlock, Borrow, Fetch, Set, Put, Goto, Again, Ret, Fail, As, Open, Connect, Read, Write}
+use Rattle.brc_lang.specs.declared.module.Instr.TheVariants.{Num, List as ListObject, NoneObject, Newref, Move as MoveReference, Drop, Lock, Unlock, Borrow, Fetch, Set, Put, Goto, Again, Ret, Fail, As, Open, Connect, Read, Write, Call}
 use Rattle.brc_model.specs.Threads.{row_of}
 use Rattle.brc_model.specs.declared.duty.Duty.{Duty}
 use Rattle.brc_model.specs.declared.duty.Duty.TheVariants.{Die, Settle, Scan, TakeFound}
@@ -229,6 +229,7 @@ instruction_empties layout t used before context at variables (Some (Write file 
     row_empties (row_of variables number) _ (λ row. refl)
 instruction_empties layout t used before context at variables (Some (As from kind otherwise)) =
     row_empties (row_of variables from) _ (λ row. refl)
+instruction_empties layout t used before context at variables (Some (Call to callee arguments otherwise)) = tt
 instruction_empties layout t used before context at variables (Some (Goto to)) = tt
 instruction_empties layout t used before context at variables (Some (Again to times)) = tt
 instruction_empties layout t used before context at variables (Some (Ret from)) =

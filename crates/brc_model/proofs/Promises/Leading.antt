@@ -6,7 +6,7 @@ use Rattle.std.specs.Prelude.{◌==◌, nat_lt, slice_get, slice_set, is_some, c
 use Rattle.std.proofs.lemmas.Bool.{ltb-true}
 use Rattle.std.proofs.lemmas.Option.{slice_get_within}
 use Rattle.brc_lang.specs.declared.module.Instr.{Instr}
-use Rattle.brc_lang.specs.declared.module.Instr.TheVariants.{Num, List as ListObject, NoneObject, Newref, Move as MoveReference, Drop, Lock, Unlock, Borrow, Fetch, Set, Put, Goto, Again, Ret, Fail, As, Open, Connect, Read, Write}
+use Rattle.brc_lang.specs.declared.module.Instr.TheVariants.{Num, List as ListObject, NoneObject, Newref, Move as MoveReference, Drop, Lock, Unlock, Borrow, Fetch, Set, Put, Goto, Again, Ret, Fail, As, Open, Connect, Read, Write, Call}
 use Rattle.brc_lang.specs.Grammar.{LeadsForward}
 use Rattle.brc_word.specs.Words.{free_word}
 use Rattle.brc_model.specs.Kinds.{same_kind, kind_of_word}
@@ -159,6 +159,7 @@ module _ (P : Place → Type 0) (place : Place) (code : List Instr) (forward : L
           (λ row word. holds.on (cond (same_kind (kind_of_word word) kind) (at + 1) otherwise) variables
           (either (λ (next : ℕ). at < next) (same_kind (kind_of_word word) kind) (at + 1) otherwise
           (λ same. omega arith) (forward at (As from kind otherwise) otherwise is refl).0))
+      instruction_leads (Some (Call to callee arguments otherwise)) is = tt
       instruction_leads (Some (Goto to)) is = holds.on to variables (forward at (Goto to) to is refl).0
       instruction_leads (Some (Again to times)) is =
           either P (nat_lt (turns_at context at) times) (InCall (with_turn context at) to variables)

@@ -6,7 +6,7 @@ use Rattle.std.specs.Prelude.{◌==◌, not, slice_get, slice_set, sum_by}
 use Rattle.std.proofs.Math.Path.{fun_ext}
 use Rattle.std.proofs.lemmas.List.Sums.{sum_by-cons}
 use Rattle.brc_lang.specs.declared.module.Instr.{Instr}
-use Rattle.brc_lang.specs.declared.module.Instr.TheVariants.{Num, List as ListObject, NoneObject, Newref, Move as MoveReference, Drop, Lock, Unlock, Borrow, Fetch, Set, Put, Goto, Again, Ret, Fail, As, Open, Connect, Read, Write}
+use Rattle.brc_lang.specs.declared.module.Instr.TheVariants.{Num, List as ListObject, NoneObject, Newref, Move as MoveReference, Drop, Lock, Unlock, Borrow, Fetch, Set, Put, Goto, Again, Ret, Fail, As, Open, Connect, Read, Write, Call}
 use Rattle.brc_lang.specs.declared.module.Module.{Module}
 use Rattle.brc_lang.specs.declared.module.Function.{Function}
 use Rattle.brc_word.specs.Words.{free_word, locked_word}
@@ -95,6 +95,7 @@ instruction_waits layout t used place context at variables (Some (Write file num
     row_waits place (row_of variables number) _ (λ row. tt)
 instruction_waits layout t used place context at variables (Some (As from kind otherwise)) =
     row_waits place (row_of variables from) _ (λ row. tt)
+instruction_waits layout t used place context at variables (Some (Call to callee arguments otherwise)) = tt
 instruction_waits layout t used place context at variables (Some (Goto to)) = tt
 instruction_waits layout t used place context at variables (Some (Again to times)) = tt
 instruction_waits layout t used place context at variables (Some (Ret from)) =

@@ -4,6 +4,7 @@ use Rattle.std.specs.Prelude.{replicate}
 use lib.Count.{count_trailing_zeros}
 use Rattle.brc_lang.specs.declared.module.Instr.TheVariants.{Fail}
 use Rattle.brc_lang.specs.declared.module.Module.{Module}
+use Rattle.brc_lang.specs.declared.version.Version.TheVariants.{One}
 use Rattle.brc_model.specs.declared.state.State.{State}
 use Rattle.brc_model.specs.declared.thread.Call.{Call}
 use Rattle.brc_model.specs.declared.actor.Status.{Status}
@@ -15,7 +16,8 @@ use Rattle.brc_model.specs.Actions.{StepActor}
 use Rattle.brc_model.specs.StepMachine.{StepMachine, first_machine, machine_after}
 
 smallest : Module
-smallest = record { functions = record { name = 102 ∷ []; code = Fail ∷ [] } ∷ [] }
+smallest =
+    record { version = One; functions = record { name = 102 ∷ []; parameters = []; code = Fail ∷ [] } ∷ [] }
 
 one_call : List Call
 one_call = record { function = 0; times = 1 } ∷ []
