@@ -7,7 +7,7 @@ use Rattle.brc_word.specs.Words.{free_word, argument_part}
 use Rattle.brc_host.specs.HostCalls.{HostCall}
 use Rattle.brc_host.specs.HostCalls as asked
 use Rattle.brc_lang.specs.declared.module.Instr.{Instr}
-use Rattle.brc_lang.specs.declared.module.Instr.TheVariants.{Num, List as ListObject, NoneObject, Newref, Move as MoveReference, Drop, Lock, Unlock, Borrow, Fetch, Set, Put, Goto, Again, Ret, Fail, As, Open, Connect, Read, Write}
+use Rattle.brc_lang.specs.declared.module.Instr.TheVariants.{Num, List as ListObject, NoneObject, Newref, Move as MoveReference, Drop, Lock, Unlock, Borrow, Fetch, Set, Put, Goto, Again, Ret, Fail, As, Open, Connect, Read, Write, Call}
 use Rattle.brc_model.specs.declared.actor.Context.{Context}
 use Rattle.brc_model.specs.declared.actor.Place.{Place}
 use Rattle.brc_model.specs.declared.actor.Place.TheVariants.{Idle, InCall, Inside, Stopping, Exiting}
@@ -229,6 +229,7 @@ module _ (layout : Layout) (t : ℕ) (code : List Instr) (cs : List HostCall) (e
       ))
   instruction_leads context at variables (Some (As from kind otherwise)) is here other clear =
       row_leads (row_of variables from) _ (λ row found. (Other refl, tt))
+  instruction_leads context at variables (Some (Call to callee arguments otherwise)) is here other clear = tt
   instruction_leads context at variables (Some (Goto to)) is here other clear = tt
   instruction_leads context at variables (Some (Again to times)) is here other clear =
       either (Remembers code cs es b) (nat_lt (turns_at context at) times) (InCall (with_turn context at) to variables)

@@ -6,7 +6,7 @@ use Rattle.std.proofs.lemmas.Option.{slice_get_cases}
 use Rattle.brc_lang.specs.declared.module.Function.{Function}
 use Rattle.brc_lang.specs.declared.module.Instr.{Instr}
 use Rattle.brc_lang.specs.declared.module.Module.{Module}
-use Rattle.brc_lang.specs.declared.module.Instr.TheVariants.{Num, List as ListObject, NoneObject, Newref, Move, Drop, Lock, Unlock, Borrow, Fetch, Set, Put, Goto, Again, Ret, Fail, As, Open, Connect, Read, Write}
+use Rattle.brc_lang.specs.declared.module.Instr.TheVariants.{Num, List as ListObject, NoneObject, Newref, Move, Drop, Lock, Unlock, Borrow, Fetch, Set, Put, Goto, Again, Ret, Fail, As, Open, Connect, Read, Write, Call}
 use Rattle.brc_model.specs.declared.state.Exit.TheVariants.{Success, Fault as FaultExit}
 use Rattle.brc_lang.specs.declared.check_code.CheckCode.TheVariants.{EmptyUsed, WrongKind, NotOwned, StillOwns, LeftOwned, LeftLocked, SecondLock, NotLocked, LockedChanged}
 use Rattle.brc_model.specs.declared.state.State.{State}
@@ -148,6 +148,8 @@ leads_on (Write file number otherwise) Success at on = (at + 1, refl)
 leads_on (Write file number otherwise) FaultExit at on = (otherwise, refl)
 leads_on (As from kind otherwise) Success at on = (at + 1, refl)
 leads_on (As from kind otherwise) FaultExit at on = (otherwise, refl)
+leads_on (Call to callee arguments otherwise) Success at on = (at + 1, refl)
+leads_on (Call to callee arguments otherwise) FaultExit at on = (otherwise, refl)
 leads_on (Goto to) exit at on = (to, refl)
 leads_on (Again to times) Success at on = (at + 1, refl)
 leads_on (Again to times) FaultExit at on = (to, refl)

@@ -268,6 +268,8 @@ impl<'h, T: Drop> Worker<'h, T> {
             Instr::Again { times, .. } => again(turns, at, times),
             // `goto` has one exit.
             Instr::Goto { .. } => Exit::Success,
+            // No call is run yet, and the checker refuses each.
+            Instr::Call { .. } => unreachable!(),
             Instr::Ret { .. } | Instr::Fail => unreachable!(),
         }
     }

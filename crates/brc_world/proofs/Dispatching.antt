@@ -2,7 +2,7 @@
 use Rattle.std.proofs.Common.{ℕ, zero, suc, Bool, true, false, cond, List, [], ◌∷◌, Option, None, Some}
 use Rattle.std.specs.Prelude.{slice_get}
 use Rattle.brc_lang.specs.declared.module.Instr.{Instr}
-use Rattle.brc_lang.specs.declared.module.Instr.TheVariants.{Num, List as ListObject, NoneObject, Newref, Move as MoveReference, Drop, Lock, Unlock, Borrow, Fetch, Set, Put, Open, Connect, Read, Write, Goto, Again, Ret, Fail, As}
+use Rattle.brc_lang.specs.declared.module.Instr.TheVariants.{Num, List as ListObject, NoneObject, Newref, Move as MoveReference, Drop, Lock, Unlock, Borrow, Fetch, Set, Put, Open, Connect, Read, Write, Goto, Again, Ret, Fail, As, Call}
 use Rattle.brc_lang.specs.declared.module.Function.{Function}
 use Rattle.brc_model.specs.Threads.{code_of, row_of, entry_variables}
 use Rattle.brc_model.specs.declared.duty.Duty.{Duty}
@@ -68,6 +68,7 @@ instruction_steps layout t used before context at variables (Some (Write file nu
     row_steps (row_of variables number) _ (λ row. tt)
 instruction_steps layout t used before context at variables (Some (As from kind otherwise)) =
     row_steps (row_of variables from) _ (λ row. tt)
+instruction_steps layout t used before context at variables (Some (Call to callee arguments otherwise)) = tt
 instruction_steps layout t used before context at variables (Some (Goto to)) = tt
 instruction_steps layout t used before context at variables (Some (Again to times)) = tt
 instruction_steps layout t used before context at variables (Some (Ret from)) =

@@ -255,6 +255,8 @@ fn begin(
             kind,
             otherwise,
         } => ask_kind(from, kind, otherwise, thread, left, start),
+        // No call is run yet, and the checker refuses each.
+        Instr::Call { .. } => *start = Start::Stuck,
         Instr::Goto { target } => go(target, thread, left, start),
         Instr::Again { target, times } => again(target, times, thread, left, start),
         Instr::Ret { from } => return_object(from, thread, left, start),

@@ -7,7 +7,7 @@ ghost use Rattle.brc_world.specs.Storage.{word_in, HasWord, IsStored};
 ghost use Rattle.brc_model.specs.Layout.{row_count};
 
 use crate::no_memory::NoMemory;
-use brc_effect::rows::row_count;
+use brc_effect::rows::{ROOT_CELLS, row_count};
 use brc_model::{Address, Layout};
 use brc_word::values::{FREE, LIST, NONE, RUNNING};
 use brc_word::{Phase, Shared, kind_word, local_word, pack};
@@ -62,9 +62,6 @@ impl Model for Memory {
       width = m.width;
     }) };
 }
-
-/// The cells of the root.
-const ROOT_CELLS: u32 = 8;
 
 /// The number of mark words of each thread: no block has more rows than they have marks.
 const MARK_ROOM: usize = 17;

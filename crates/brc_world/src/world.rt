@@ -28,7 +28,7 @@ use crate::tally::{kind_numbered, running_in};
 use crate::thread::Thread;
 use brc_check::Checked;
 use brc_effect::Blocks;
-use brc_effect::rows::is_immortal_row;
+use brc_effect::rows::{TEXT_CELLS, is_immortal_row};
 use brc_lang::Sequence;
 use brc_model::{
     Address, Call, Choice, Exit, Layout, Status, steps_are_within, steps_move, worlds_are_small,
@@ -38,9 +38,6 @@ use brc_report::{Left, Tally};
 use brc_word::{is_closed, kind_number};
 use std::alloc::Global;
 use std::marker::Model;
-
-/// The most cells of a list in a text.
-const TEXT_CELLS: u8 = 8;
 
 /// A reachable world: some list of steps leads to it from the first world.
 #[derive(Debug, Drop)]
