@@ -1,4 +1,7 @@
-use brc_lang::{Function, Instr, Kind, Module, Name, Sequence, Variable, write, write_number};
+use brc_lang::{
+    Argument, Arguments, Function, Instr, Kind, Module, Name, Parameter, Passing, Sequence,
+    Variable, Version, write, write_number,
+};
 use std::alloc::{AllocError, Global};
 use std::io;
 use std::io::{ErrorKind, Write};
@@ -40,12 +43,20 @@ impl Write for Narrow {
 fn function(alloc: Global, name: &[u8], code: &[Instr]) -> Result<Function, AllocError> {
     let mut made = Function {
         name: Name::new(if name.len() <= Name::MOST { name } else { b"" }),
+        parameters: Sequence::new(alloc),
         code: Sequence::new(alloc),
     };
     for instr in code {
         made.code.push(*instr)?;
     }
     Ok(made)
+}
+
+fn module(functions: Sequence<Function>) -> Module {
+    Module {
+        version: Version::One,
+        functions,
+    }
 }
 
 // The text of a module of these functions, each a name and its code.
@@ -55,7 +66,7 @@ pub fn written(alloc: Global, table: &[(&[u8], &[Instr])]) -> Result<Vec<u8>, Fa
         functions.push(function(alloc, name, code)?)?;
     }
     let mut out: Vec<u8> = Vec::new(alloc);
-    write(&Module { functions }, &mut out)?;
+    write(&module(functions), &mut out)?;
     Ok(out)
 }
 
@@ -170,6 +181,70 @@ fn writes_modules_of_one_function(rt: HostRuntime) -> Result<(), Fail> {
     Ok(())
 }
 
+#[test]
+fn writes_parameters_and_calls(rt: HostRuntime) -> Result<(), Fail> {
+    let lent = Parameter {
+        passing: Passing::Borrow,
+        kind: Kind::Any,
+    };
+    let stolen = Parameter {
+        passing: Passing::Steal,
+        kind: Kind::Num,
+    };
+    let mut keep = function(
+        rt.alloc(),
+        b"keep",
+        &[
+            Instr::Drop {
+                from: Variable::new(2),
+            },
+            Instr::Fail,
+        ],
+    )?;
+    keep.parameters.push(lent)?;
+    keep.parameters.push(stolen)?;
+    let mut arguments = Arguments::new();
+    arguments.push(Argument {
+        from: Variable::new(0),
+        parameter: lent,
+    });
+    arguments.push(Argument {
+        from: Variable::new(15),
+        parameter: stolen,
+    });
+    let calls = [
+        Instr::Call {
+            to: Variable::new(3),
+            callee: 0,
+            arguments,
+            otherwise: 2,
+        },
+        Instr::Call {
+            to: Variable::new(4),
+            callee: 1,
+            arguments: Arguments::new(),
+            otherwise: 255,
+        },
+    ];
+    let mut functions = Sequence::new(rt.alloc());
+    functions.push(keep)?;
+    functions.push(function(rt.alloc(), b"h", &[Instr::Fail])?)?;
+    functions.push(function(rt.alloc(), b"f", &calls)?)?;
+    let mut out: Vec<u8> = Vec::new(rt.alloc());
+    write(
+        &Module {
+            version: Version::Two,
+            functions,
+        },
+        &mut out,
+    )?;
+    let text =
+        b"module 2\nfunc keep borrow any steal num\ndrop v2\nfail\nend\nfunc h\nfail\nend\nfunc f\n\
+        call v3 keep v0 v15 else @2\ncall v4 h else @255\nend\n";
+    assert_eq!(rt; out.as_slice(), text.as_slice());
+    Ok(())
+}
+
 // Whether the smallest module is written over a writer that takes `left` bytes, and the bytes that it takes.
 fn over_narrow(alloc: Global, stop: Stop, left: usize) -> Result<(bool, Vec<u8>), AllocError> {
     let mut functions = Sequence::new(alloc);
@@ -179,7 +254,7 @@ fn over_narrow(alloc: Global, stop: Stop, left: usize) -> Result<(bool, Vec<u8>)
         left,
         stop,
     };
-    let answer = write(&Module { functions }, &mut writer);
+    let answer = write(&module(functions), &mut writer);
     Ok((answer.is_ok(), writer.taken))
 }
 

@@ -30,6 +30,7 @@ fault_code faults.NameTwice = codes "L5"
 fault_code faults.OverLimit = codes "L6"
 fault_code faults.CutOff = codes "L7"
 fault_code faults.NoMemory = codes "L8"
+fault_code faults.Callee = codes "L9"
 
 abbrev pub check_code : CheckCode → List ℕ
 check_code checks.EmptyUsed = codes "C1"

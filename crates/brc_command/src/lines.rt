@@ -115,6 +115,7 @@ pub fn fault_code(code: FaultCode) -> &'static str
         FaultCode::OverLimit => "L6",
         FaultCode::CutOff => "L7",
         FaultCode::NoMemory => "L8",
+        FaultCode::Callee => "L9",
     }
 }
 

@@ -2,11 +2,13 @@
 
 use crate::visible::{Span, part};
 use crate::words::word_at;
-use brc_lang::{is_word, number_between, split_line, split_word};
+use brc_lang::{Version, is_word, number_between, split_line, split_word};
 
 /// A line of a text, and what is above it.
 #[derive(Clone, Copy, Debug)]
 pub struct Situation<'a> {
+    /// The version that the text's first line names.
+    pub version: Version,
     /// The line, without its line feed.
     pub line: &'a [u8],
     /// Whether a line feed ends it.
@@ -49,6 +51,7 @@ pub fn find_line(text: &[u8], number: u64) -> Situation<'_> {
         None => (rest, false),
     };
     Situation {
+        version: version_of(text),
         line,
         is_ended,
         is_there: !rest.is_empty(),
@@ -59,19 +62,42 @@ pub fn find_line(text: &[u8], number: u64) -> Situation<'_> {
     }
 }
 
-/// Returns the number of the first line that is equal to this one, from 1, or 0 if there is none.
-pub fn first_equal(text: &[u8], wanted: &[u8]) -> u64 {
+/// Returns the version that the text's first line names, which isn't at fault.
+fn version_of(text: &[u8]) -> Version {
+    match split_line(text) {
+        Some((line, _)) if is_word(line, b"module 2") => Version::Two,
+        _ => Version::One,
+    }
+}
+
+/// The line that opens a function.
+#[derive(Clone, Copy, Debug)]
+pub struct Heading<'a> {
+    /// The line's number, from 1.
+    pub number: u64,
+    pub line: &'a [u8],
+}
+
+/// Returns the first line that opens a function of this name, or `None`.
+pub fn heading_of<'a>(text: &'a [u8], name: &[u8]) -> Option<Heading<'a>> {
     let mut rest = text;
     for number in 1..u64::MAX {
-        let Some((line, below)) = split_line(rest) else {
-            break;
-        };
-        if is_word(line, wanted) {
-            return number;
+        let (line, below) = split_line(rest)?;
+        if opens(line, name) {
+            return Some(Heading { number, line });
         }
         rest = below;
     }
-    0
+    None
+}
+
+/// Returns whether the line opens a function of this name.
+fn opens(line: &[u8], name: &[u8]) -> bool {
+    let (word, _) = split_word(line);
+    match word_at(line, 1) {
+        Some(span) => is_word(word, b"func") && is_word(part(line, span), name),
+        None => false,
+    }
 }
 
 /// Returns how many instructions a function has, from its first line on.

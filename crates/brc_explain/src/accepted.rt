@@ -29,7 +29,7 @@ pub fn explain_accepted<W: Write>(
     let functions = checked.module().functions.as_slice();
     for (number, function) in functions.iter().enumerate() {
         if is_asked(only, number) {
-            list_accepted(alloc, function, paint, out)?;
+            list_accepted(alloc, functions, function, paint, out)?;
         }
     }
     write_heading("The instructions, and what they are in C", paint, out)?;
@@ -50,6 +50,7 @@ fn write_accepted<W: Write>(paint: Paint, out: &mut W) -> io::Result<()> {
 
 fn list_accepted<W: Write>(
     alloc: Global,
+    functions: &[Function],
     function: &Function,
     paint: Paint,
     out: &mut W,
@@ -61,5 +62,13 @@ fn list_accepted<W: Write>(
         code: "",
         unknown: "unreachable",
     };
-    write_listing(alloc, function, rows.as_slice(), remarks, paint, out)
+    write_listing(
+        alloc,
+        functions,
+        function,
+        rows.as_slice(),
+        remarks,
+        paint,
+        out,
+    )
 }

@@ -1,6 +1,6 @@
 //! The forms of the instructions, as a reader of a fault wants to see them.
 
-use brc_lang::{Function, Instr, write_pieces};
+use brc_lang::{Function, Instr, Version, write_pieces};
 use brc_pages::write_gap;
 use std::io;
 use std::io::Write;
@@ -41,7 +41,7 @@ const INDEX: Operand = Operand::Number(0, 255);
 
 const PATH: Operand = Operand::Number(0, 15);
 
-/// The forms of all instructions, in the order in which a reader looks for them.
+/// The forms of the instructions that each version has, in the order in which a reader looks for them.
 pub const FORMS: &[Form] = &[
     Form {
         name: "num",
@@ -171,8 +171,19 @@ pub const FORMS: &[Form] = &[
     },
 ];
 
-/// Returns the form of the instruction of this name, or `None` if no instruction has it.
-pub fn form_of(name: &[u8]) -> Option<Form> {
+/// The form of a call, of which version 1 has none. The number of its operands is that of the function's parameters.
+pub const CALL: Form = Form {
+    name: "call",
+    text: "call vD NAME vA .. else @L",
+    does: "vD = NAME(vA, ..); goes to @L if NULL",
+    operands: &[],
+};
+
+/// Returns the form of the instruction of this name, or `None` if no instruction of the version has it.
+pub fn form_of(version: Version, name: &[u8]) -> Option<Form> {
+    if version == Version::Two && name == CALL.name.as_bytes() {
+        return Some(CALL);
+    }
     for form in FORMS {
         if name == form.name.as_bytes() {
             return Some(*form);
@@ -201,6 +212,7 @@ pub fn name_of(instr: Instr) -> &'static str {
         Instr::Read { .. } => "read",
         Instr::Write { .. } => "write",
         Instr::As { .. } => "as",
+        Instr::Call { .. } => CALL.name,
         Instr::Goto { .. } => "goto",
         Instr::Again { .. } => "again",
         Instr::Ret { .. } => "ret",
@@ -215,6 +227,9 @@ pub fn write_forms<W: Write>(code: &[Instr], out: &mut W) -> io::Result<()> {
             write_form_line(form, out)?;
         }
     }
+    if has_instruction(code, CALL.name) {
+        write_form_line(&CALL, out)?;
+    }
     Ok(())
 }
 
@@ -228,6 +243,9 @@ pub fn write_all_forms<W: Write>(
         if any_has(functions, only, form.name) {
             write_form_line(form, out)?;
         }
+    }
+    if any_has(functions, only, CALL.name) {
+        write_form_line(&CALL, out)?;
     }
     Ok(())
 }

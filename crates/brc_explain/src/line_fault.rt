@@ -1,10 +1,10 @@
 //! Which word of a line is at fault (L2 and L3). The reader looks at the first word, the number of words and the word
 //! `else` first, and then at the words from left to right; so does this search.
 
-use crate::forms::{Form, Operand, form_of};
+use crate::forms::{CALL, Form, Operand, form_of};
 use crate::visible::{Span, behind, part, whole};
-use crate::words::{empty_word, word_at};
-use brc_lang::{is_word, number_between};
+use crate::words::{empty_word, word_at, word_count};
+use brc_lang::{Version, is_name, is_word, number_between};
 
 /// What is wrong with a line, and what would be read there.
 #[derive(Clone, Copy, Debug)]
@@ -37,6 +37,13 @@ const NAME: Wanted = Wanted::Said(
     "a name: a letter a to z, and up to 15 more of a to z, 0 to 9 and _",
 );
 
+const PASSING: Wanted = Wanted::Said("`borrow` or `steal`, and the kind of the parameter");
+
+const PARAMETER_KIND: Wanted = Wanted::Said("a kind: none, num, list, file, sock or any");
+
+/// The greatest number of a function's parameters.
+const MOST_PARAMETERS: usize = 4;
+
 fn fault(span: Span, wrong: &'static str, wanted: Wanted) -> LineFault {
     LineFault {
         span,
@@ -47,17 +54,26 @@ fn fault(span: Span, wrong: &'static str, wanted: Wanted) -> LineFault {
 }
 
 /// Returns what is wrong with a line outside a function.
-pub fn heading_fault(line: &[u8]) -> LineFault {
+pub fn heading_fault(version: Version, line: &[u8]) -> LineFault {
     let Some(first) = word_at(line, 0) else {
         return fault(whole(line), "The line is empty.", HEADING);
     };
     let word = part(line, first);
     if !is_word(word, b"func") {
-        return fault(first, outside(word), HEADING);
+        return fault(first, outside(version, word), HEADING);
     }
     let Some(name) = word_at(line, 1) else {
         return fault(behind(line), "The function has no name.", NAME);
     };
+    match version {
+        Version::One => name_fault(line, name),
+        Version::Two if is_name(part(line, name)) => parameter_fault(line),
+        Version::Two => fault(name, "This is no name of a function.", NAME),
+    }
+}
+
+/// Returns what is wrong with a line outside a function that has its name there, and no parameters.
+fn name_fault(line: &[u8], name: Span) -> LineFault {
     if let Some(extra) = word_at(line, 2) {
         let wrong = "This word is one too many: a name has no space in it.";
         return fault(
@@ -69,13 +85,39 @@ pub fn heading_fault(line: &[u8]) -> LineFault {
     fault(name, "This is no name of a function.", NAME)
 }
 
+/// Returns what is wrong with the words behind the name of a function: a passing and a kind for each parameter.
+fn parameter_fault(line: &[u8]) -> LineFault {
+    for number in 0..MOST_PARAMETERS {
+        let passing = word_at(line, 2 + 2 * number).unwrap_or(behind(line));
+        if !is_passing(part(line, passing)) {
+            return fault(passing, "This isn't `borrow` or `steal`.", PASSING);
+        }
+        let Some(kind) = word_at(line, 3 + 2 * number) else {
+            return fault(behind(line), "The parameter has no kind.", PARAMETER_KIND);
+        };
+        let word = part(line, kind);
+        if !fits(word, Operand::Kind) && !is_word(word, b"any") {
+            return fault(kind, "There is no such kind.", PARAMETER_KIND);
+        }
+    }
+    fault(
+        word_at(line, 2 + 2 * MOST_PARAMETERS).unwrap_or(behind(line)),
+        "This word is one too many: a function has four parameters at most.",
+        Wanted::Said("the end of the line, behind the last parameter"),
+    )
+}
+
+fn is_passing(word: &[u8]) -> bool {
+    is_word(word, b"borrow") || is_word(word, b"steal")
+}
+
 /// Returns what is wrong with a line outside a function that begins with this word.
-fn outside(word: &[u8]) -> &'static str {
+fn outside(version: Version, word: &[u8]) -> &'static str {
     if word.is_empty() {
         "The line is empty or begins with a space, and no function is open here."
     } else if is_word(word, b"end") {
         "No function is open here, so there is none to end."
-    } else if form_of(word).is_some() {
+    } else if form_of(version, word).is_some() {
         "This is an instruction, and no function is open here."
     } else {
         "Outside a function each line is the heading of the next one."
@@ -83,13 +125,17 @@ fn outside(word: &[u8]) -> &'static str {
 }
 
 /// Returns what is wrong with a line of a function.
-pub fn instruction_fault(line: &[u8]) -> LineFault {
+pub fn instruction_fault(version: Version, line: &[u8]) -> LineFault {
     let first = word_at(line, 0).unwrap_or(whole(line));
     let word = part(line, first);
-    let Some(form) = form_of(word) else {
+    let Some(form) = form_of(version, word) else {
         return fault(first, unknown(line, word), Wanted::Name);
     };
-    let found = operand_fault(line, &form);
+    let found = if form.name == CALL.name {
+        call_fault(line)
+    } else {
+        operand_fault(line, &form)
+    };
     LineFault {
         form: Some(form),
         ..found
@@ -137,6 +183,50 @@ fn operand_fault(line: &[u8], form: &Form) -> LineFault {
     }
     fault(whole(line), "The line isn't an instruction.", Wanted::Name)
 }
+
+/// Returns what is wrong with the words behind the name of a call: a variable, a name, up to four variables, `else`
+/// and a target.
+fn call_fault(line: &[u8]) -> LineFault {
+    let count = word_count(line);
+    if count < CALL_WORDS {
+        return fault(
+            behind(line),
+            "A word is missing here.",
+            Wanted::Said("the rest of the instruction"),
+        );
+    }
+    if let Some(extra) = word_at(line, CALL_WORDS + MOST_PARAMETERS) {
+        return too_many(line, extra);
+    }
+    let else_at = count - 2;
+    let word = word_at(line, else_at).unwrap_or(behind(line));
+    if !is_word(part(line, word), b"else") {
+        let wrong = "This isn't the word `else`.";
+        return fault(word, wrong, Wanted::Operand(Operand::Else));
+    }
+    for at in 1..count {
+        let span = word_at(line, at).unwrap_or(behind(line));
+        let word = part(line, span);
+        if at == 2 {
+            if !is_name(word) {
+                return fault(span, "This is no name of a function.", NAME);
+            }
+        } else if at != else_at {
+            let operand = if at < else_at {
+                Operand::Variable
+            } else {
+                Operand::Target
+            };
+            if !fits(word, operand) {
+                return fault(span, misfit(word, operand), Wanted::Operand(operand));
+            }
+        }
+    }
+    fault(whole(line), "The line isn't an instruction.", Wanted::Name)
+}
+
+/// The words of a call without arguments: `call`, a variable, a name, `else` and a target.
+pub const CALL_WORDS: usize = 5;
 
 /// Returns what is wrong with a line of too many words, the first of which behind the instruction's end is `extra`.
 fn too_many(line: &[u8], extra: Span) -> LineFault {

@@ -3,7 +3,9 @@
 use crate::fault::ExplainFault;
 use crate::rows::Row;
 use crate::state_text::write_state;
-use brc_lang::{Function, Instr, write_bytes, write_instruction, write_number, write_pieces};
+use brc_lang::{
+    Function, Instr, Parameter, write_bytes, write_instruction, write_number, write_pieces,
+};
 use brc_pages::{write_gap, write_in};
 use brc_report::{Paint, Role};
 use std::alloc::Global;
@@ -19,21 +21,25 @@ pub struct Remarks {
     pub unknown: &'static str,
 }
 
-/// Returns the instruction's text.
-fn text_of(alloc: Global, instr: Instr) -> Result<Vec<u8>, ExplainFault> {
+/// Returns the text of an instruction of one of the module's functions.
+fn text_of(alloc: Global, functions: &[Function], instr: Instr) -> Result<Vec<u8>, ExplainFault> {
     let mut text = Vec::new(alloc);
-    match write_instruction(instr, &mut text) {
+    match write_instruction(functions, instr, &mut text) {
         Ok(()) => Ok(text),
         // A vector refuses bytes only for want of memory.
         Err(_) => Err(ExplainFault::NoMemory),
     }
 }
 
-/// Returns how many columns the longest instruction takes.
-pub fn width_of(alloc: Global, code: &[Instr]) -> Result<usize, ExplainFault> {
+/// Returns how many columns the longest instruction takes, in a module of these functions.
+pub fn width_of(
+    alloc: Global,
+    functions: &[Function],
+    code: &[Instr],
+) -> Result<usize, ExplainFault> {
     let mut width = 0;
     for instr in code {
-        let text = text_of(alloc, *instr)?;
+        let text = text_of(alloc, functions, *instr)?;
         width = text.len().max(width);
     }
     Ok(width)
@@ -42,13 +48,14 @@ pub fn width_of(alloc: Global, code: &[Instr]) -> Result<usize, ExplainFault> {
 /// Writes the instruction's number and its text, and spaces up to the next column.
 pub fn write_numbered<W: Write>(
     alloc: Global,
+    functions: &[Function],
     at: usize,
     instr: Instr,
     width: usize,
     paint: Paint,
     out: &mut W,
 ) -> Result<(), ExplainFault> {
-    let text = text_of(alloc, instr)?;
+    let text = text_of(alloc, functions, instr)?;
     write_label(at, paint, out)?;
     write_bytes(text.as_slice(), out)?;
     write_gap(text.len(), width, out)?;
@@ -69,9 +76,10 @@ fn write_label<W: Write>(at: usize, paint: Paint, out: &mut W) -> io::Result<()>
     write_pieces(&[paint.off().as_bytes(), b"  "], out)
 }
 
-/// Writes the rows of the function's listing, each with its instruction.
+/// Writes the rows of the listing of a function of the module, each with its instruction.
 pub fn write_listing<W: Write>(
     alloc: Global,
+    functions: &[Function],
     function: &Function,
     rows: &[Row],
     remarks: Remarks,
@@ -79,22 +87,31 @@ pub fn write_listing<W: Write>(
     out: &mut W,
 ) -> Result<(), ExplainFault> {
     let code = function.code.as_slice();
-    let width = width_of(alloc, code)?;
-    write_bytes(b"\n", out)?;
-    write_in(
-        Role::Part,
-        &[b"func ", function.name.as_bytes()],
-        paint,
-        out,
-    )?;
-    write_bytes(b"\n", out)?;
+    let width = width_of(alloc, functions, code)?;
+    write_heading_line(function, paint, out)?;
     for row in rows {
         if row.at < code.len() {
-            write_numbered(alloc, row.at, code[row.at], width, paint, out)?;
+            write_numbered(alloc, functions, row.at, code[row.at], width, paint, out)?;
             write_before(row, remarks, paint, out)?;
         }
     }
     Ok(())
+}
+
+/// Writes an empty line, and the line that opens the function.
+fn write_heading_line<W: Write>(function: &Function, paint: Paint, out: &mut W) -> io::Result<()> {
+    write_pieces(&[b"\n", paint.on(Role::Part).as_bytes()], out)?;
+    write_pieces(&[b"func ", function.name.as_bytes()], out)?;
+    for Parameter { passing, kind } in function.parameters.as_slice() {
+        let words: [&[u8]; 4] = [
+            b" ",
+            passing.name().as_bytes(),
+            b" ",
+            kind.name().as_bytes(),
+        ];
+        write_pieces(&words, out)?;
+    }
+    write_pieces(&[paint.off().as_bytes(), b"\n"], out)
 }
 
 /// Writes the state before the instruction of a row, and the mark of the row at fault.

@@ -1,8 +1,8 @@
 //! What an instruction does with its variables, for the sentences about a fault.
 
-use brc_lang::{Instr, Variable};
+use brc_lang::{Argument, Instr, Variable};
 
-/// An instruction's variables by what it does with them.
+/// An instruction's variables by what it does with them, but for the arguments of a call.
 #[derive(Clone, Copy, Debug, PartialEq, Eq)]
 pub struct Roles {
     /// The one that it fills.
@@ -22,14 +22,15 @@ const NONE: Roles = Roles {
     used: None,
 };
 
-/// Returns the variables of the instruction.
+/// Returns the variables of the instruction, but for the arguments of a call.
 pub fn roles_of(instr: Instr) -> Roles {
     match instr {
         Instr::Num { to, .. }
         | Instr::List { to, .. }
         | Instr::NoneObject { to }
         | Instr::Open { to, .. }
-        | Instr::Connect { to, .. } => filling(to),
+        | Instr::Connect { to, .. }
+        | Instr::Call { to, .. } => filling(to),
         Instr::Newref { to, from } => Roles {
             used: Some(from),
             ..filling(to)
@@ -68,6 +69,14 @@ pub fn roles_of(instr: Instr) -> Roles {
             ..NONE
         },
         Instr::Goto { .. } | Instr::Again { .. } | Instr::Fail => NONE,
+    }
+}
+
+/// Returns the arguments of a call; another instruction has none.
+pub fn arguments_of(instr: &Instr) -> &[Argument] {
+    match instr {
+        Instr::Call { arguments, .. } => arguments.as_slice(),
+        _ => &[],
     }
 }
 

@@ -4,7 +4,7 @@ use crate::fault::ExplainFault;
 use crate::listing::write_numbered;
 use crate::rows::StepRow;
 use crate::state_text::write_state;
-use brc_lang::{Instr, write_bytes};
+use brc_lang::{Function, Instr, write_bytes};
 use brc_pages::{Topic, page_of, write_gap, write_in};
 use brc_report::{Paint, Role};
 use std::alloc::Global;
@@ -15,6 +15,8 @@ use std::io::Write;
 #[derive(Clone, Copy)]
 pub struct Walk<'a> {
     pub alloc: Global,
+    /// The module's functions.
+    pub functions: &'a [Function],
     pub code: &'a [Instr],
     /// The width of the column with the instructions.
     pub width: usize,
@@ -45,7 +47,14 @@ fn write_step<W: Write>(
     instr: Instr,
     out: &mut W,
 ) -> Result<(), ExplainFault> {
-    write_numbered(walk.alloc, row.at, instr, walk.width, walk.paint, out)?;
+    let Walk {
+        alloc,
+        functions,
+        width,
+        paint,
+        ..
+    } = walk;
+    write_numbered(alloc, functions, row.at, instr, width, paint, out)?;
     match (&row.after, &row.reported) {
         (Some(after), _) => {
             write_exit(row.way.word(), walk.paint, out)?;

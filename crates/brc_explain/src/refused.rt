@@ -107,13 +107,30 @@ fn explain_reported<W: Write>(
     let shown = shown_of(alloc, module, refused)?;
     let page = page_of(Topic::Check(refused.code));
     write_head(&page, refused, paint, out)?;
-    if let Some(asked) = asked_for(module.functions.as_slice(), only, &refused.function) {
+    let functions = module.functions.as_slice();
+    if let Some(asked) = asked_for(functions, only, &refused.function) {
         let listing = listing_of(alloc, asked, None)?;
-        list_function(alloc, asked, listing.as_slice(), &page, paint, out)?;
+        list_function(
+            alloc,
+            functions,
+            asked,
+            listing.as_slice(),
+            &page,
+            paint,
+            out,
+        )?;
     }
     let function = shown.function;
-    list_function(alloc, function, shown.listing.as_slice(), &page, paint, out)?;
-    write_paths(alloc, refused, &shown, paint, out)?;
+    list_function(
+        alloc,
+        functions,
+        function,
+        shown.listing.as_slice(),
+        &page,
+        paint,
+        out,
+    )?;
+    write_paths(alloc, functions, refused, &shown, paint, out)?;
     write_heading("The instructions, and what they are in C", paint, out)?;
     write_forms(function.code.as_slice(), out)?;
     write_meaning(&page, paint, out)?;
@@ -178,9 +195,10 @@ fn asked_for<'a>(
     Some(function)
 }
 
-/// Writes the listing of a function, and what stands in it for a state that isn't known.
+/// Writes the listing of a function of the module, and what stands in it for a state that isn't known.
 fn list_function<W: Write>(
     alloc: Global,
+    functions: &[Function],
     function: &Function,
     rows: &[Row],
     page: &Page,
@@ -191,7 +209,7 @@ fn list_function<W: Write>(
         code: page.code,
         unknown: "-",
     };
-    write_listing(alloc, function, rows, remarks, paint, out)?;
+    write_listing(alloc, functions, function, rows, remarks, paint, out)?;
     if rows.iter().any(|row| row.before.is_none()) {
         write_bytes(
             b"  (-: no path leads there, or none was followed up to there before the fault)\n",
@@ -204,6 +222,7 @@ fn list_function<W: Write>(
 /// Writes the path that leads to the refusal, or the two paths, and what is wrong there.
 fn write_paths<W: Write>(
     alloc: Global,
+    functions: &[Function],
     refused: &Refused,
     shown: &Shown<'_>,
     paint: Paint,
@@ -212,8 +231,9 @@ fn write_paths<W: Write>(
     let code = shown.function.code.as_slice();
     let walk = Walk {
         alloc,
+        functions,
         code,
-        width: width_of(alloc, code)?,
+        width: width_of(alloc, functions, code)?,
         paint,
     };
     match &shown.steps {
@@ -223,7 +243,7 @@ fn write_paths<W: Write>(
         }
     }
     match &shown.path {
-        Path::Reports(exits) => write_reported(code, exits.as_slice(), refused, out)?,
+        Path::Reports(exits) => write_reported(functions, code, exits.as_slice(), refused, out)?,
         Path::Differ(exits, others) => {
             write_differing(code, exits.as_slice(), others.as_slice(), refused, out)?;
         }
@@ -280,6 +300,7 @@ fn write_from_start<W: Write>(
 
 /// Writes what is wrong at the end of the path that reports the code.
 fn write_reported<W: Write>(
+    functions: &[Function],
     code: &[Instr],
     exits: &[Exit],
     refused: &Refused,
@@ -287,7 +308,7 @@ fn write_reported<W: Write>(
 ) -> io::Result<()> {
     let before = &exits[..exits.len().saturating_sub(1)];
     match reached(code, before) {
-        Some((at, state)) => write_why(code, before, at, &state, refused.code, out),
+        Some((at, state)) => write_why(functions, code, before, at, &state, refused.code, out),
         None => Ok(()),
     }
 }

@@ -1,11 +1,11 @@
 //! The explanation of a text that can't be read.
 
-use crate::above::{Situation, count_instructions, find_line, first_equal, wrong_target};
+use crate::above::{Heading, Situation, count_instructions, find_line, heading_of, wrong_target};
 use crate::forms::{Form, Operand, hint_for};
-use crate::line_fault::{LineFault, Wanted, heading_fault, instruction_fault};
+use crate::line_fault::{CALL_WORDS, LineFault, Wanted, heading_fault, instruction_fault};
 use crate::visible::{Span, behind, part, whole, write_marked_line, write_plain_line};
-use crate::words::word_at;
-use brc_lang::{FaultCode, ReadFault, is_word, write_bytes, write_number, write_pieces};
+use crate::words::{word_at, word_count};
+use brc_lang::{FaultCode, ReadFault, Version, is_word, write_bytes, write_number, write_pieces};
 use brc_pages::{Topic, page_of, write_in};
 use brc_report::{Paint, Role};
 use std::io;
@@ -37,6 +37,7 @@ pub fn explain_unreadable<W: Write>(
             b"There was too little memory to read the text.\n",
             out,
         )?,
+        FaultCode::Callee => write_callee(text, &found, fault.line, paint, out)?,
     }
     write_pieces(
         &[b"\nMore: brc explain --code ", page.code.as_bytes(), b"\n"],
@@ -105,9 +106,9 @@ fn write_words<W: Write>(
     out: &mut W,
 ) -> io::Result<()> {
     let fault = if found.inside {
-        instruction_fault(found.line)
+        instruction_fault(found.version, found.line)
     } else {
-        heading_fault(found.line)
+        heading_fault(found.version, found.line)
     };
     write_line(found, number, fault.span, paint, out)?;
     write_pieces(&[fault.wrong.as_bytes(), b"\n"], out)?;
@@ -116,7 +117,7 @@ fn write_words<W: Write>(
     if fault.wanted == Wanted::Name {
         write_hint(hint_for(word), out)?;
     }
-    write_wanted(&fault, out)?;
+    write_wanted(found.version, &fault, out)?;
     match fault.form {
         Some(form) => write_form(&form, out),
         None => Ok(()),
@@ -144,17 +145,27 @@ fn write_hint<W: Write>(hint: &str, out: &mut W) -> io::Result<()> {
     write_pieces(&[hint.as_bytes(), b"\n"], out)
 }
 
-fn write_wanted<W: Write>(fault: &LineFault, out: &mut W) -> io::Result<()> {
+fn write_wanted<W: Write>(version: Version, fault: &LineFault, out: &mut W) -> io::Result<()> {
     match fault.wanted {
         Wanted::Said(wanted) => write_pieces(&[b"Expected: ", wanted.as_bytes(), b".\n"], out),
         Wanted::Operand(operand) => write_operand(operand, out),
-        Wanted::Name => write_bytes(
+        Wanted::Name => write_names(version, out),
+    }
+}
+
+/// Writes the names of the instructions that the version has.
+fn write_names<W: Write>(version: Version, out: &mut W) -> io::Result<()> {
+    let names: &[u8] = match version {
+        Version::One =>
             b"Expected: `end`, or an instruction: num, list, none, newref, move, drop, lock,\n\
             unlock, borrow, fetch, set, put, open, connect, read, write, as, goto, again,\n\
             ret, fail.\n",
-            out,
-        ),
-    }
+        Version::Two =>
+            b"Expected: `end`, or an instruction: num, list, none, newref, move, drop, lock,\n\
+            unlock, borrow, fetch, set, put, open, connect, read, write, as, call, goto,\n\
+            again, ret, fail.\n",
+    };
+    write_bytes(names, out)
 }
 
 fn write_operand<W: Write>(operand: Operand, out: &mut W) -> io::Result<()> {
@@ -252,12 +263,14 @@ fn write_twice<W: Write>(
     out: &mut W,
 ) -> io::Result<()> {
     let name = word_at(found.line, 1).unwrap_or(whole(found.line));
-    let first = first_equal(text, found.line);
-    write_plain_line(first, found.line, paint, out)?;
+    let Some(first) = heading_of(text, part(found.line, name)) else {
+        return write_line(found, number, name, paint, out);
+    };
+    write_plain_line(first.number, first.line, paint, out)?;
     write_bytes(b"  ..\n", out)?;
     write_marked_line(number, found.line, name, paint, out)?;
     write_bytes(b"\nThe function of line ", out)?;
-    write_number(first, out)?;
+    write_number(first.number, out)?;
     write_bytes(b" has the same name.\nExpected: another name.\n", out)
 }
 
@@ -274,6 +287,12 @@ fn write_limit<W: Write>(
             Expected: at least one, as `fail`, which returns NULL.\n",
             out,
         )
+    } else if found.inside && number.saturating_sub(found.body_line) < MOST_INSTRUCTIONS {
+        write_bytes(
+            b"With this call nine calls could be open at once.\n\
+            Expected: a call of another function. Eight calls are open at once at most.\n",
+            out,
+        )
     } else if found.inside {
         write_bytes(
             b"This would be the function's 257th instruction.\n\
@@ -288,6 +307,9 @@ fn write_limit<W: Write>(
         )
     }
 }
+
+/// The greatest number of a function's instructions.
+const MOST_INSTRUCTIONS: u64 = 256;
 
 fn write_cut_off<W: Write>(
     found: &Situation<'_>,
@@ -308,3 +330,48 @@ fn write_cut_off<W: Write>(
     };
     write_bytes(wrong, out)
 }
+
+fn write_callee<W: Write>(
+    text: &[u8],
+    found: &Situation<'_>,
+    number: u64,
+    paint: Paint,
+    out: &mut W,
+) -> io::Result<()> {
+    let name = word_at(found.line, 2).unwrap_or(whole(found.line));
+    write_line(found, number, name, paint, out)?;
+    // The function that the line is in is open, and its own heading is the line above its body.
+    let own = found.body_line.saturating_sub(1);
+    match heading_of(text, part(found.line, name)) {
+        Some(heading) if heading.number < own => write_arguments(&heading, found.line, out),
+        _ => write_bytes(
+            b"No function above this one has this name.\n\
+            Expected: the name of a function above. A function calls neither itself nor\n\
+            one below it.\n",
+            out,
+        ),
+    }
+}
+
+/// Writes that the call has an argument too many or too few for the function.
+fn write_arguments<W: Write>(heading: &Heading<'_>, call: &[u8], out: &mut W) -> io::Result<()> {
+    let arguments = word_count(call).saturating_sub(CALL_WORDS);
+    let parameters = word_count(heading.line).saturating_sub(HEADING_WORDS) / 2;
+    write_bytes(b"The function of line ", out)?;
+    write_number(heading.number, out)?;
+    write_bytes(b" has ", out)?;
+    write_counted(parameters as u64, "parameter", out)?;
+    write_bytes(b", and the call has ", out)?;
+    write_counted(arguments as u64, "argument", out)?;
+    write_bytes(b".\nExpected: one argument for each parameter.\n", out)
+}
+
+/// Writes the number and the noun, which ends in s but for one.
+fn write_counted<W: Write>(number: u64, noun: &str, out: &mut W) -> io::Result<()> {
+    let ending: &[u8] = if number == 1 { b"" } else { b"s" };
+    write_number(number, out)?;
+    write_pieces(&[b" ", noun.as_bytes(), ending], out)
+}
+
+/// The words of a line that opens a function without parameters: `func` and the name.
+const HEADING_WORDS: usize = 2;

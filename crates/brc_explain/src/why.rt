@@ -1,15 +1,20 @@
 //! What is wrong at the point of a refusal, in a sentence about its variables.
 
-use crate::operand_roles::roles_of;
+use crate::operand_roles::{arguments_of, roles_of};
 use crate::state_text::{is_empty, is_owned, var_at, var_words, write_variable};
 use crate::walking::reached;
 use brc_check::{CheckCode, Exit, State, VarState};
-use brc_lang::{Instr, Kind, Variable, write_bytes, write_instruction, write_number, write_pieces};
+use brc_lang::{
+    Function, Instr, Kind, Passing, Variable, write_bytes, write_instruction, write_number,
+    write_pieces,
+};
 use std::io;
 use std::io::Write;
 
-/// Writes why the instruction at the end of the path reports the code in the state there.
+/// Writes why the instruction at the end of the path reports the code in the state there, in a module of these
+/// functions.
 pub fn write_why<W: Write>(
+    functions: &[Function],
     code: &[Instr],
     exits: &[Exit],
     at: usize,
@@ -22,7 +27,7 @@ pub fn write_why<W: Write>(
     }
     let instr = code[at];
     match reported {
-        CheckCode::EmptyUsed => write_empty(code, exits, instr, state, out),
+        CheckCode::EmptyUsed => write_empty(functions, code, exits, instr, state, out),
         CheckCode::WrongKind => write_kind(instr, state, out),
         CheckCode::NotOwned => write_borrowed(instr, state, out),
         CheckCode::StillOwns => write_still(instr, state, out),
@@ -45,10 +50,21 @@ fn empty_one(instr: Instr, state: &State) -> Option<Variable> {
             }
         }
     }
+    empty_argument(&instr, state)
+}
+
+/// Returns the first argument that is empty.
+fn empty_argument(instr: &Instr, state: &State) -> Option<Variable> {
+    for argument in arguments_of(instr) {
+        if is_empty(var_at(state, argument.from)) {
+            return Some(argument.from);
+        }
+    }
     None
 }
 
 fn write_empty<W: Write>(
+    functions: &[Function],
     code: &[Instr],
     exits: &[Exit],
     instr: Instr,
@@ -65,7 +81,7 @@ fn write_empty<W: Write>(
             write_bytes(b" is empty since @", out)?;
             write_number(at as u64, out)?;
             write_bytes(b", `", out)?;
-            write_instruction(cause, out)?;
+            write_instruction(functions, cause, out)?;
             write_bytes(b"`.\n", out)?;
             write_bytes(reason(&cause, variable).as_bytes(), out)?;
             write_bytes(b"\n", out)
@@ -111,8 +127,21 @@ fn reason(instr: &Instr, variable: Variable) -> &'static str {
         Instr::Unlock { .. } => {
             "It borrowed an item, and from there on another thread may free the item."
         }
+        Instr::Call { .. } if is_stolen(instr, variable) => {
+            "The function called steals the reference, also if it fails."
+        }
         _ => "Nothing is in it from there on.",
     }
+}
+
+/// Returns whether the instruction is a call that steals the reference of the variable.
+fn is_stolen(instr: &Instr, variable: Variable) -> bool {
+    for argument in arguments_of(instr) {
+        if argument.parameter.passing == Passing::Steal && argument.from == variable {
+            return true;
+        }
+    }
+    false
 }
 
 /// Returns the kinds that the instruction wants for its object.
@@ -173,6 +202,18 @@ fn write_kind<W: Write>(instr: Instr, state: &State, out: &mut W) -> io::Result<
         let wanted = wanted_kind(&instr);
         return write_misfit(used, kind, wanted, out);
     }
+    write_argument_kind(&instr, state, out)
+}
+
+/// Writes which is the first argument whose object isn't of the kind that its parameter takes.
+fn write_argument_kind<W: Write>(instr: &Instr, state: &State, out: &mut W) -> io::Result<()> {
+    for argument in arguments_of(instr) {
+        let kind = kind_of(var_at(state, argument.from));
+        let wanted = argument.parameter.kind;
+        if wanted != Kind::Any && kind != wanted {
+            return write_misfit(argument.from, kind, kind_phrase(wanted), out);
+        }
+    }
     Ok(())
 }
 
@@ -188,8 +229,27 @@ fn write_misfit<W: Write>(
     write_pieces(&[b". Wanted: ", wanted.as_bytes(), b".\n"], out)
 }
 
+/// Returns the variable whose reference the instruction gives away; of those of a call, the first that owns none.
+fn given_one(instr: Instr, state: &State) -> Option<Variable> {
+    match roles_of(instr).given {
+        Some(given) => Some(given),
+        None => unowned_argument(&instr, state),
+    }
+}
+
+/// Returns the first argument whose reference the call steals and that owns none.
+fn unowned_argument(instr: &Instr, state: &State) -> Option<Variable> {
+    for argument in arguments_of(instr) {
+        let steals = argument.parameter.passing == Passing::Steal;
+        if steals && !is_owned(var_at(state, argument.from)) {
+            return Some(argument.from);
+        }
+    }
+    None
+}
+
 fn write_borrowed<W: Write>(instr: Instr, state: &State, out: &mut W) -> io::Result<()> {
-    let Some(given) = roles_of(instr).given else {
+    let Some(given) = given_one(instr, state) else {
         return Ok(());
     };
     write_variable(given, out)?;

@@ -40,3 +40,14 @@ pub fn empty_word(line: &[u8]) -> Option<Span> {
     }
     None
 }
+
+/// Returns how many words the line has.
+pub fn word_count(line: &[u8]) -> usize {
+    let mut count: usize = 1;
+    for byte in line {
+        if *byte == b' ' {
+            count = count.saturating_add(1);
+        }
+    }
+    count
+}

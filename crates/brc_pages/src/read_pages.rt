@@ -1,7 +1,6 @@
-//! The pages of L1 to L8.
+//! The pages of L1 to L9.
 
-ghost use Rattle.std.specs.Prelude.{◌≡◌, Some};
-ghost use Rattle.brc_pages.specs.Topics.{topic_named};
+ghost use Rattle.brc_pages.specs.Topics.{IsNameOf};
 ghost use Rattle.brc_pages.specs.declared.topic.Topic.TheVariants.{Read};
 
 use crate::page::Page;
@@ -11,7 +10,7 @@ const READS: &str = "What is read there";
 
 /// Returns the page of a code.
 pub fn read_page(code: FaultCode) -> Page
-    ensures { topic_named result.code.now ≡ Some (Read code) }
+    ensures { IsNameOf (Read code) result.code.now }
 {
     match code {
         FaultCode::FirstLine => FIRST_LINE,
@@ -22,6 +21,7 @@ pub fn read_page(code: FaultCode) -> Page
         FaultCode::OverLimit => OVER_LIMIT,
         FaultCode::CutOff => CUT_OFF,
         FaultCode::NoMemory => NO_MEMORY,
+        FaultCode::Callee => CALLEE,
     }
 }
 
@@ -252,6 +252,29 @@ const NO_MEMORY: Page = Page {
     rule_heading: READS,
     rule: &["Nothing: any text may be refused for want of memory."],
     mend: &["Run brc again with more memory. The text needs no change."],
+    example: &[],
+    printed: "",
+    mended: &[],
+};
+
+// It has no example: only a text of version 2 calls a function, and none is read yet.
+const CALLEE: Page = Page {
+    code: "L9",
+    title: "a call that fits no function above",
+    meaning: &[
+        "No function above the call's own has the name that is called, or the call",
+        "has an argument too many or too few.",
+    ],
+    rule_heading: READS,
+    rule: &[
+        "`call vD NAME vA .. else @L` calls the function of this name, whose `end` is",
+        "above, with one argument for each of its parameters. So a function calls",
+        "neither itself nor one below it, and each call ends.",
+    ],
+    mend: &[
+        "Put the function that is called above the one that calls it, and write one",
+        "argument for each of its parameters.",
+    ],
     example: &[],
     printed: "",
     mended: &[],

@@ -10,11 +10,13 @@ use brc_lang::{CheckCode, FaultCode, is_word};
 pub enum Topic {
     /// Why a module is refused: C1 to C12.
     Check(CheckCode),
-    /// Why a text can't be read: L1 to L8.
+    /// Why a text can't be read: L1 to L9.
     Read(FaultCode),
 }
 
 /// Returns the code that the word names, `C1` to `C12` or `L1` to `L8`, or `None`.
+///
+/// `L9` names none: only texts of version 2 have that code, and they don't run yet.
 pub fn topic_named(word: &[u8]) -> Option<Topic>
     ensures { result ≡ topic_named word.now }
 {

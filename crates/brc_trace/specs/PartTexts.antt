@@ -8,15 +8,16 @@ use Rattle.brc_world.specs.declared.event.ExitPart.TheVariants.{Root, Leave, Mar
 use Rattle.brc_world.specs.declared.event.Part.{Part}
 use Rattle.brc_world.specs.declared.event.Part.TheVariants.{Instruction, Claim, Stop, Exit}
 
--- the instruction as a module spells it
-abbrev pub instr_text : Option Instr → List ℕ
-instr_text None = []
-instr_text (Some i) = codes " " ++ instruction i
+-- the instruction as a module of these functions spells it
+abbrev pub instr_text : List Function → Option Instr → List ℕ
+instr_text functions None = []
+instr_text functions (Some i) = codes " " ++ instruction functions i
 
 -- the function's name, the instruction's number from 0, and the instruction
-abbrev pub point_text : Option Function → ℕ → List ℕ
-point_text None at = codes "@" ++ decimal at
-point_text (Some f) at = f.name ++ codes " @" ++ decimal at ++ instr_text (slice_get f.code at)
+abbrev pub point_text : List Function → Option Function → ℕ → List ℕ
+point_text functions None at = codes "@" ++ decimal at
+point_text functions (Some f) at =
+    f.name ++ codes " @" ++ decimal at ++ instr_text functions (slice_get f.code at)
 
 abbrev pub exit_text : ExitPart → List ℕ
 exit_text Root = codes "exit: root"
@@ -26,7 +27,7 @@ exit_text Gone = codes "exit: gone"
 
 -- the part of the work of a thread that calls the function of this number
 abbrev pub part_text : List Function → ℕ → Part → List ℕ
-part_text functions number (Instruction at) = point_text (slice_get functions number) at
+part_text functions number (Instruction at) = point_text functions (slice_get functions number) at
 part_text functions number (Claim row) = codes "claim of row " ++ decimal row
 part_text functions number Stop = codes "stop"
 part_text functions number (Exit part) = exit_text part

@@ -1,7 +1,7 @@
 ghost use Rattle.std.specs.Prelude.{◌≡◌, [], ◌++◌, OnOk, decimal};
 ghost use Rattle.brc_lang.specs.Grammar.{instruction};
 
-use brc_lang::{Instr, write_instruction};
+use brc_lang::{Function, Instr, write_instruction};
 use itoa::Buffer;
 use std::alloc::{AllocError, Global};
 use std::marker::Model;
@@ -58,11 +58,11 @@ impl Line {
         self.bytes.extend_from_slice(bytes)
     }
 
-    /// Adds the instruction as a module spells it.
-    pub fn instruction(&mut self, instr: Instr) -> Result<(), AllocError>
-        ensures { OnOk result (self.new ≡ self.old ++ instruction instr) }
+    /// Adds the instruction as a module of these functions spells it.
+    pub fn instruction(&mut self, functions: &[Function], instr: Instr) -> Result<(), AllocError>
+        ensures { OnOk result (self.new ≡ self.old ++ instruction functions.now instr) }
     {
-        match write_instruction(instr, &mut self.bytes) {
+        match write_instruction(functions, instr, &mut self.bytes) {
             Ok(()) => Ok(()),
             Err(_) => Err(AllocError),
         }

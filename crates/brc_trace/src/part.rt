@@ -19,7 +19,7 @@ pub fn show_part(
 {
     match part {
         Part::Instruction { at } => match functions.get(number) {
-            Some(function) => show_point(function, at, line),
+            Some(function) => show_point(functions, function, at, line),
             None => {
                 line.text("@")?;
                 line.number(at as u64)
@@ -35,23 +35,33 @@ pub fn show_part(
 }
 
 /// Adds the function's name, the instruction's number and the instruction.
-fn show_point(function: &Function, at: usize, line: &mut Line) -> Result<(), AllocError>
-    ensures { OnOk result (line.new ≡ line.old ++ point_text (Some function.now) at) }
+fn show_point(
+    functions: &[Function],
+    function: &Function,
+    at: usize,
+    line: &mut Line,
+) -> Result<(), AllocError>
+    ensures { OnOk result (line.new ≡ line.old ++ point_text functions.now (Some function.now) at) }
 {
     line.bytes(function.name.as_bytes())?;
     line.text(" @")?;
     line.number(at as u64)?;
-    show_instr(function.code.as_slice(), at, line)
+    show_instr(functions, function.code.as_slice(), at, line)
 }
 
-/// Adds the instruction as a module spells it, if the code has it.
-fn show_instr(code: &[Instr], at: usize, line: &mut Line) -> Result<(), AllocError>
-    ensures { OnOk result (line.new ≡ line.old ++ instr_text (slice_get code.now at)) }
+/// Adds the instruction as a module of these functions spells it, if the code has it.
+fn show_instr(
+    functions: &[Function],
+    code: &[Instr],
+    at: usize,
+    line: &mut Line,
+) -> Result<(), AllocError>
+    ensures { OnOk result (line.new ≡ line.old ++ instr_text functions.now (slice_get code.now at)) }
 {
     match code.get(at) {
         Some(instr) => {
             line.text(" ")?;
-            line.instruction(*instr)
+            line.instruction(functions, *instr)
         }
         None => Ok(()),
     }
