@@ -2,7 +2,8 @@
 //! and then over the next heap that of the next module. At each heap's end the births and closes that it shows, and
 //! those that the workers and the hosts have counted, are compared with what the calls lead to.
 
-ghost use Rattle.std.specs.Prelude.{◌≡◌, length, IfOk};
+ghost use Rattle.std.specs.Prelude.{◌≡◌, ◌<◌, true, [], length, IfOk};
+ghost use Rattle.brc_model.specs.Threads.{function_at};
 
 use crate::modules::{MODULES, ROWS, WORKERS};
 use anyhow::{Result, bail};
@@ -136,6 +137,15 @@ fn accepted(alloc: Global, text: &[u8]) -> Result<Checked> {
     }
 }
 
+/// Returns whether the accepted module's first function has no parameters, as one that workers call.
+fn is_callable(checked: &Checked) -> bool
+    ensures there { 0 < length checked.now.module.functions }
+    ensures bare { result ≡ true → (function_at checked.now.module.functions 0).parameters ≡ [] }
+{
+    // The accepted module has a first function.
+    checked.module().functions.as_slice()[0].parameters.len() == 0
+}
+
 /// Lets each worker of a fresh heap call the accepted module's first function `times` times, in a thread of its own and
 /// over a host of its own. Then main leaves, and the heap ends. Returns its counts.
 fn run_heap<R: Threads + Wait + Sync>(
@@ -144,8 +154,9 @@ fn run_heap<R: Threads + Wait + Sync>(
     checked: &Checked,
     times: u32,
 ) -> Result<HeapCounts> {
-    // The accepted module has a first function.
-    let _module = checked.module();
+    if !is_callable(checked) {
+        bail!("the first function has parameters");
+    }
     let (heap, mut main) = Heap::new(alloc, WORKERS, ROWS)?;
     let mut hosts = hosts_of(alloc)?;
     let mut main_host = FakeHost::new(&[]);

@@ -12,7 +12,7 @@ use Rattle.brc_lang.specs.declared.check_code.CheckCode.{CheckCode}
 use Rattle.brc_model.specs.declared.state.State.{State}
 use Rattle.brc_model.specs.declared.state.Exit.{Exit}
 use Rattle.brc_model.specs.declared.state.Exit.TheVariants.{Success, Fault}
-use Rattle.brc_model.specs.VarStates.{entry}
+use Rattle.brc_model.specs.VarStates.{entry_of}
 use Rattle.brc_model.specs.Paths.{PathEnd, At, Ended, Reports, follow}
 use Rattle.brc_check.specs.declared.kept_entry.KeptEntry.{KeptEntry}
 use Rattle.brc_check.specs.declared.refused.Refused.{Refused}
@@ -46,10 +46,10 @@ differs code kept at s exit (At next t) k c shape here leads blocked = (
 differs code kept at s exit Ended k c shape here leads blocked = blocked
 differs code kept at s exit (Reports j d) k c shape here leads blocked = blocked
 
-blocked_error : (code : List Instr) (states : ℕ → Option State) (at : ℕ) (s : State) (exit : Exit) (k : ℕ)
+blocked_error : (f : Function) (states : ℕ → Option State) (at : ℕ) (s : State) (exit : Exit) (k : ℕ)
     (c : CheckCode) (p : PathEnd)
-    → states at ≡ Some s → follow code (At at s) exit ≡ p → IsBlocked states p k c → IsErrorAt code states k c
-blocked_error code states at s exit k c (At next t) here is blocked = inr (
+    → states at ≡ Some s → follow f.code (At at s) exit ≡ p → IsBlocked states p k c → IsErrorAt f states k c
+blocked_error f states at s exit k c (At next t) here is blocked = inr (
   blocked.1,
   inl (record {
     before = at;
@@ -61,25 +61,25 @@ blocked_error code states at s exit k c (At next t) here is blocked = inr (
     apart = λ e. blocked.2 (ap states blocked.0 ∙ e);
   }),
 )
-blocked_error code states at s exit k c Ended here is blocked = absurd blocked
-blocked_error code states at s exit k c (Reports j d) here is blocked =
-    let same : k ≡ at = sym blocked.0 ∙ reports-here code at j s exit d is in
+blocked_error f states at s exit k c Ended here is blocked = absurd blocked
+blocked_error f states at s exit k c (Reports j d) here is blocked =
+    let same : k ≡ at = sym blocked.0 ∙ reports-here f.code at j s exit d is in
     inl (record {
       state = s;
       exit = exit;
       is_given = ap states same ∙ here;
       reports =
-          ap (λ (n : ℕ). follow code (At n s) exit) same ∙ is ∙ ap (λ (n : ℕ). Reports n d) blocked.0
+          ap (λ (n : ℕ). follow f.code (At n s) exit) same ∙ is ∙ ap (λ (n : ℕ). Reports n d) blocked.0
           ∙ ap (Reports k) blocked.1;
     })
 
 -- the exit of a point is blocked at a kept point, or reports a code
-pub exit_error : (code : List Instr) (kept : List KeptEntry) (at : ℕ) (s : State) (exit : Exit) (k : ℕ) (c : CheckCode)
-    → map point_of kept ≡ kept_points code → state_at code kept at ≡ Some s
-    → IsBlockedKept kept (follow code (At at s) exit) k c → IsErrorAt code (state_at code kept) k c
-exit_error code kept at s exit k c shape here blocked =
-    blocked_error code (state_at code kept) at s exit k c (follow code (At at s) exit) here refl
-    (differs code kept at s exit (follow code (At at s) exit) k c shape here refl blocked)
+pub exit_error : (f : Function) (kept : List KeptEntry) (at : ℕ) (s : State) (exit : Exit) (k : ℕ) (c : CheckCode)
+    → map point_of kept ≡ kept_points f.code → state_at f.code kept at ≡ Some s
+    → IsBlockedKept kept (follow f.code (At at s) exit) k c → IsErrorAt f (state_at f.code kept) k c
+exit_error f kept at s exit k c shape here blocked =
+    blocked_error f (state_at f.code kept) at s exit k c (follow f.code (At at s) exit) here refl
+    (differs f.code kept at s exit (follow f.code (At at s) exit) k c shape here refl blocked)
 
 -- both exits agree
 pub point_closed : (code : List Instr) (kept : List KeptEntry) (at : ℕ) (s : State)
@@ -121,23 +121,24 @@ leads_within code at count s exit (Reports j c) most is = tt
 -- ---- one function
 
 -- the first point's entry is compared as if a path reached it
-first_state : (code : List Instr) (kept : List KeptEntry) → map point_of kept ≡ kept_points code → 0 < length code
-    → state_at code kept 0 ≡ kept_or (kept_at kept 0) (Some entry)
-first_state code kept shape some = elim (kept_at kept 0) as (λ o. kept_at kept 0 ≡ o
-    → kept_or o None ≡ kept_or o (Some entry)) [
+first_state : (f : Function) (kept : List KeptEntry) → map point_of kept ≡ kept_points f.code → 0 < length f.code
+    → state_at f.code kept 0 ≡ kept_or (kept_at kept 0) (Some (entry_of f.parameters))
+first_state f kept shape some = elim (kept_at kept 0) as (λ o. kept_at kept 0 ≡ o
+    → kept_or o None ≡ kept_or o (Some (entry_of f.parameters))) [
       | Some e ↦ λ _. refl
-      | None ↦ λ none. absurd (let z : true ≡ false = not_kept code kept 0 shape some none in cc)
+      | None ↦ λ none. absurd (let z : true ≡ false = not_kept f.code kept 0 shape some none in cc)
     ] refl
 
-pub entry_error : (code : List Instr) (kept : List KeptEntry) (k : ℕ) (c : CheckCode)
-    → map point_of kept ≡ kept_points code → 0 < length code
-    → IsBlockedKept kept (At 0 entry) k c → IsErrorAt code (state_at code kept) k c
-entry_error code kept k c shape some blocked =
-    inr (blocked.1, inr (sym blocked.0, λ e. blocked.2 (sym (first_state code kept shape some) ∙ e)))
+pub entry_error : (f : Function) (kept : List KeptEntry) (k : ℕ) (c : CheckCode)
+    → map point_of kept ≡ kept_points f.code → 0 < length f.code
+    → IsBlockedKept kept (At 0 (entry_of f.parameters)) k c → IsErrorAt f (state_at f.code kept) k c
+entry_error f kept k c shape some blocked =
+    inr (blocked.1, inr (sym blocked.0, λ e. blocked.2 (sym (first_state f kept shape some) ∙ e)))
 
-pub entry_closed : (code : List Instr) (kept : List KeptEntry) → map point_of kept ≡ kept_points code
-    → 0 < length code → MeetsKept kept (At 0 entry) → state_at code kept 0 ≡ Some entry
-entry_closed code kept shape some meets = first_state code kept shape some ∙ meets
+pub entry_closed : (f : Function) (kept : List KeptEntry) → map point_of kept ≡ kept_points f.code
+    → 0 < length f.code → MeetsKept kept (At 0 (entry_of f.parameters))
+    → state_at f.code kept 0 ≡ Some (entry_of f.parameters)
+entry_closed f kept shape some meets = first_state f kept shape some ∙ meets
 
 past_none : (code : List Instr) (kept : List KeptEntry) (at : ℕ) (s : State) → map point_of kept ≡ kept_points code
     → 0 < length code → length code ≤ at → state_at code kept at ≡ Some s → ⊥
@@ -153,15 +154,15 @@ past_none code kept (suc at) s shape some past e =
     ] refl e
 
 -- once each point of the code is closed, all are
-pub all_closed : (code : List Instr) (kept : List KeptEntry) (to : ℕ) → map point_of kept ≡ kept_points code
-    → 0 < length code → length code ≤ to → state_at code kept 0 ≡ Some entry
-    → ((k : ℕ) → k < to → IsClosedAt code (state_at code kept) k) → IsClosed code (state_at code kept)
-all_closed code kept to shape some past begun closed = record {
+pub all_closed : (f : Function) (kept : List KeptEntry) (to : ℕ) → map point_of kept ≡ kept_points f.code
+    → 0 < length f.code → length f.code ≤ to → state_at f.code kept 0 ≡ Some (entry_of f.parameters)
+    → ((k : ℕ) → k < to → IsClosedAt f.code (state_at f.code kept) k) → IsClosed f (state_at f.code kept)
+all_closed f kept to shape some past begun closed = record {
   begins = begun;
   goes_on =
       λ at s exit e. elim (cases_lt at to) [
         | inl within ↦ closed at within s exit e
-        | inr beyond ↦ absurd (past_none code kept at s shape some (omega (arith, past, beyond)) e)
+        | inr beyond ↦ absurd (past_none f.code kept at s shape some (omega (arith, past, beyond)) e)
       ];
 }
 
@@ -185,7 +186,7 @@ pub function_error : (functions : List Function) (lists : List (List KeptEntry))
     (kept : List KeptEntry) (r : Refused) (at : ℕ) (c : CheckCode)
     → HasShape functions lists → number < length functions
     → f ≡ slice_index_or functions number f → kept ≡ slice_index_or lists number kept
-    → r ≡ record { function = f.name; at = at; code = c } → IsErrorAt f.code (state_at f.code kept) at c
+    → r ≡ record { function = f.name; at = at; code = c } → IsErrorAt f (state_at f.code kept) at c
     → IsFunctionError functions lists r
 function_error functions lists number f kept r at c shape lt is_f is_list is error = rw is (record {
   shape = shape;
@@ -194,7 +195,7 @@ function_error functions lists number f kept r at c shape lt is_f is_list is err
   listed = slice_get_read functions (length functions) number f refl lt is_f;
   named = refl;
   error =
-      subst (λ (o : List KeptEntry). IsErrorAt f.code (state_at f.code o) at c)
+      subst (λ (o : List KeptEntry). IsErrorAt f (state_at f.code o) at c)
       (kept_read lists number kept (let n = shape.lists in omega (arith, n, lt)) is_list) error;
 })
 
@@ -223,7 +224,7 @@ abbrev pub HasPoints : Function → List KeptEntry → Type 0
 HasPoints f kept = map point_of kept ≡ kept_points f.code
 
 abbrev pub HasClosed : Function → List KeptEntry → Type 0
-HasClosed f kept = IsClosed f.code (state_at f.code kept)
+HasClosed f kept = IsClosed f (state_at f.code kept)
 
 -- the same of the slices that are read
 pub points_to : (f : Function) (kept read : List KeptEntry) (code : List Instr) → code ≡ f.code → read ≡ kept

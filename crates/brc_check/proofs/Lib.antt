@@ -15,3 +15,5 @@ mod Mapping
 mod Trails
 mod Searches
 mod Passing
+mod Calls
+mod TrueStates

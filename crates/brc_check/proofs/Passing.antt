@@ -6,7 +6,6 @@ use Rattle.std.specs.List.{slice_index_or}
 use Rattle.std.proofs.lemmas.Bool.{cases_lt}
 use Rattle.std.proofs.lemmas.Option.{same_Some, slice_get_read, slice_get_within, slice_get-get_or}
 use Rattle.brc_lang.specs.declared.module.Function.{Function}
-use Rattle.brc_lang.specs.declared.module.Instr.{Instr}
 use Rattle.brc_lang.specs.declared.check_code.CheckCode.{CheckCode}
 use Rattle.brc_lang.specs.declared.check_code.CheckCode.TheVariants.{StatesDiffer}
 use Rattle.brc_model.specs.declared.state.State.{State}
@@ -31,21 +30,21 @@ visit_read list read number v same lt is =
     slice_get_read list (length list) number v refl lt (is ∙ ap (λ (r : List Visit). slice_index_or r number v) same)
 
 -- The exit ends a path without what the search is for, or arrives at a point in a state that has a visit.
-pub passed-led : (code : List Instr) (at : ℕ) (c : CheckCode) (visits : Visits) (turn : ℕ) (from : Visit)
+pub passed-led : (f : Function) (at : ℕ) (c : CheckCode) (visits : Visits) (turn : ℕ) (from : Visit)
     (exit : Exit) (p : PathEnd)
-    → IsSearchedTo code at c visits turn → slice_get visits.list turn ≡ Some from
-    → follow code (At from.at from.state) exit ≡ p → IsPassed visits.list at c p
-    → HasPassed code at c visits visits turn exit
-passed-led code at c visits turn from exit p searched here leads passed =
-    passed-none code at c visits turn from exit searched here (subst (IsPassed visits.list at c) (sym leads) passed)
+    → IsSearchedTo f at c visits turn → slice_get visits.list turn ≡ Some from
+    → follow f.code (At from.at from.state) exit ≡ p → IsPassed visits.list at c p
+    → HasPassed f at c visits visits turn exit
+passed-led f at c visits turn from exit p searched here leads passed =
+    passed-none f at c visits turn from exit searched here (subst (IsPassed visits.list at c) (sym leads) passed)
 
 -- If the exit arrives at a point, then `firsts` has a place for it.
-pub led-within : (code : List Instr) (at : ℕ) (c : CheckCode) (visits : Visits) (turn next : ℕ) (from : Visit)
+pub led-within : (f : Function) (at : ℕ) (c : CheckCode) (visits : Visits) (turn next : ℕ) (from : Visit)
     (s : State) (exit : Exit)
-    → IsSearchedTo code at c visits turn → follow code (At from.at from.state) exit ≡ At next s
+    → IsSearchedTo f at c visits turn → follow f.code (At from.at from.state) exit ≡ At next s
     → next < length visits.firsts
-led-within code at c visits turn next from s exit searched leads =
-    let within = arrives-within code from.at next from.state s exit leads in
+led-within f at c visits turn next from s exit searched leads =
+    let within = arrives-within f.code from.at next from.state s exit leads in
     let same = searched.same_length in
     omega (arith, within, same)
 
@@ -73,34 +72,34 @@ rival-found visits at point c (Some number) firsts lt differ same e =
 -- ---- what is found
 
 -- the exits of a visit's path, as they are read back
-abbrev pub ReadBack : List Visit → ℕ → (Visit → List Instr → PathEnd) → List Exit → Type 0
+abbrev pub ReadBack : List Visit → ℕ → (Visit → Function → PathEnd) → List Exit → Type 0
 ReadBack list number end exits =
-    (code : List Instr) (v : Visit) → AreLinked code list → slice_get list number ≡ Some v
-    → path_end code exits ≡ end v code
+    (f : Function) (v : Visit) → AreLinked f list → slice_get list number ≡ Some v
+    → path_end f exits ≡ end v f
 
-abbrev pub there_at : Visit → List Instr → PathEnd
-there_at v code = At v.at v.state
+abbrev pub there_at : Visit → Function → PathEnd
+there_at v f = At v.at v.state
 
-abbrev pub on_by : Exit → Visit → List Instr → PathEnd
-on_by exit v code = follow code (At v.at v.state) exit
+abbrev pub on_by : Exit → Visit → Function → PathEnd
+on_by exit v f = follow f.code (At v.at v.state) exit
 
-pub found-report : (code : List Instr) (at : ℕ) (c : CheckCode) (visits : Visits) (turn : ℕ) (from : Visit)
+pub found-report : (f : Function) (at : ℕ) (c : CheckCode) (visits : Visits) (turn : ℕ) (from : Visit)
     (exit : Exit) (reported : CheckCode) (list : List Visit) (exits : List Exit)
-    → IsSearchedTo code at c visits turn → slice_get visits.list turn ≡ Some from
-    → follow code (At from.at from.state) exit ≡ Reports from.at reported → (from.at ≡ at) × (reported ≡ c)
-    → list ≡ visits.list → ReadBack list turn (on_by exit) exits → path_end code exits ≡ Reports at c
-found-report code at c visits turn from exit reported list exits searched here leads wanted same back =
+    → IsSearchedTo f at c visits turn → slice_get visits.list turn ≡ Some from
+    → follow f.code (At from.at from.state) exit ≡ Reports from.at reported → (from.at ≡ at) × (reported ≡ c)
+    → list ≡ visits.list → ReadBack list turn (on_by exit) exits → path_end f exits ≡ Reports at c
+found-report f at c visits turn from exit reported list exits searched here leads wanted same back =
     let read = subst (λ (l : List Visit). ReadBack l turn (on_by exit) exits) same back in
-    read code from searched.linked here ∙ leads ∙ λ i. Reports (wanted.0 i) (wanted.1 i)
+    read f from searched.linked here ∙ leads ∙ λ i. Reports (wanted.0 i) (wanted.1 i)
 
-pub found-differ : (code : List Instr) (at : ℕ) (c : CheckCode) (visits : Visits) (turn next first : ℕ) (from : Visit)
+pub found-differ : (f : Function) (at : ℕ) (c : CheckCode) (visits : Visits) (turn next first : ℕ) (from : Visit)
     (s : State) (exit : Exit) (list second_list : List Visit) (exits others : List Exit)
-    → IsSearchedTo code at c visits turn → slice_get visits.list turn ≡ Some from
-    → follow code (At from.at from.state) exit ≡ At next s → (IsVisited visits.list next s → ⊥)
+    → IsSearchedTo f at c visits turn → slice_get visits.list turn ≡ Some from
+    → follow f.code (At from.at from.state) exit ≡ At next s → (IsVisited visits.list next s → ⊥)
     → IsRival visits.list at c next first → list ≡ visits.list → ReadBack list first there_at exits
     → second_list ≡ visits.list → ReadBack second_list turn (on_by exit) others
-    → (c ≡ StatesDiffer) × PathsDiffer code exits others at
-found-differ code at c visits turn next first from s exit list second_list exits others searched here leads new rival
+    → (c ≡ StatesDiffer) × PathsDiffer f exits others at
+found-differ f at c visits turn next first from s exit list second_list exits others searched here leads new rival
     same back second_same second_back =
     let read = subst (λ (l : List Visit). ReadBack l first there_at exits) same back in
     let second_read = subst (λ (l : List Visit). ReadBack l turn (on_by exit) others) second_same second_back in (
@@ -109,10 +108,10 @@ found-differ code at c visits turn next first from s exit list second_list exits
         one = rival.visit.state;
         other = s;
         first =
-            read code rival.visit searched.linked rival.listed
+            read f rival.visit searched.linked rival.listed
             ∙ ap (λ (n : ℕ). At n rival.visit.state) (rival.there ∙ rival.same_point);
         second =
-            second_read code from searched.linked here ∙ leads ∙ ap (λ (n : ℕ). At n s) rival.same_point;
+            second_read f from searched.linked here ∙ leads ∙ ap (λ (n : ℕ). At n s) rival.same_point;
         apart = λ e. new (record {
           number = first;
           visit = rival.visit;
@@ -128,11 +127,11 @@ found-differ code at c visits turn next first from s exit list second_list exits
 abbrev pub NoneReported : List Function → Refused → ℕ → Type 0
 NoneReported functions r to =
     (k : ℕ) (f : Function) → k < to → slice_get functions k ≡ Some f → f.name ≡ r.function
-    → IsReported f.code r.at r.code → ⊥
+    → IsReported f r.at r.code → ⊥
 
 pub none-more : (functions : List Function) (r : Refused) (to : ℕ) (f : Function) → NoneReported functions r to
     → to < length functions → f ≡ slice_index_or functions to f
-    → (f.name ≡ r.function → IsReported f.code r.at r.code → ⊥) → NoneReported functions r (to + 1)
+    → (f.name ≡ r.function → IsReported f r.at r.code → ⊥) → NoneReported functions r (to + 1)
 none-more functions r to f before lt is_f here k g less e =
     elim (cases_lt k to) [
       | inl earlier ↦ before k g earlier e
@@ -141,7 +140,7 @@ none-more functions r to f before lt is_f here k g less e =
           let function : f ≡ g =
           same_Some f g (sym (slice_get_read functions (length functions) to f refl lt is_f)
           ∙ ap (slice_get functions) (sym same) ∙ e) in
-          subst (λ (h : Function). h.name ≡ r.function → IsReported h.code r.at r.code → ⊥) function here
+          subst (λ (h : Function). h.name ≡ r.function → IsReported h r.at r.code → ⊥) function here
     ]
 
 -- there is no refusal that is for none of the functions

@@ -4,11 +4,11 @@ use Rattle.std.specs.Prelude.{None, Some, slice_get, MatchOption, Result, Ok, Er
 use Rattle.std.specs.declared.alloc.AllocError.{AllocError}
 use Rattle.std.specs.List.{slice_index_or}
 use Rattle.std.proofs.lemmas.List.{get_or_default}
-use Rattle.brc_lang.specs.declared.module.Instr.{Instr}
+use Rattle.brc_lang.specs.declared.module.Function.{Function}
 use Rattle.brc_lang.specs.declared.check_code.CheckCode.{CheckCode}
 use Rattle.brc_model.specs.declared.state.State.{State}
 use Rattle.brc_model.specs.declared.state.Exit.TheVariants.{Success, Fault}
-use Rattle.brc_model.specs.Paths.{At, IsAcceptableCode, follow}
+use Rattle.brc_model.specs.Paths.{At, IsAcceptableFunction, follow}
 use Rattle.brc_check.specs.declared.refused.CodeAt as refused
 use Rattle.brc_check.specs.Entries.{StaysOn, IsBlocked}
 use Rattle.brc_check.specs.declared.filling.Filling.{Filling}
@@ -25,66 +25,66 @@ entry_read entries read at s d same lt is =
 
 -- ---- filled in
 
-pub first_reported : (code : List Instr) (filling once : Filling) (turns at : ℕ) (s : State) (k : ℕ) (c : CheckCode)
-    → IsFilledTo code filling turns → entry_at filling.entries at ≡ Some s
-    → once ≡ settled_at filling (follow code (At at s) Success)
-    → IsBlocked (entry_at once.entries) (follow code (At at s) Success) k c → IsReported code k c
-first_reported code filling once turns at s k c filled here is blocked =
-    first_blocked code filling turns at s k c filled here
-    (subst (λ (f : Filling). IsBlocked (entry_at f.entries) (follow code (At at s) Success) k c) is blocked)
+pub first_reported : (f : Function) (filling once : Filling) (turns at : ℕ) (s : State) (k : ℕ) (c : CheckCode)
+    → IsFilledTo f filling turns → entry_at filling.entries at ≡ Some s
+    → once ≡ settled_at filling (follow f.code (At at s) Success)
+    → IsBlocked (entry_at once.entries) (follow f.code (At at s) Success) k c → IsReported f k c
+first_reported f filling once turns at s k c filled here is blocked =
+    first_blocked f filling turns at s k c filled here
+    (subst (λ (now : Filling). IsBlocked (entry_at now.entries) (follow f.code (At at s) Success) k c) is blocked)
 
-pub second_reported : (code : List Instr) (filling once twice : Filling) (turns at : ℕ) (s : State)
+pub second_reported : (f : Function) (filling once twice : Filling) (turns at : ℕ) (s : State)
     (r : Option refused.CodeAt)
-    → IsFilledTo code filling turns → slice_get filling.order turns ≡ Some at → entry_at filling.entries at ≡ Some s
-    → once ≡ settled_at filling (follow code (At at s) Success)
-    → StaysOn (entry_at once.entries) (follow code (At at s) Success)
-    → twice ≡ settled_at once (follow code (At at s) Fault)
-    → MatchOption r (StaysOn (entry_at twice.entries) (follow code (At at s) Fault))
-    (λ m. IsBlocked (entry_at twice.entries) (follow code (At at s) Fault) m.at m.code)
-    → MatchOption r (IsFilledTo code twice (turns + 1)) (λ m. IsReported code m.at m.code)
-second_reported code filling once twice turns at s None filled next here is on is_twice on_fault =
-    let q : twice ≡ settled_at (settled_at filling (follow code (At at s) Success)) (follow code (At at s) Fault) =
-    is_twice ∙ ap (λ (f : Filling). settled_at f (follow code (At at s) Fault)) is in
-    subst (λ (f : Filling). IsFilledTo code f (turns + 1)) (sym q)
-    (filled_both code filling turns at s filled next here
-    (subst (λ (f : Filling). StaysOn (entry_at f.entries) (follow code (At at s) Success)) is on)
-    (subst (λ (f : Filling). StaysOn (entry_at f.entries) (follow code (At at s) Fault)) q on_fault))
-second_reported code filling once twice turns at s (Some m) filled next here is on is_twice blocked =
-    let q : twice ≡ settled_at (settled_at filling (follow code (At at s) Success)) (follow code (At at s) Fault) =
-    is_twice ∙ ap (λ (f : Filling). settled_at f (follow code (At at s) Fault)) is in
-    second_blocked code filling turns at s m.at m.code filled here
-    (subst (λ (f : Filling). IsBlocked (entry_at f.entries) (follow code (At at s) Fault) m.at m.code) q blocked)
+    → IsFilledTo f filling turns → slice_get filling.order turns ≡ Some at → entry_at filling.entries at ≡ Some s
+    → once ≡ settled_at filling (follow f.code (At at s) Success)
+    → StaysOn (entry_at once.entries) (follow f.code (At at s) Success)
+    → twice ≡ settled_at once (follow f.code (At at s) Fault)
+    → MatchOption r (StaysOn (entry_at twice.entries) (follow f.code (At at s) Fault))
+    (λ m. IsBlocked (entry_at twice.entries) (follow f.code (At at s) Fault) m.at m.code)
+    → MatchOption r (IsFilledTo f twice (turns + 1)) (λ m. IsReported f m.at m.code)
+second_reported f filling once twice turns at s None filled next here is on is_twice on_fault =
+    let q : twice ≡ settled_at (settled_at filling (follow f.code (At at s) Success)) (follow f.code (At at s) Fault) =
+    is_twice ∙ ap (λ (now : Filling). settled_at now (follow f.code (At at s) Fault)) is in
+    subst (λ (now : Filling). IsFilledTo f now (turns + 1)) (sym q)
+    (filled_both f filling turns at s filled next here
+    (subst (λ (now : Filling). StaysOn (entry_at now.entries) (follow f.code (At at s) Success)) is on)
+    (subst (λ (now : Filling). StaysOn (entry_at now.entries) (follow f.code (At at s) Fault)) q on_fault))
+second_reported f filling once twice turns at s (Some m) filled next here is on is_twice blocked =
+    let q : twice ≡ settled_at (settled_at filling (follow f.code (At at s) Success)) (follow f.code (At at s) Fault) =
+    is_twice ∙ ap (λ (now : Filling). settled_at now (follow f.code (At at s) Fault)) is in
+    second_blocked f filling turns at s m.at m.code filled here
+    (subst (λ (now : Filling). IsBlocked (entry_at now.entries) (follow f.code (At at s) Fault) m.at m.code) q blocked)
 
-pub second_result : (code : List Instr) (filling once twice : Filling) (turns at : ℕ) (s : State)
+pub second_result : (f : Function) (filling once twice : Filling) (turns at : ℕ) (s : State)
     (r : Result (Option refused.CodeAt) AllocError)
-    → IsFilledTo code filling turns → slice_get filling.order turns ≡ Some at → entry_at filling.entries at ≡ Some s
-    → once ≡ settled_at filling (follow code (At at s) Success)
-    → StaysOn (entry_at once.entries) (follow code (At at s) Success)
-    → IfOk r (λ found. twice ≡ settled_at once (follow code (At at s) Fault))
-    → IfOk r (λ found. MatchOption found (StaysOn (entry_at twice.entries) (follow code (At at s) Fault))
-    (λ m. IsBlocked (entry_at twice.entries) (follow code (At at s) Fault) m.at m.code))
-    → IfOk r (λ found. MatchOption found (IsFilledTo code twice (turns + 1)) (λ m. IsReported code m.at m.code))
-second_result code filling once twice turns at s (Ok found) filled next here is on is_twice on_fault =
-    second_reported code filling once twice turns at s found filled next here is on is_twice on_fault
-second_result code filling once twice turns at s (Err refused) filled next here is on is_twice on_fault = tt
+    → IsFilledTo f filling turns → slice_get filling.order turns ≡ Some at → entry_at filling.entries at ≡ Some s
+    → once ≡ settled_at filling (follow f.code (At at s) Success)
+    → StaysOn (entry_at once.entries) (follow f.code (At at s) Success)
+    → IfOk r (λ found. twice ≡ settled_at once (follow f.code (At at s) Fault))
+    → IfOk r (λ found. MatchOption found (StaysOn (entry_at twice.entries) (follow f.code (At at s) Fault))
+    (λ m. IsBlocked (entry_at twice.entries) (follow f.code (At at s) Fault) m.at m.code))
+    → IfOk r (λ found. MatchOption found (IsFilledTo f twice (turns + 1)) (λ m. IsReported f m.at m.code))
+second_result f filling once twice turns at s (Ok found) filled next here is on is_twice on_fault =
+    second_reported f filling once twice turns at s found filled next here is on is_twice on_fault
+second_result f filling once twice turns at s (Err refused) filled next here is on is_twice on_fault = tt
 
 -- the states are reached, whether or not an exit is blocked
-pub both_led : (code : List Instr) (filling once twice : Filling) (turns at : ℕ) (s : State)
+pub both_led : (f : Function) (filling once twice : Filling) (turns at : ℕ) (s : State)
     (r : Result (Option refused.CodeAt) AllocError)
-    → IsFilledTo code filling turns → entry_at filling.entries at ≡ Some s
-    → once ≡ settled_at filling (follow code (At at s) Success)
-    → IfOk r (λ found. twice ≡ settled_at once (follow code (At at s) Fault))
-    → IfOk r (λ found. AreReached code twice.entries)
-both_led code filling once twice turns at s (Ok found) filled here is is_twice =
-    let q : twice ≡ settled_at (settled_at filling (follow code (At at s) Success)) (follow code (At at s) Fault) =
-    is_twice ∙ ap (λ (f : Filling). settled_at f (follow code (At at s) Fault)) is in
-    subst (λ (f : Filling). AreReached code f.entries) (sym q) (both_reached code filling turns at s filled here)
-both_led code filling once twice turns at s (Err refused) filled here is is_twice = tt
+    → IsFilledTo f filling turns → entry_at filling.entries at ≡ Some s
+    → once ≡ settled_at filling (follow f.code (At at s) Success)
+    → IfOk r (λ found. twice ≡ settled_at once (follow f.code (At at s) Fault))
+    → IfOk r (λ found. AreReached f twice.entries)
+both_led f filling once twice turns at s (Ok found) filled here is is_twice =
+    let q : twice ≡ settled_at (settled_at filling (follow f.code (At at s) Success)) (follow f.code (At at s) Fault) =
+    is_twice ∙ ap (λ (now : Filling). settled_at now (follow f.code (At at s) Fault)) is in
+    subst (λ (now : Filling). AreReached f now.entries) (sym q) (both_reached f filling turns at s filled here)
+both_led f filling once twice turns at s (Err refused) filled here is is_twice = tt
 
 -- acceptable code has nothing to report, so that its entries are true
-pub true_unless_reported : (code : List Instr) (entries : List (Option State)) (r : Option refused.CodeAt)
-    → MatchOption r (IsFilled code entries) (λ m. IsReported code m.at m.code) → IsAcceptableCode code
-    → AreTrue code entries
-true_unless_reported code entries None inferred accepted = inferred.truth
-true_unless_reported code entries (Some m) reported accepted =
-    absurd (never_reported code m.at m.code accepted reported)
+pub true_unless_reported : (f : Function) (entries : List (Option State)) (r : Option refused.CodeAt)
+    → MatchOption r (IsFilled f entries) (λ m. IsReported f m.at m.code) → IsAcceptableFunction f
+    → AreTrue f entries
+true_unless_reported f entries None inferred accepted = inferred.truth
+true_unless_reported f entries (Some m) reported accepted =
+    absurd (never_reported f m.at m.code accepted reported)

@@ -8,7 +8,6 @@ use Rattle.std.proofs.lemmas.List.{length-set, length_push, get_or-set_same, get
 use Rattle.std.proofs.lemmas.List.Sums.{sum_by-set}
 use Rattle.std.proofs.lemmas.Option.{none-some, same_Some, slice_get-get_or}
 use Rattle.brc_model.specs.declared.state.State.{State}
-use Rattle.brc_model.specs.VarStates.{entry}
 use Rattle.brc_check.specs.declared.filling.Filling.{Filling}
 use Rattle.brc_check.specs.Filling.{entry_at, first_filling, settled, IsInOrder}
 use Rattle.brc_check.proofs.Pushing.{push-kept, push-last, push-cases}
@@ -140,24 +139,26 @@ none-replicate zero k = refl
 none-replicate (suc n) zero = refl
 none-replicate (suc n) (suc k) = none-replicate n k
 
-one-counted : (n : ℕ) → count_by is_some (Some entry ∷ replicate n None) ≡ 1
-one-counted zero = refl
-one-counted (suc n) = one-counted n
+one-counted : (entry : State) (n : ℕ) → count_by is_some (Some entry ∷ replicate n None) ≡ 1
+one-counted entry zero = refl
+one-counted entry (suc n) = one-counted entry n
 
 -- at first there is one entry, that of the first point
-pub first-entry : (count k : ℕ) (s : State) → entry_at (first_filling count).entries k ≡ Some s → (k ≡ 0) × (entry ≡ s)
-first-entry count zero s e = (refl, same_Some entry s e)
-first-entry count (suc k) s e = absurd (none-some s (sym (none-replicate (count - 1) k) ∙ e))
+pub first-entry : (entry : State) (count k : ℕ) (s : State) → entry_at (first_filling entry count).entries k ≡ Some s
+    → (k ≡ 0) × (entry ≡ s)
+first-entry entry count zero s e = (refl, same_Some entry s e)
+first-entry entry count (suc k) s e = absurd (none-some s (sym (none-replicate (count - 1) k) ∙ e))
 
-first-known : (count turn k : ℕ) → slice_get (first_filling count).order turn ≡ Some k
-    → (s : State) × (entry_at (first_filling count).entries k ≡ Some s)
-first-known count zero k e =
-    subst (λ (j : ℕ). (s : State) × (entry_at (first_filling count).entries j ≡ Some s)) (same_Some 0 k e) (entry, refl)
-first-known count (suc turn) k e = absurd (none-some k e)
+first-known : (entry : State) (count turn k : ℕ) → slice_get (first_filling entry count).order turn ≡ Some k
+    → (s : State) × (entry_at (first_filling entry count).entries k ≡ Some s)
+first-known entry count zero k e =
+    subst (λ (j : ℕ). (s : State) × (entry_at (first_filling entry count).entries j ≡ Some s)) (same_Some 0 k e)
+    (entry, refl)
+first-known entry count (suc turn) k e = absurd (none-some k e)
 
-pub first-in_order : (count : ℕ) → IsInOrder (first_filling count)
-first-in_order count = record {
-  found = λ k s e. (0, ap Some (sym (first-entry count k s e).0));
-  known = first-known count;
-  once = sym (one-counted (count - 1));
+pub first-in_order : (entry : State) (count : ℕ) → IsInOrder (first_filling entry count)
+first-in_order entry count = record {
+  found = λ k s e. (0, ap Some (sym (first-entry entry count k s e).0));
+  known = first-known entry count;
+  once = sym (one-counted entry (count - 1));
 }

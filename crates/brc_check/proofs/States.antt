@@ -4,11 +4,12 @@ use Rattle.std.proofs.Common.{fold, refl, sym, ap, ◌∙◌, subst, inl, inr, a
 use Rattle.std.specs.Prelude.{None, Some, ◌⊎◌, ◌==◌}
 use Rattle.std.proofs.lemmas.Bool.{eqb-true, eq-eqb, cases_lt}
 use Rattle.std.proofs.lemmas.Option.{none-some, same_Some}
+use Rattle.brc_lang.specs.declared.module.Function.{Function}
 use Rattle.brc_lang.specs.declared.module.Instr.{Instr}
 use Rattle.brc_model.specs.declared.state.State.{State}
 use Rattle.brc_model.specs.declared.state.Exit.{Exit}
 use Rattle.brc_model.specs.declared.state.Exit.TheVariants.{Success}
-use Rattle.brc_model.specs.VarStates.{entry}
+use Rattle.brc_model.specs.VarStates.{entry_of}
 use Rattle.brc_model.specs.Paths.{PathEnd, At, Ended, Reports, follow}
 use Rattle.brc_model.specs.Tables.{Reaches, IsTrueEntry}
 use Rattle.brc_check.specs.declared.kept_entry.KeptEntry.{KeptEntry}
@@ -81,89 +82,89 @@ met code kept at next exit s t shape here leads =
 -- ---- reached by the point before
 
 -- a point that isn't kept is reached from the point before
-abbrev CameBy : List Instr → ℕ → State → Type 0
-CameBy code next t =
-    (is_kept code next ≡ true)
-    ⊎ ((at : ℕ) × (s : State) × (next ≡ at + 1) × Reaches code at s × (follow code (At at s) Success ≡ At next t))
+abbrev CameBy : Function → ℕ → State → Type 0
+CameBy f next t =
+    (is_kept f.code next ≡ true)
+    ⊎ ((at : ℕ) × (s : State) × (next ≡ at + 1) × Reaches f at s × (follow f.code (At at s) Success ≡ At next t))
 
-abbrev Came : List Instr → PathEnd → Type 0
-Came code (At next t) = Reaches code next t × CameBy code next t × (0 < next → next < length code)
-Came code Ended = Unit {0}
-Came code (Reports at c) = Unit {0}
+abbrev Came : Function → PathEnd → Type 0
+Came f (At next t) = Reaches f next t × CameBy f next t × (0 < next → next < length f.code)
+Came f Ended = Unit {0}
+Came f (Reports at c) = Unit {0}
 
-came_to : (code : List Instr) (at : ℕ) (s : State) (exit : Exit) (p : PathEnd) → Reaches code at s
-    → follow code (At at s) exit ≡ p → Came code p
-came_to code at s exit (At next t) r leads = (
-  reaches-more code at next s t exit r leads,
-  elim (comes code at next exit s t leads) [
+came_to : (f : Function) (at : ℕ) (s : State) (exit : Exit) (p : PathEnd) → Reaches f at s
+    → follow f.code (At at s) exit ≡ p → Came f p
+came_to f at s exit (At next t) r leads = (
+  reaches-more f at next s t exit r leads,
+  elim (comes f.code at next exit s t leads) [
     | inl led ↦ inl led
     | inr on ↦ inr (at, s, on.0, r, on.1)
   ],
-  λ _. arrives-within code at next s t exit leads,
+  λ _. arrives-within f.code at next s t exit leads,
 )
-came_to code at s exit Ended r leads = tt
-came_to code at s exit (Reports k c) r leads = tt
+came_to f at s exit Ended r leads = tt
+came_to f at s exit (Reports k c) r leads = tt
 
-came_follow : (code : List Instr) (p : PathEnd) (exit : Exit) → Came code p → Came code (follow code p exit)
-came_follow code (At at s) exit came = came_to code at s exit (follow code (At at s) exit) came.0 refl
-came_follow code Ended exit came = tt
-came_follow code (Reports at c) exit came = tt
+came_follow : (f : Function) (p : PathEnd) (exit : Exit) → Came f p → Came f (follow f.code p exit)
+came_follow f (At at s) exit came = came_to f at s exit (follow f.code (At at s) exit) came.0 refl
+came_follow f Ended exit came = tt
+came_follow f (Reports at c) exit came = tt
 
-came_fold : (code : List Instr) (exits : List Exit) (p : PathEnd) → Came code p → Came code (fold (follow code) p exits)
-came_fold code [] p came = came
-came_fold code (e ∷ es) p came = came_fold code es (follow code p e) (came_follow code p e came)
+came_fold : (f : Function) (exits : List Exit) (p : PathEnd) → Came f p → Came f (fold (follow f.code) p exits)
+came_fold f [] p came = came
+came_fold f (e ∷ es) p came = came_fold f es (follow f.code p e) (came_follow f p e came)
 
-came : (code : List Instr) (at : ℕ) (s : State) → Reaches code at s → Came code (At at s)
-came code at s r =
-    subst (Came code) r.reaches
-    (came_fold code r.exits (At 0 entry) (begins code, inl refl, λ lt. absurd (omega (arith, lt))))
+came : (f : Function) (at : ℕ) (s : State) → Reaches f at s → Came f (At at s)
+came f at s r =
+    subst (Came f) r.reaches
+    (came_fold f r.exits (At 0 (entry_of f.parameters)) (begins f, inl refl, λ lt. absurd (omega (arith, lt))))
 
-reached-within : (code : List Instr) (at : ℕ) (s : State) → Reaches code at s → 0 < at → at < length code
-reached-within code at s r lt = (came code at s r).2 lt
+reached-within : (f : Function) (at : ℕ) (s : State) → Reaches f at s → 0 < at → at < length f.code
+reached-within f at s r lt = (came f at s r).2 lt
 
 -- ---- true states
 
 -- where the states are true, a point that isn't kept has what the point before passes on to it
-pub true_passed : (code : List Instr) (states : ℕ → Option State) (at : ℕ)
-    → ((k : ℕ) → IsTrueEntry code k (states k))
-    → is_kept code (at + 1) ≡ false → states (at + 1) ≡ passed code at (states at)
-true_passed code states at truth other =
-    elim (states (at + 1)) as (λ o. states (at + 1) ≡ o → o ≡ passed code at (states at)) [
+pub true_passed : (f : Function) (states : ℕ → Option State) (at : ℕ)
+    → ((k : ℕ) → IsTrueEntry f k (states k))
+    → is_kept f.code (at + 1) ≡ false → states (at + 1) ≡ passed f.code at (states at)
+true_passed f states at truth other =
+    elim (states (at + 1)) as (λ o. states (at + 1) ≡ o → o ≡ passed f.code at (states at)) [
       | Some t ↦ λ e.
-          elim (came code (at + 1) t ((truth (at + 1) t).0 e)).1 [
+          elim (came f (at + 1) t ((truth (at + 1) t).0 e)).1 [
             | inl led ↦ absurd (let z = sym other ∙ led in cc)
             | inr by ↦
                 let same : by.0 ≡ at = (let n = by.2 in omega (arith, n)) in
-                let from = subst (λ (n : ℕ). Reaches code n by.1) same by.3 in
-                let leads : follow code (At at by.1) Success ≡ At (at + 1) t =
-                ap (λ (n : ℕ). follow code (At n by.1) Success) (sym same) ∙ by.4 in
-                sym (passed_to code at (states at) by.1 t ((truth at by.1).1 from) leads)
+                let from = subst (λ (n : ℕ). Reaches f n by.1) same by.3 in
+                let leads : follow f.code (At at by.1) Success ≡ At (at + 1) t =
+                ap (λ (n : ℕ). follow f.code (At n by.1) Success) (sym same) ∙ by.4 in
+                sym (passed_to f.code at (states at) by.1 t ((truth at by.1).1 from) leads)
           ]
       | None ↦ λ e.
-          elim (passed code at (states at)) as (λ o. passed code at (states at) ≡ o → None ≡ o) [
+          elim (passed f.code at (states at)) as (λ o. passed f.code at (states at) ≡ o → None ≡ o) [
             | None ↦ λ _. refl
             | Some t ↦ λ h.
-                let from = passed_from code at (states at) t h in
-                let r = reaches-more code at (at + 1) from.0 t Success ((truth at from.0).0 from.1) from.2 in
+                let from = passed_from f.code at (states at) t h in
+                let r = reaches-more f at (at + 1) from.0 t Success ((truth at from.0).0 from.1) from.2 in
                 absurd (none-some t (sym e ∙ (truth (at + 1) t).1 r))
           ] refl
     ] refl
 
 -- no point past the code has a state, and nothing is passed on to it
-past_passed : (code : List Instr) (states : ℕ → Option State) (at : ℕ)
-    → ((k : ℕ) → IsTrueEntry code k (states k))
-    → length code ≤ at + 1 → states (at + 1) ≡ passed code at (states at)
-past_passed code states at truth past =
-    elim (states (at + 1)) as (λ o. states (at + 1) ≡ o → o ≡ passed code at (states at)) [
+past_passed : (f : Function) (states : ℕ → Option State) (at : ℕ)
+    → ((k : ℕ) → IsTrueEntry f k (states k))
+    → length f.code ≤ at + 1 → states (at + 1) ≡ passed f.code at (states at)
+past_passed f states at truth past =
+    elim (states (at + 1)) as (λ o. states (at + 1) ≡ o → o ≡ passed f.code at (states at)) [
       | Some t ↦ λ e.
-          let within = reached-within code (at + 1) t ((truth (at + 1) t).0 e) (omega arith) in
+          let within = reached-within f (at + 1) t ((truth (at + 1) t).0 e) (omega arith) in
           absurd (omega (arith, within, past))
       | None ↦ λ e.
-          elim (passed code at (states at)) as (λ o. passed code at (states at) ≡ o → None ≡ o) [
+          elim (passed f.code at (states at)) as (λ o. passed f.code at (states at) ≡ o → None ≡ o) [
             | None ↦ λ _. refl
             | Some t ↦ λ h.
-                let from = passed_from code at (states at) t h in
-                let within = arrives-within code at (at + 1) from.0 t Success from.2 in
+                let from = passed_from f.code at (states at) t h in
+                let within = arrives-within f.code at (at + 1) from.0 t Success from.2 in
                 absurd (omega (arith, within, past))
           ] refl
     ] refl
@@ -188,44 +189,44 @@ pub points_kept : (entries : List (Option State)) (points : List ℕ)
 points_kept entries [] = refl
 points_kept entries (p ∷ points) = ap (λ (ps : List ℕ). p ∷ ps) (points_kept entries points)
 
-passed_same : (code : List Instr) (states : ℕ → Option State) (kept : List KeptEntry) (at : ℕ)
-    → ((k : ℕ) → IsTrueEntry code k (states k)) → map point_of kept ≡ kept_points code
-    → kept_at kept (at + 1) ≡ None → states (at + 1) ≡ passed code at (states at)
-passed_same code states kept at truth shape none =
-    elim (cases_lt (at + 1) (length code)) [
-      | inl within ↦ true_passed code states at truth (not_kept code kept (at + 1) shape within none)
-      | inr past ↦ past_passed code states at truth past
+passed_same : (f : Function) (states : ℕ → Option State) (kept : List KeptEntry) (at : ℕ)
+    → ((k : ℕ) → IsTrueEntry f k (states k)) → map point_of kept ≡ kept_points f.code
+    → kept_at kept (at + 1) ≡ None → states (at + 1) ≡ passed f.code at (states at)
+passed_same f states kept at truth shape none =
+    elim (cases_lt (at + 1) (length f.code)) [
+      | inl within ↦ true_passed f states at truth (not_kept f.code kept (at + 1) shape within none)
+      | inr past ↦ past_passed f states at truth past
     ]
 
 -- true states are those that the entries of the kept points give
-pub same_states : (code : List Instr) (entries : List (Option State)) → 0 < length code
-    → ((k : ℕ) → IsTrueEntry code k (entry_at entries k))
-    → (at : ℕ) → state_at code (kept_entries code entries) at ≡ entry_at entries at
-same_states code entries some truth zero =
-    let kept = kept_entries code entries in
+pub same_states : (f : Function) (entries : List (Option State)) → 0 < length f.code
+    → ((k : ℕ) → IsTrueEntry f k (entry_at entries k))
+    → (at : ℕ) → state_at f.code (kept_entries f.code entries) at ≡ entry_at entries at
+same_states f entries some truth zero =
+    let kept = kept_entries f.code entries in
     elim (kept_at kept 0) as (λ o. kept_at kept 0 ≡ o → kept_or o None ≡ entry_at entries 0) [
-      | Some e ↦ λ is. from_entries entries (kept_points code) 0 e is
+      | Some e ↦ λ is. from_entries entries (kept_points f.code) 0 e is
       | None ↦ λ none.
-          let other = not_kept code kept 0 (points_kept entries (kept_points code)) some none in
+          let other = not_kept f.code kept 0 (points_kept entries (kept_points f.code)) some none in
           absurd (let z : true ≡ false = other in cc)
     ] refl
-same_states code entries some truth (suc at) =
-    let kept = kept_entries code entries in
+same_states f entries some truth (suc at) =
+    let kept = kept_entries f.code entries in
     let n : at + 1 ≡ suc at = omega arith in
     elim (kept_at kept (suc at)) as (λ o. kept_at kept (suc at) ≡ o
-    → kept_or o (passed code at (state_at code kept at)) ≡ entry_at entries (suc at)) [
-      | Some e ↦ λ is. from_entries entries (kept_points code) (suc at) e is
+    → kept_or o (passed f.code at (state_at f.code kept at)) ≡ entry_at entries (suc at)) [
+      | Some e ↦ λ is. from_entries entries (kept_points f.code) (suc at) e is
       | None ↦ λ none.
-          ap (passed code at) (same_states code entries some truth at)
-          ∙ sym (passed_same code (entry_at entries) kept at truth (points_kept entries (kept_points code))
+          ap (passed f.code at) (same_states f entries some truth at)
+          ∙ sym (passed_same f (entry_at entries) kept at truth (points_kept entries (kept_points f.code))
           (ap (kept_at kept) n ∙ none))
           ∙ ap (entry_at entries) n
     ] refl
 
-pub inferred : (code : List Instr) (entries : List (Option State)) (kept : List KeptEntry) → 0 < length code
-    → IsFilled code entries → kept ≡ kept_entries code entries → IsInferred code kept
-inferred code entries kept some filled is = rw is (record {
-  points = points_kept entries (kept_points code);
-  truth = λ at. subst (IsTrueEntry code at) (sym (same_states code entries some filled.truth at)) (filled.truth at);
+pub inferred : (f : Function) (entries : List (Option State)) (kept : List KeptEntry) → 0 < length f.code
+    → IsFilled f entries → kept ≡ kept_entries f.code entries → IsInferred f kept
+inferred f entries kept some filled is = rw is (record {
+  points = points_kept entries (kept_points f.code);
+  truth = λ at. subst (IsTrueEntry f at) (sym (same_states f entries some filled.truth at)) (filled.truth at);
   acceptable = filled.acceptable;
 })

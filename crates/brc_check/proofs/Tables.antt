@@ -10,7 +10,7 @@ use Rattle.brc_lang.specs.declared.module.Function.{Function}
 use Rattle.brc_lang.specs.declared.module.Module.{Module}
 use Rattle.brc_lang.specs.declared.module.Instr.{Instr}
 use Rattle.brc_lang.specs.declared.check_code.CheckCode.{CheckCode}
-use Rattle.brc_model.specs.Paths.{IsAcceptableCode, IsAcceptable}
+use Rattle.brc_model.specs.Paths.{IsAcceptableFunction, IsAcceptable}
 use Rattle.brc_model.specs.Tables.{IsTrueEntry}
 use Rattle.brc_check.specs.declared.kept_entry.KeptEntry.{KeptEntry}
 use Rattle.brc_check.specs.declared.refused.Refused.{Refused}
@@ -37,7 +37,7 @@ holds_at P (g ∷ fs) (suc k) f all e = holds_at P fs k f all.1 e
 
 pub record AreInferred (functions : List Function) (lists : List (List KeptEntry)) (to : ℕ) : Type 0 where
   pub count : length lists ≡ to
-  pub each : (k : ℕ) (f : Function) → k < to → slice_get functions k ≡ Some f → IsInferred f.code (entries_of lists k)
+  pub each : (k : ℕ) (f : Function) → k < to → slice_get functions k ≡ Some f → IsInferred f (entries_of lists k)
 
 pub none_inferred : (functions : List Function) (lists : List (List KeptEntry)) → lists ≡ []
     → AreInferred functions lists 0
@@ -45,20 +45,20 @@ none_inferred functions lists empty = record { count = ap length empty; each = �
 
 pub one_more_inferred : (functions : List Function) (lists : List (List KeptEntry)) (to : ℕ) (f : Function)
     (kept : List KeptEntry)
-    → AreInferred functions lists to → slice_get functions to ≡ Some f → IsInferred f.code kept
+    → AreInferred functions lists to → slice_get functions to ≡ Some f → IsInferred f kept
     → AreInferred functions (lists ++ kept ∷ []) (to + 1)
 one_more_inferred functions lists to f kept are here inferred = record {
   count = length_push lists kept ∙ ap (λ (n : ℕ). n + 1) are.count;
   each = λ k g lt e. elim (cases_lt k to) [
     | inl before ↦
-        subst (IsInferred g.code) (sym
+        subst (IsInferred g) (sym
         (get_or_append_left lists (kept ∷ []) [] k (let n = are.count in omega (arith, n, before))))
         (are.each k g before e)
     | inr from ↦
         let same : k ≡ to = omega (arith, from, lt) in
         let function : f ≡ g = same_Some f g (sym here ∙ ap (slice_get functions) (sym same) ∙ e) in
-        subst (IsInferred g.code) (sym (get_or_push lists kept [] k (are.count ∙ sym same)))
-        (subst (λ (h : Function). IsInferred h.code kept) function inferred)
+        subst (IsInferred g) (sym (get_or_push lists kept [] k (are.count ∙ sym same)))
+        (subst (λ (h : Function). IsInferred h kept) function inferred)
   ];
 }
 
@@ -76,14 +76,14 @@ inferred_true m lists are = record {
     points = λ k f e. (are.each k f (slice_get_within m.functions k f e) e).points;
   };
   states = λ k at f e.
-      subst (IsTrueEntry f.code at) (sym (given m lists k at f e))
+      subst (IsTrueEntry f at) (sym (given m lists k at f e))
       ((are.each k f (slice_get_within m.functions k f e) e).truth at);
 }
 
 pub inferred_acceptable : (m : Module) (lists : List (List KeptEntry))
     → AreInferred m.functions lists (length m.functions) → IsAcceptable m
 inferred_acceptable m lists are =
-    all_hold (λ (f : Function). IsAcceptableCode f.code) m.functions
+    all_hold IsAcceptableFunction m.functions
     (λ k f e. (are.each k f (slice_get_within m.functions k f e) e).acceptable)
 
 -- ---- closed entries
@@ -91,20 +91,20 @@ inferred_acceptable m lists are =
 abbrev pub AreClosed : List Function → List (List KeptEntry) → Type 0
 AreClosed functions lists =
     (number : ℕ) (f : Function) → slice_get functions number ≡ Some f
-    → IsClosed f.code (state_at f.code (entries_of lists number))
+    → IsClosed f (state_at f.code (entries_of lists number))
 
 pub closed_are_acceptable : (m : Module) (lists : List (List KeptEntry)) → AreClosed m.functions lists
     → IsAcceptable m
 closed_are_acceptable m lists closed =
-    all_hold (λ (f : Function). IsAcceptableCode f.code) m.functions
-    (λ k f e. closed-acceptable f.code (state_at f.code (entries_of lists k)) (closed k f e))
+    all_hold IsAcceptableFunction m.functions
+    (λ k f e. closed-acceptable f (state_at f.code (entries_of lists k)) (closed k f e))
 
 pub closed_are_true : (m : Module) (lists : List (List KeptEntry)) → HasShape m.functions lists
     → AreClosed m.functions lists → IsTrueWhereReached m lists
 closed_are_true m lists shape closed = record {
   shape = shape;
   states = λ k at f s e r.
-      given m lists k at f e ∙ closed-reached f.code (state_at f.code (entries_of lists k)) (closed k f e) at s r;
+      given m lists k at f e ∙ closed-reached f (state_at f.code (entries_of lists k)) (closed k f e) at s r;
 }
 
 -- a true table of an acceptable module has no error
@@ -113,9 +113,9 @@ pub no_table_error : (m : Module) (lists : List (List KeptEntry)) (r : Refused) 
 no_table_error m lists r accepted true_table error =
     elim error [
       | inl f ↦ f.other_shape true_table.shape
-      | inr f ↦ no_error f.function.code (state_at f.function.code (entries_of lists f.number)) r.at r.code
-          (holds_at (λ (g : Function). IsAcceptableCode g.code) m.functions f.number f.function accepted f.listed)
-          (λ k. subst (IsTrueEntry f.function.code k) (given m lists f.number k f.function f.listed)
+      | inr f ↦ no_error f.function (state_at f.function.code (entries_of lists f.number)) r.at r.code
+          (holds_at IsAcceptableFunction m.functions f.number f.function accepted f.listed)
+          (λ k. subst (IsTrueEntry f.function k) (given m lists f.number k f.function f.listed)
           (true_table.states f.number k f.function f.listed)) f.error
     ]
 
@@ -161,7 +161,7 @@ refused_shape m table functions lists r is_functions is_lists error other =
 
 -- why one function isn't inferred
 abbrev pub IsRefusalOf : Function → Refused → Type 0
-IsRefusalOf f r = (r.function ≡ f.name) × (IsForMemory r ⊎ IsReported f.code r.at r.code)
+IsRefusalOf f r = (r.function ≡ f.name) × (IsForMemory r ⊎ IsReported f r.at r.code)
 
 pub refused_for : (functions : List Function) (number : ℕ) (f : Function) (r : Refused) → number < length functions
     → f ≡ slice_index_or functions number f → IsRefusalOf f r → IsRefusal functions r
@@ -176,8 +176,8 @@ refused_for functions number f r lt is refusal =
       })
     ]
 
-pub never_reported : (code : List Instr) (at : ℕ) (c : CheckCode) → IsAcceptableCode code → IsReported code at c → ⊥
-never_reported code at c accepted reported =
+pub never_reported : (f : Function) (at : ℕ) (c : CheckCode) → IsAcceptableFunction f → IsReported f at c → ⊥
+never_reported f at c accepted reported =
     elim reported [
       | inl m ↦ accepted.reports_none at c m
       | inr d ↦
@@ -187,13 +187,13 @@ never_reported code at c accepted reported =
 
 pub for_memory : (functions : List Function) (number : ℕ) (f : Function) (r : Refused) → number < length functions
     → f ≡ slice_index_or functions number f → IsRefusalOf f r
-    → AllByRecursion (λ (g : Function). IsAcceptableCode g.code) functions → IsForMemory r
+    → AllByRecursion IsAcceptableFunction functions → IsForMemory r
 for_memory functions number f r lt is refusal accepted =
     elim refusal.1 [
       | inl memory ↦ memory
       | inr reported ↦
-          absurd (never_reported f.code r.at r.code
-          (holds_at (λ (g : Function). IsAcceptableCode g.code) functions number f accepted
+          absurd (never_reported f r.at r.code
+          (holds_at IsAcceptableFunction functions number f accepted
           (slice_get_read functions (length functions) number f refl lt is)) reported)
     ]
 

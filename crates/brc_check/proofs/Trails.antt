@@ -7,8 +7,9 @@ use Rattle.std.proofs.lemmas.List.{reverse-append}
 use Rattle.std.proofs.lemmas.Result.{IfOk-weaker}
 use Rattle.std.specs.declared.alloc.AllocError.{AllocError}
 use Rattle.std.proofs.lemmas.Option.{same_Some, slice_get_read}
-use Rattle.brc_lang.specs.declared.module.Instr.{Instr}
+use Rattle.brc_lang.specs.declared.module.Function.{Function}
 use Rattle.brc_model.specs.declared.state.Exit.{Exit}
+use Rattle.brc_model.specs.VarStates.{entry_of}
 use Rattle.brc_model.specs.Paths.{PathEnd, At, follow, path_end}
 use Rattle.brc_check.specs.declared.visits.Visit.{Visit}
 use Rattle.brc_check.specs.Searching.{first_visit, IsChained, AreLinked}
@@ -16,33 +17,33 @@ use Rattle.brc_check.specs.Searching.{first_visit, IsChained, AreLinked}
 -- the exits, read backwards, lead from the visit of one number to that of the other
 abbrev pub IsBackTo : List Visit → ℕ → List Exit → ℕ → Type 0
 IsBackTo list number back at =
-    (code : List Instr) (from v : Visit) → AreLinked code list → slice_get list number ≡ Some v
+    (f : Function) (from v : Visit) → AreLinked f list → slice_get list number ≡ Some v
     → slice_get list at ≡ Some from
-    → fold (follow code) (At from.at from.state) (reverse back) ≡ At v.at v.state
+    → fold (follow f.code) (At from.at from.state) (reverse back) ≡ At v.at v.state
 
 pub back_none : (list : List Visit) (number : ℕ) → IsBackTo list number [] number
-back_none list number code from v linked is_v is_from =
+back_none list number f from v linked is_v is_from =
     ap (λ (u : Visit). At u.at u.state) (same_Some from v (sym is_from ∙ is_v))
 
 -- one visit further back
 pub back_more : (list : List Visit) (number : ℕ) (back : List Exit) (at : ℕ) (here : Visit)
     → IsBackTo list number back (suc at) → slice_get list (suc at) ≡ Some here
     → IsBackTo list number (back ++ here.exit ∷ []) here.before
-back_more list number back at here is_back is_here code from v linked is_v is_from =
+back_more list number back at here is_back is_here f from v linked is_v is_from =
     let link = linked.linked at here is_here in
     let same : link.from ≡ from = same_Some link.from from (sym link.listed ∙ is_from) in
-    let leads : follow code (At from.at from.state) here.exit ≡ At here.at here.state =
-    subst (λ (u : Visit). follow code (At u.at u.state) here.exit ≡ At here.at here.state) same link.leads in
-    ap (fold (follow code) (At from.at from.state)) (reverse-append back (here.exit ∷ []))
-    ∙ ap (λ (p : PathEnd). fold (follow code) p (reverse back)) leads
-    ∙ is_back code here v linked is_v is_here
+    let leads : follow f.code (At from.at from.state) here.exit ≡ At here.at here.state =
+    subst (λ (u : Visit). follow f.code (At u.at u.state) here.exit ≡ At here.at here.state) same link.leads in
+    ap (fold (follow f.code) (At from.at from.state)) (reverse-append back (here.exit ∷ []))
+    ∙ ap (λ (p : PathEnd). fold (follow f.code) p (reverse back)) leads
+    ∙ is_back f here v linked is_v is_here
 
 -- at the first visit the exits are those of the whole path
 pub back_all : (list : List Visit) (number : ℕ) (back : List Exit) → IsBackTo list number back 0
-    → (code : List Instr) (v : Visit) → AreLinked code list → slice_get list number ≡ Some v
-    → path_end code (reverse back) ≡ At v.at v.state
-back_all list number back is_back code v linked is_v =
-    is_back code first_visit v linked is_v linked.begins
+    → (f : Function) (v : Visit) → AreLinked f list → slice_get list number ≡ Some v
+    → path_end f (reverse back) ≡ At v.at v.state
+back_all list number back is_back f v linked is_v =
+    is_back f (first_visit (entry_of f.parameters)) v linked is_v linked.begins
 
 -- ---- one turn of the loop that goes back
 
@@ -75,10 +76,10 @@ back-turn list number back (suc at) v chained back_to some is = record {
 
 pub back-last : (list : List Visit) (number : ℕ) (back : List Exit) (at : ℕ) (r : Result (List Exit) AllocError)
     → IsBackWithin list number back at → at ≡ 0 → IfOk r (λ exits. exits ≡ reverse back)
-    → (code : List Instr) (v : Visit) → AreLinked code list → slice_get list number ≡ Some v
-    → IfOk r (λ exits. path_end code exits ≡ At v.at v.state)
-back-last list number back at r back_to first turned code v linked is_v =
-    IfOk-weaker r (λ exits. exits ≡ reverse back) (λ exits. path_end code exits ≡ At v.at v.state)
-    (λ exits e. ap (path_end code) e
-    ∙ back_all list number back (subst (IsBackTo list number back) first back_to.is_back) code v linked is_v)
+    → (f : Function) (v : Visit) → AreLinked f list → slice_get list number ≡ Some v
+    → IfOk r (λ exits. path_end f exits ≡ At v.at v.state)
+back-last list number back at r back_to first turned f v linked is_v =
+    IfOk-weaker r (λ exits. exits ≡ reverse back) (λ exits. path_end f exits ≡ At v.at v.state)
+    (λ exits e. ap (path_end f) e
+    ∙ back_all list number back (subst (IsBackTo list number back) first back_to.is_back) f v linked is_v)
     turned

@@ -6,12 +6,13 @@ use Rattle.std.proofs.lemmas.Bool.{cases_lt}
 use Rattle.std.proofs.lemmas.List.{length-replicate}
 use Rattle.std.proofs.lemmas.List.Sums.{count_by-le-length}
 use Rattle.std.proofs.lemmas.Option.{same_Some, slice_get_within, slice_get-get_or}
+use Rattle.brc_lang.specs.declared.module.Function.{Function}
 use Rattle.brc_lang.specs.declared.module.Instr.{Instr}
 use Rattle.brc_lang.specs.declared.check_code.CheckCode.{CheckCode}
 use Rattle.brc_model.specs.declared.state.State.{State}
 use Rattle.brc_model.specs.declared.state.Exit.{Exit}
 use Rattle.brc_model.specs.declared.state.Exit.TheVariants.{Success, Fault}
-use Rattle.brc_model.specs.VarStates.{entry}
+use Rattle.brc_model.specs.VarStates.{entry_of}
 use Rattle.brc_model.specs.Paths.{PathEnd, At, Ended, Reports, follow, ReportsCode}
 use Rattle.brc_model.specs.Tables.{Reaches, StatesDifferAt}
 use Rattle.brc_check.specs.declared.filling.Filling.{Filling}
@@ -74,7 +75,7 @@ pub led-length : (code : List Instr) (filling once : Filling) (at : ℕ) (s : St
     → length filling.entries ≡ length code → once ≡ settled_at filling (follow code (At at s) exit)
     → length once.entries ≡ length code
 led-length code filling once at s exit same is =
-    ap (λ (f : Filling). length f.entries) is ∙ (leads code filling at s exit same).same_length ∙ same
+    ap (λ (now : Filling). length now.entries) is ∙ (leads code filling at s exit same).same_length ∙ same
 
 stays-kept : (old new : List (Option State)) (p : PathEnd)
     → ((k : ℕ) (t : State) → entry_at old k ≡ Some t → entry_at new k ≡ Some t) → StaysOn (entry_at old) p
@@ -83,89 +84,89 @@ stays-kept old new (At at s) kept on = kept at s on
 stays-kept old new Ended kept on = tt
 stays-kept old new (Reports at c) kept on = on
 
-abbrev pub AllReached : List Instr → Filling → Type 0
-AllReached code filling = (k : ℕ) (s : State) → entry_at filling.entries k ≡ Some s → Reaches code k s
+abbrev pub AllReached : Function → Filling → Type 0
+AllReached f filling = (k : ℕ) (s : State) → entry_at filling.entries k ≡ Some s → Reaches f k s
 
-reached-led : (code : List Instr) (filling : Filling) (at : ℕ) (s : State) (exit : Exit)
-    → length filling.entries ≡ length code → AllReached code filling → entry_at filling.entries at ≡ Some s
-    → AllReached code (settled_at filling (follow code (At at s) exit))
-reached-led code filling at s exit same reached here k t e =
-    elim ((leads code filling at s exit same).fresh k t e) [
+reached-led : (f : Function) (filling : Filling) (at : ℕ) (s : State) (exit : Exit)
+    → length filling.entries ≡ length f.code → AllReached f filling → entry_at filling.entries at ≡ Some s
+    → AllReached f (settled_at filling (follow f.code (At at s) exit))
+reached-led f filling at s exit same reached here k t e =
+    elim ((leads f.code filling at s exit same).fresh k t e) [
       | inl old ↦ reached k t old
-      | inr new ↦ reaches-more code at k s t exit (reached at s here) new
+      | inr new ↦ reaches-more f at k s t exit (reached at s here) new
     ]
 
-blocked-at : (code : List Instr) (filling : Filling) (at : ℕ) (s : State) (exit : Exit) (k : ℕ) (c : CheckCode)
+blocked-at : (f : Function) (filling : Filling) (at : ℕ) (s : State) (exit : Exit) (k : ℕ) (c : CheckCode)
     (p : PathEnd)
-    → length filling.entries ≡ length code → AllReached code filling → entry_at filling.entries at ≡ Some s
-    → follow code (At at s) exit ≡ p
-    → IsBlocked (entry_at (settled_at filling p).entries) p k c → IsReported code k c
-blocked-at code filling at s exit k c (At next t) same reached here leads_to blocked =
+    → length filling.entries ≡ length f.code → AllReached f filling → entry_at filling.entries at ≡ Some s
+    → follow f.code (At at s) exit ≡ p
+    → IsBlocked (entry_at (settled_at filling p).entries) p k c → IsReported f k c
+blocked-at f filling at s exit k c (At next t) same reached here leads_to blocked =
     let within : next < length filling.entries =
-    (let w = arrives-within code at next s t exit leads_to in omega (arith, w, same)) in
+    (let w = arrives-within f.code at next s t exit leads_to in omega (arith, w, same)) in
     elim (settled-cases filling next t within) [
       | inl now ↦ absurd (blocked.2 now)
       | inr found ↦ inr (
         blocked.1,
-        subst (StatesDifferAt code) blocked.0 (record {
+        subst (StatesDifferAt f) blocked.0 (record {
           one = found.0;
           other = t;
           first = reached next found.0 found.1.0;
-          second = reaches-more code at next s t exit (reached at s here) leads_to;
+          second = reaches-more f at next s t exit (reached at s here) leads_to;
           apart =
-              λ e. blocked.2 (ap (λ (f : Filling). entry_at f.entries next) found.1.1 ∙ found.1.0 ∙ ap Some e);
+              λ e. blocked.2 (ap (λ (now : Filling). entry_at now.entries next) found.1.1 ∙ found.1.0 ∙ ap Some e);
         }),
       )
     ]
-blocked-at code filling at s exit k c Ended same reached here leads_to blocked = absurd blocked
-blocked-at code filling at s exit k c (Reports point d) same reached here leads_to blocked =
-    let reported : ReportsCode code point d = reports-more code at point s d exit (reached at s here) leads_to in
-    inl (subst (λ (e : CheckCode). ReportsCode code k e) blocked.1
-    (subst (λ (j : ℕ). ReportsCode code j d) blocked.0 reported))
+blocked-at f filling at s exit k c Ended same reached here leads_to blocked = absurd blocked
+blocked-at f filling at s exit k c (Reports point d) same reached here leads_to blocked =
+    let reported : ReportsCode f point d = reports-more f at point s d exit (reached at s here) leads_to in
+    inl (subst (λ (e : CheckCode). ReportsCode f k e) blocked.1
+    (subst (λ (j : ℕ). ReportsCode f j d) blocked.0 reported))
 
 -- ---- both exits
 
-pub first_blocked : (code : List Instr) (filling : Filling) (turns at : ℕ) (s : State) (k : ℕ) (c : CheckCode)
-    → IsFilledTo code filling turns → entry_at filling.entries at ≡ Some s
-    → IsBlocked (entry_at (settled_at filling (follow code (At at s) Success)).entries) (follow code (At at s) Success)
-    k c
-    → IsReported code k c
-first_blocked code filling turns at s k c filled here blocked =
-    blocked-at code filling at s Success k c (follow code (At at s) Success) filled.same_length filled.reached here refl
+pub first_blocked : (f : Function) (filling : Filling) (turns at : ℕ) (s : State) (k : ℕ) (c : CheckCode)
+    → IsFilledTo f filling turns → entry_at filling.entries at ≡ Some s
+    → IsBlocked (entry_at (settled_at filling (follow f.code (At at s) Success)).entries)
+    (follow f.code (At at s) Success) k c
+    → IsReported f k c
+first_blocked f filling turns at s k c filled here blocked =
+    blocked-at f filling at s Success k c (follow f.code (At at s) Success) filled.same_length filled.reached here refl
     blocked
 
-pub second_blocked : (code : List Instr) (filling : Filling) (turns at : ℕ) (s : State) (k : ℕ) (c : CheckCode)
-    → IsFilledTo code filling turns → entry_at filling.entries at ≡ Some s
-    → (let once = settled_at filling (follow code (At at s) Success) in IsBlocked
-    (entry_at (settled_at once (follow code (At at s) Fault)).entries) (follow code (At at s) Fault) k c)
-    → IsReported code k c
-second_blocked code filling turns at s k c filled here blocked =
-    let first = leads code filling at s Success filled.same_length in
-    blocked-at code (settled_at filling (follow code (At at s) Success)) at s Fault k c (follow code (At at s) Fault)
-    (first.same_length ∙ filled.same_length) (reached-led code filling at s Success filled.same_length filled.reached
+pub second_blocked : (f : Function) (filling : Filling) (turns at : ℕ) (s : State) (k : ℕ) (c : CheckCode)
+    → IsFilledTo f filling turns → entry_at filling.entries at ≡ Some s
+    → (let once = settled_at filling (follow f.code (At at s) Success) in IsBlocked
+    (entry_at (settled_at once (follow f.code (At at s) Fault)).entries) (follow f.code (At at s) Fault) k c)
+    → IsReported f k c
+second_blocked f filling turns at s k c filled here blocked =
+    let first = leads f.code filling at s Success filled.same_length in
+    blocked-at f (settled_at filling (follow f.code (At at s) Success)) at s Fault k c (follow f.code (At at s) Fault)
+    (first.same_length ∙ filled.same_length) (reached-led f filling at s Success filled.same_length filled.reached
     here)
     (first.kept at s here) refl blocked
 
 -- Each point of an earlier turn is closed still: its entry is the same, and so are those of its targets.
-closed-before : (code : List Instr) (old new : Filling) (turns : ℕ) → IsFilledTo code old turns
+closed-before : (f : Function) (old new : Filling) (turns : ℕ) → IsFilledTo f old turns
     → turns < length old.order
     → ((k : ℕ) (t : State) → entry_at old.entries k ≡ Some t → entry_at new.entries k ≡ Some t)
     → ((turn k : ℕ) → slice_get old.order turn ≡ Some k → slice_get new.order turn ≡ Some k)
     → (turn k : ℕ) (t : State) (exit : Exit) → turn < turns → slice_get new.order turn ≡ Some k
-    → entry_at new.entries k ≡ Some t → StaysOn (entry_at new.entries) (follow code (At k t) exit)
-closed-before code old new turns filled within kept same_turns turn k t exit before is e =
+    → entry_at new.entries k ≡ Some t → StaysOn (entry_at new.entries) (follow f.code (At k t) exit)
+closed-before f old new turns filled within kept same_turns turn k t exit before is e =
     let was = slice_get-get_or old.order turn k (omega (arith, before, within)) in
     let point = same_Some _ k (sym (same_turns turn _ was) ∙ is) in
     let in_old : slice_get old.order turn ≡ Some k = was ∙ ap Some point in
     let there = filled.in_order.known turn k in_old in
     let state : there.0 ≡ t = same_Some there.0 t (sym (kept k there.0 there.1) ∙ e) in
-    stays-kept old.entries new.entries (follow code (At k t) exit) kept
+    stays-kept old.entries new.entries (follow f.code (At k t) exit) kept
     (filled.closed turn k before in_old t exit (there.1 ∙ ap Some state))
 
 -- a turn at which no point is found is over
-pub filled_none : (code : List Instr) (filling : Filling) (turns : ℕ) → IsFilledTo code filling turns
-    → length filling.order ≤ turns → IsFilledTo code filling (turns + 1)
-filled_none code filling turns filled past = record {
+pub filled_none : (f : Function) (filling : Filling) (turns : ℕ) → IsFilledTo f filling turns
+    → length filling.order ≤ turns → IsFilledTo f filling (turns + 1)
+filled_none f filling turns filled past = record {
   same_length = filled.same_length;
   begins = filled.begins;
   reached = filled.reached;
@@ -174,38 +175,38 @@ filled_none code filling turns filled past = record {
       (let within = slice_get_within filling.order turn k is in omega (arith, within, past)) is;
 }
 
-pub filled_both : (code : List Instr) (filling : Filling) (turns at : ℕ) (s : State)
-    → IsFilledTo code filling turns → slice_get filling.order turns ≡ Some at → entry_at filling.entries at ≡ Some s
-    → (let once = settled_at filling (follow code (At at s) Success) in
-    let twice = settled_at once (follow code (At at s) Fault) in
-    StaysOn (entry_at once.entries) (follow code (At at s) Success)
-    → StaysOn (entry_at twice.entries) (follow code (At at s) Fault)
-    → IsFilledTo code twice (turns + 1))
-filled_both code filling turns at s filled next here on_success on_fault =
-    let once = settled_at filling (follow code (At at s) Success) in
-    let twice = settled_at once (follow code (At at s) Fault) in
-    let first = leads code filling at s Success filled.same_length in
-    let same_once : length once.entries ≡ length code = first.same_length ∙ filled.same_length in
-    let second = leads code once at s Fault same_once in
-    let reached_once = reached-led code filling at s Success filled.same_length filled.reached here in
+pub filled_both : (f : Function) (filling : Filling) (turns at : ℕ) (s : State)
+    → IsFilledTo f filling turns → slice_get filling.order turns ≡ Some at → entry_at filling.entries at ≡ Some s
+    → (let once = settled_at filling (follow f.code (At at s) Success) in
+    let twice = settled_at once (follow f.code (At at s) Fault) in
+    StaysOn (entry_at once.entries) (follow f.code (At at s) Success)
+    → StaysOn (entry_at twice.entries) (follow f.code (At at s) Fault)
+    → IsFilledTo f twice (turns + 1))
+filled_both f filling turns at s filled next here on_success on_fault =
+    let once = settled_at filling (follow f.code (At at s) Success) in
+    let twice = settled_at once (follow f.code (At at s) Fault) in
+    let first = leads f.code filling at s Success filled.same_length in
+    let same_once : length once.entries ≡ length f.code = first.same_length ∙ filled.same_length in
+    let second = leads f.code once at s Fault same_once in
+    let reached_once = reached-led f filling at s Success filled.same_length filled.reached here in
     let kept : (k : ℕ) (t : State) → entry_at filling.entries k ≡ Some t
     → entry_at twice.entries k ≡ Some t = λ k t e. second.kept k t (first.kept k t e) in
     let same_turns : (turn k : ℕ) → slice_get filling.order turn ≡ Some k
     → slice_get twice.order turn ≡ Some k = λ turn k e. second.turns turn k (first.turns turn k e) in
     let here_on : (exit : Exit)
-    → StaysOn (entry_at twice.entries) (follow code (At at s) exit) =
-    λ exit. elim exit as (λ e. StaysOn (entry_at twice.entries) (follow code (At at s) e)) [
-      | Success ↦ stays-kept once.entries twice.entries (follow code (At at s) Success) second.kept on_success
+    → StaysOn (entry_at twice.entries) (follow f.code (At at s) exit) =
+    λ exit. elim exit as (λ e. StaysOn (entry_at twice.entries) (follow f.code (At at s) e)) [
+      | Success ↦ stays-kept once.entries twice.entries (follow f.code (At at s) Success) second.kept on_success
       | Fault ↦ on_fault
     ] in
     record {
       same_length = second.same_length ∙ same_once;
-      begins = kept 0 entry filled.begins;
-      reached = reached-led code once at s Fault same_once reached_once (first.kept at s here);
+      begins = kept 0 (entry_of f.parameters) filled.begins;
+      reached = reached-led f once at s Fault same_once reached_once (first.kept at s here);
       in_order = second.in_order (first.in_order filled.in_order);
       closed = λ turn k lt is t exit e. elim (cases_lt turn turns) [
         | inl before ↦
-            closed-before code filling twice turns filled (slice_get_within filling.order turns at next) kept same_turns
+            closed-before f filling twice turns filled (slice_get_within filling.order turns at next) kept same_turns
             turn k t exit before is e
         | inr from ↦
             let last : turn ≡ turns = omega (arith, from, lt) in
@@ -213,7 +214,7 @@ filled_both code filling turns at s filled next here on_success on_fault =
             same_Some k at (sym is ∙ ap (slice_get twice.order) last ∙ same_turns turns at next) in
             let state : t ≡ s =
             same_Some t s (sym e ∙ ap (entry_at twice.entries) point ∙ kept at s here) in
-            subst (λ (p : PathEnd). StaysOn (entry_at twice.entries) (follow code p exit)) (sym (same_end k at t s
+            subst (λ (p : PathEnd). StaysOn (entry_at twice.entries) (follow f.code p exit)) (sym (same_end k at t s
             point state))
             (here_on exit)
       ];
@@ -228,49 +229,50 @@ settled-again filling Ended on = refl
 settled-again filling (Reports at c) on = absurd on
 
 -- an instruction whose exits are one has no second exit to follow
-pub filled_one : (code : List Instr) (filling once : Filling) (turns at : ℕ) (s : State)
-    → IsFilledTo code filling turns → slice_get filling.order turns ≡ Some at → entry_at filling.entries at ≡ Some s
-    → once ≡ settled_at filling (follow code (At at s) Success)
-    → StaysOn (entry_at once.entries) (follow code (At at s) Success)
-    → follow code (At at s) Fault ≡ follow code (At at s) Success
-    → IsFilledTo code once (turns + 1)
-filled_one code filling once turns at s filled next here is on same =
-    let success = follow code (At at s) Success in
+pub filled_one : (f : Function) (filling once : Filling) (turns at : ℕ) (s : State)
+    → IsFilledTo f filling turns → slice_get filling.order turns ≡ Some at → entry_at filling.entries at ≡ Some s
+    → once ≡ settled_at filling (follow f.code (At at s) Success)
+    → StaysOn (entry_at once.entries) (follow f.code (At at s) Success)
+    → follow f.code (At at s) Fault ≡ follow f.code (At at s) Success
+    → IsFilledTo f once (turns + 1)
+filled_one f filling once turns at s filled next here is on same =
+    let success = follow f.code (At at s) Success in
     let led = settled_at filling success in
     let on_led : StaysOn (entry_at led.entries) success =
-    subst (λ (f : Filling). StaysOn (entry_at f.entries) success) is on in
-    let again : settled_at led (follow code (At at s) Fault) ≡ led =
+    subst (λ (now : Filling). StaysOn (entry_at now.entries) success) is on in
+    let again : settled_at led (follow f.code (At at s) Fault) ≡ led =
     ap (settled_at led) same ∙ settled-again led success on_led in
-    subst (λ (f : Filling). IsFilledTo code f (turns + 1)) (again ∙ sym is)
-    (filled_both code filling turns at s filled next here on_led
-    (subst (λ (f : Filling). StaysOn (entry_at f.entries) (follow code (At at s) Fault)) (sym again)
+    subst (λ (now : Filling). IsFilledTo f now (turns + 1)) (again ∙ sym is)
+    (filled_both f filling turns at s filled next here on_led
+    (subst (λ (now : Filling). StaysOn (entry_at now.entries) (follow f.code (At at s) Fault)) (sym again)
     (subst (StaysOn (entry_at led.entries)) (sym same) on_led)))
 
 -- ---- all entries of a function
 
-pub filled_first : (code : List Instr) (filling : Filling) → 0 < length code → filling ≡ first_filling (length code)
-    → IsFilledTo code filling 0
-filled_first code filling some begun = rw begun (record {
+pub filled_first : (f : Function) (filling : Filling) → 0 < length f.code
+    → filling ≡ first_filling (entry_of f.parameters) (length f.code)
+    → IsFilledTo f filling 0
+filled_first f filling some begun = rw begun (record {
   same_length =
-      let n : length (replicate {A = Option State} (length code - 1) None) ≡ length code - 1 =
-      length-replicate (length code - 1) None in
+      let n : length (replicate {A = Option State} (length f.code - 1) None) ≡ length f.code - 1 =
+      length-replicate (length f.code - 1) None in
       omega (arith, n, some);
   begins = refl;
   reached = λ k s e.
-      let first = first-entry (length code) k s e in
-      subst (Reaches code k) first.1 (subst (λ (j : ℕ). Reaches code j entry) (sym first.0) (begins code));
-  in_order = first-in_order (length code);
+      let first = first-entry (entry_of f.parameters) (length f.code) k s e in
+      subst (Reaches f k) first.1 (subst (λ (j : ℕ). Reaches f j (entry_of f.parameters)) (sym first.0) (begins f));
+  in_order = first-in_order (entry_of f.parameters) (length f.code);
   closed = λ turn k lt. absurd (omega (arith, lt));
 })
 
 -- No more points are found than the function has: once there has been a turn for each, all are closed.
-pub filled_last : (code : List Instr) (filling : Filling) (turns : ℕ) → IsFilledTo code filling turns
-    → length code ≤ turns → IsFilled code filling.entries
-filled_last code filling turns filled all =
+pub filled_last : (f : Function) (filling : Filling) (turns : ℕ) → IsFilledTo f filling turns
+    → length f.code ≤ turns → IsFilled f filling.entries
+filled_last f filling turns filled all =
     let few = count_by-le-length {X = Option State} is_some filling.entries in
     let once = filled.in_order.once in
     let same = filled.same_length in
-    let closed : IsClosed code (entry_at filling.entries) = record {
+    let closed : IsClosed f (entry_at filling.entries) = record {
       begins = filled.begins;
       goes_on =
           λ at s exit e.
@@ -280,39 +282,39 @@ filled_last code filling turns filled all =
     } in
     record {
       same_length = filled.same_length;
-      truth = λ at s. (filled.reached at s, closed-reached code (entry_at filling.entries) closed at s);
-      acceptable = closed-acceptable code (entry_at filling.entries) closed;
+      truth = λ at s. (filled.reached at s, closed-reached f (entry_at filling.entries) closed at s);
+      acceptable = closed-acceptable f (entry_at filling.entries) closed;
     }
 
 -- ---- the entries found so far
 
-pub filled_reached : (code : List Instr) (filling : Filling) (turns : ℕ) → IsFilledTo code filling turns
-    → AreReached code filling.entries
-filled_reached code filling turns filled =
+pub filled_reached : (f : Function) (filling : Filling) (turns : ℕ) → IsFilledTo f filling turns
+    → AreReached f filling.entries
+filled_reached f filling turns filled =
     record { same_length = filled.same_length; begins = filled.begins; reached = filled.reached }
 
-pub first_reached : (code : List Instr) (filling : Filling) (turns at : ℕ) (s : State)
-    → IsFilledTo code filling turns → entry_at filling.entries at ≡ Some s
-    → AreReached code (settled_at filling (follow code (At at s) Success)).entries
-first_reached code filling turns at s filled here =
-    let first = leads code filling at s Success filled.same_length in
+pub first_reached : (f : Function) (filling : Filling) (turns at : ℕ) (s : State)
+    → IsFilledTo f filling turns → entry_at filling.entries at ≡ Some s
+    → AreReached f (settled_at filling (follow f.code (At at s) Success)).entries
+first_reached f filling turns at s filled here =
+    let first = leads f.code filling at s Success filled.same_length in
     record {
       same_length = first.same_length ∙ filled.same_length;
-      begins = first.kept 0 entry filled.begins;
-      reached = reached-led code filling at s Success filled.same_length filled.reached here;
+      begins = first.kept 0 (entry_of f.parameters) filled.begins;
+      reached = reached-led f filling at s Success filled.same_length filled.reached here;
     }
 
-pub both_reached : (code : List Instr) (filling : Filling) (turns at : ℕ) (s : State)
-    → IsFilledTo code filling turns → entry_at filling.entries at ≡ Some s
-    → (let once = settled_at filling (follow code (At at s) Success) in
-    AreReached code (settled_at once (follow code (At at s) Fault)).entries)
-both_reached code filling turns at s filled here =
-    let once = settled_at filling (follow code (At at s) Success) in
-    let first = first_reached code filling turns at s filled here in
-    let before = leads code filling at s Success filled.same_length in
-    let second = leads code once at s Fault first.same_length in
+pub both_reached : (f : Function) (filling : Filling) (turns at : ℕ) (s : State)
+    → IsFilledTo f filling turns → entry_at filling.entries at ≡ Some s
+    → (let once = settled_at filling (follow f.code (At at s) Success) in
+    AreReached f (settled_at once (follow f.code (At at s) Fault)).entries)
+both_reached f filling turns at s filled here =
+    let once = settled_at filling (follow f.code (At at s) Success) in
+    let first = first_reached f filling turns at s filled here in
+    let before = leads f.code filling at s Success filled.same_length in
+    let second = leads f.code once at s Fault first.same_length in
     record {
       same_length = second.same_length ∙ first.same_length;
-      begins = second.kept 0 entry first.begins;
-      reached = reached-led code once at s Fault first.same_length first.reached (before.kept at s here);
+      begins = second.kept 0 (entry_of f.parameters) first.begins;
+      reached = reached-led f once at s Fault first.same_length first.reached (before.kept at s here);
     }

@@ -1,11 +1,12 @@
 -- The states of one function's points compared with the steps of its paths.
 use Rattle.std.specs.Prelude.{◌≡◌, ◌≢◌, ◌⊎◌, ℕ, List, Option, Some}
+use Rattle.brc_lang.specs.declared.module.Function.{Function}
 use Rattle.brc_lang.specs.declared.module.Instr.{Instr}
 use Rattle.brc_lang.specs.declared.check_code.CheckCode.{CheckCode}
 use Rattle.brc_lang.specs.declared.check_code.CheckCode.TheVariants.{StatesDiffer}
 use Rattle.brc_model.specs.declared.state.State.{State}
 use Rattle.brc_model.specs.declared.state.Exit.{Exit}
-use Rattle.brc_model.specs.VarStates.{entry}
+use Rattle.brc_model.specs.VarStates.{entry_of}
 use Rattle.brc_model.specs.Paths.{PathEnd, At, Ended, Reports, follow}
 use Rattle.brc_check.specs.declared.step.Step.{Step}
 use Rattle.brc_check.specs.declared.step.Step.TheVariants.{To, Ends, Error}
@@ -34,10 +35,10 @@ StaysOn states (Reports at code) = ⊥
 abbrev pub IsClosedAt : List Instr → (ℕ → Option State) → ℕ → Type 0
 IsClosedAt code states at = (s : State) (exit : Exit) → states at ≡ Some s → StaysOn states (follow code (At at s) exit)
 
--- the first point has the state in which a function begins, and each point is closed
-pub record IsClosed (code : List Instr) (states : ℕ → Option State) : Type 0 where
-  pub begins : states 0 ≡ Some entry
-  pub goes_on : (at : ℕ) → IsClosedAt code states at
+-- the first point has the state in which the function begins, and each point is closed
+pub record IsClosed (f : Function) (states : ℕ → Option State) : Type 0 where
+  pub begins : states 0 ≡ Some (entry_of f.parameters)
+  pub goes_on : (at : ℕ) → IsClosedAt f.code states at
 
 -- ---- what breaks it
 
@@ -58,15 +59,15 @@ pub record DiffersFrom (code : List Instr) (states : ℕ → Option State) (at :
   pub leads : follow code (At before state) exit ≡ At at arriving
   pub apart : states at ≢ Some arriving
 
--- the first point hasn't the state in which a function begins
-abbrev pub DiffersAtEntry : (ℕ → Option State) → ℕ → Type 0
-DiffersAtEntry states at = (at ≡ 0) × (states 0 ≢ Some entry)
+-- the first point hasn't the state in which the function begins
+abbrev pub DiffersAtEntry : Function → (ℕ → Option State) → ℕ → Type 0
+DiffersAtEntry f states at = (at ≡ 0) × (states 0 ≢ Some (entry_of f.parameters))
 
 -- the code with which the states are refused at a point
-abbrev pub IsErrorAt : List Instr → (ℕ → Option State) → ℕ → CheckCode → Type 0
-IsErrorAt code states at reported =
-    ReportsFrom code states at reported
-    ⊎ ((reported ≡ StatesDiffer) × (DiffersFrom code states at ⊎ DiffersAtEntry states at))
+abbrev pub IsErrorAt : Function → (ℕ → Option State) → ℕ → CheckCode → Type 0
+IsErrorAt f states at reported =
+    ReportsFrom f.code states at reported
+    ⊎ ((reported ≡ StatesDiffer) × (DiffersFrom f.code states at ⊎ DiffersAtEntry f states at))
 
 -- ---- one end of a path
 

@@ -1,7 +1,6 @@
 -- The meaning of a refusal.
 use Rattle.std.specs.Prelude.{◌≡◌, ◌⊎◌, ℕ, List, Contains, Some, slice_get}
 use Rattle.brc_lang.specs.declared.module.Function.{Function}
-use Rattle.brc_lang.specs.declared.module.Instr.{Instr}
 use Rattle.brc_lang.specs.declared.check_code.CheckCode.{CheckCode}
 use Rattle.brc_lang.specs.declared.check_code.CheckCode.TheVariants.{StatesDiffer, NoMemory}
 use Rattle.brc_model.specs.Paths.{ReportsCode}
@@ -12,15 +11,15 @@ use Rattle.brc_check.specs.Entries.{IsErrorAt}
 use Rattle.brc_check.specs.Tables.{HasShape, entries_of, state_at}
 
 -- a path reports the code at the point, or two paths reach the point in different states
-abbrev pub IsReported : List Instr → ℕ → CheckCode → Type 0
-IsReported code at reported = ReportsCode code at reported ⊎ ((reported ≡ StatesDiffer) × StatesDifferAt code at)
+abbrev pub IsReported : Function → ℕ → CheckCode → Type 0
+IsReported f at reported = ReportsCode f at reported ⊎ ((reported ≡ StatesDiffer) × StatesDifferAt f at)
 
 -- it names a function, and what is reported in that function
 pub record IsRefusedFor (functions : List Function) (r : Refused) : Type 0 where
   pub function : Function
   pub listed : Contains functions function
   pub named : function.name ≡ r.function
-  pub reported : IsReported function.code r.at r.code
+  pub reported : IsReported function r.at r.code
 
 abbrev pub IsForMemory : Refused → Type 0
 IsForMemory r = r.code ≡ NoMemory
@@ -47,7 +46,7 @@ pub record IsFunctionError (functions : List Function) (table : List (List KeptE
   pub function : Function
   pub listed : slice_get functions number ≡ Some function
   pub named : function.name ≡ r.function
-  pub error : IsErrorAt function.code (state_at function.code (entries_of table number)) r.at r.code
+  pub error : IsErrorAt function (state_at function.code (entries_of table number)) r.at r.code
 
 abbrev pub IsTableError : List Function → List (List KeptEntry) → Refused → Type 0
 IsTableError functions table r = IsShapeError functions table r ⊎ IsFunctionError functions table r

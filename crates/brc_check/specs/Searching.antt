@@ -2,24 +2,25 @@
 use Rattle.std.specs.Prelude.{◌≡◌, ◌<◌, ◌≤◌, ◌-◌, ℕ, suc, List, [], ◌∷◌}
 use Rattle.std.specs.Prelude.{◌++◌, length, replicate, None, Some, is_none, slice_get, slice_set, if◌then◌else◌}
 use Rattle.std.specs.List.{slice_index_or}
+use Rattle.brc_lang.specs.declared.module.Function.{Function}
 use Rattle.brc_lang.specs.declared.module.Instr.{Instr}
 use Rattle.brc_lang.specs.declared.check_code.CheckCode.{CheckCode}
 use Rattle.brc_lang.specs.declared.check_code.CheckCode.TheVariants.{StatesDiffer}
 use Rattle.brc_model.specs.declared.state.State.{State}
 use Rattle.brc_model.specs.declared.state.Exit.{Exit}
 use Rattle.brc_model.specs.declared.state.Exit.TheVariants.{Success}
-use Rattle.brc_model.specs.VarStates.{entry}
+use Rattle.brc_model.specs.VarStates.{entry_of}
 use Rattle.brc_model.specs.Paths.{PathEnd, At, Ended, Reports, follow}
 use Rattle.brc_check.specs.declared.visits.Visit.{Visit}
 use Rattle.brc_check.specs.declared.visits.Visits.{Visits}
 
--- the visit of the function's entry
-abbrev pub first_visit : Visit
-first_visit = record { at = 0; state = entry; before = 0; exit = Success }
+-- the visit of the entry of a function that begins in this state
+abbrev pub first_visit : State → Visit
+first_visit entry = record { at = 0; state = entry; before = 0; exit = Success }
 
 -- the visits of a search through this many instructions at first
-abbrev pub first_visits : ℕ → Visits
-first_visits count = record { list = first_visit ∷ []; firsts = Some 0 ∷ replicate (count - 1) None }
+abbrev pub first_visits : State → ℕ → Visits
+first_visits entry count = record { list = first_visit entry ∷ []; firsts = Some 0 ∷ replicate (count - 1) None }
 
 -- one visit more
 abbrev pub added : Visits → Visit → Visits
@@ -74,9 +75,9 @@ pub record IsLinked (code : List Instr) (list : List Visit) (v : Visit) : Type 0
   pub leads : follow code (At from.at from.state) v.exit ≡ At v.at v.state
 
 -- the first visit is that of the function's entry, and the exits of the others lead to them
-pub record AreLinked (code : List Instr) (list : List Visit) : Type 0 where
-  pub begins : slice_get list 0 ≡ Some first_visit
-  pub linked : (number : ℕ) (v : Visit) → slice_get list (suc number) ≡ Some v → IsLinked code list v
+pub record AreLinked (f : Function) (list : List Visit) : Type 0 where
+  pub begins : slice_get list 0 ≡ Some (first_visit (entry_of f.parameters))
+  pub linked : (number : ℕ) (v : Visit) → slice_get list (suc number) ≡ Some v → IsLinked f.code list v
 
 -- ---- what the search has gone past
 
@@ -87,20 +88,20 @@ IsPassed list at reported Ended = Unit {0}
 IsPassed list at reported (Reports point code) = point ≡ at → code ≡ reported → ⊥
 
 -- both exits of the first visits, as many as there were turns, are passed, and nothing that is wanted is found
-pub record IsSearchedTo (code : List Instr) (at : ℕ) (reported : CheckCode) (visits : Visits) (turns : ℕ) : Type 0 where
-  pub same_length : length visits.firsts ≡ length code
-  pub within : (number : ℕ) (v : Visit) → slice_get visits.list number ≡ Some v → v.at < length code
+pub record IsSearchedTo (f : Function) (at : ℕ) (reported : CheckCode) (visits : Visits) (turns : ℕ) : Type 0 where
+  pub same_length : length visits.firsts ≡ length f.code
+  pub within : (number : ℕ) (v : Visit) → slice_get visits.list number ≡ Some v → v.at < length f.code
   pub firsts : AreFirsts visits
   pub chained : IsChained visits.list
-  pub linked : AreLinked code visits.list
+  pub linked : AreLinked f visits.list
   pub alike : reported ≡ StatesDiffer → (s t : State) → IsVisited visits.list at s → IsVisited visits.list at t → s ≡ t
   pub passed : (turn : ℕ) (v : Visit) (exit : Exit) → turn < turns → slice_get visits.list turn ≡ Some v
-      → IsPassed visits.list at reported (follow code (At v.at v.state) exit)
+      → IsPassed visits.list at reported (follow f.code (At v.at v.state) exit)
 
 -- one exit of the visit of this turn is passed too, and every visit is kept
-pub record HasPassed (code : List Instr) (at : ℕ) (reported : CheckCode) (old new : Visits) (turn : ℕ)
+pub record HasPassed (f : Function) (at : ℕ) (reported : CheckCode) (old new : Visits) (turn : ℕ)
     (exit : Exit) : Type 0 where
-  pub searched : IsSearchedTo code at reported new turn
+  pub searched : IsSearchedTo f at reported new turn
   pub kept : (number : ℕ) (v : Visit) → slice_get old.list number ≡ Some v → slice_get new.list number ≡ Some v
   pub passed : (v : Visit) → slice_get old.list turn ≡ Some v
-      → IsPassed new.list at reported (follow code (At v.at v.state) exit)
+      → IsPassed new.list at reported (follow f.code (At v.at v.state) exit)

@@ -1,11 +1,9 @@
 //! The entries of a function while they are inferred.
 
 ghost use Rattle.std.specs.Prelude.{◌≡◌, ◌<◌, ◌≤◌, ◌-◌, ◌∷◌, length, replicate, IfOk, IsTrue, MatchOption, None, Some};
-ghost use Rattle.brc_model.specs.VarStates.{entry};
 ghost use Rattle.brc_check.specs.Filling.{entry_at, first_filling, settled, IsInOrder, IsFoundAt};
 
 use crate::entries::entry_at;
-use crate::state::entry;
 use brc_lang::Sequence;
 use brc_model::State;
 use std::alloc::{AllocError, Global};
@@ -18,12 +16,16 @@ pub struct Filling {
 }
 
 /// Returns the entries of `count` points before any exit is followed: only that of the first point is known.
-fn first_entries(alloc: Global, count: usize) -> Result<Sequence<Option<State>>, AllocError>
+fn first_entries(
+    alloc: Global,
+    entry: &State,
+    count: usize,
+) -> Result<Sequence<Option<State>>, AllocError>
     requires { 0 < count }
-    ensures { IfOk result (λ entries. entries ≡ Some entry ∷ replicate (count - 1) None) }
+    ensures { IfOk result (λ entries. entries ≡ Some entry.now ∷ replicate (count - 1) None) }
 {
     let mut entries = Sequence::new(alloc);
-    entries.push(Some(entry()))?;
+    entries.push(Some(*entry))?;
     for _at in 1..count {
         entries.push(None)?;
     }
@@ -31,12 +33,12 @@ fn first_entries(alloc: Global, count: usize) -> Result<Sequence<Option<State>>,
 }
 
 /// Returns what is known of a function of `count` instructions at first: the first point is found, in the state in
-/// which a function begins.
-pub fn first_filling(alloc: Global, count: usize) -> Result<Filling, AllocError>
+/// which the function begins.
+pub fn first_filling(alloc: Global, entry: &State, count: usize) -> Result<Filling, AllocError>
     requires { 0 < count }
-    ensures { IfOk result (λ filling. filling ≡ first_filling count) }
+    ensures { IfOk result (λ filling. filling ≡ first_filling entry.now count) }
 {
-    let entries = first_entries(alloc, count)?;
+    let entries = first_entries(alloc, entry, count)?;
     let mut order = Sequence::new(alloc);
     order.push(0)?;
     Ok(Filling { entries, order })

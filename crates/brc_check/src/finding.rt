@@ -11,10 +11,11 @@ ghost use Rattle.brc_check.specs.Searching.{AreFirsts, IsUnrivalled, IsRival, Is
 
 use crate::path::Path;
 use crate::refused::{CodeAt, Refused};
+use crate::state::entry_of;
 use crate::step::{Step, follow};
 use crate::trail::{exits_by, exits_to};
 use crate::visits::{Visit, Visits, add, first_visits, is_visited};
-use brc_lang::{CheckCode, Function, Instr, Module};
+use brc_lang::{CheckCode, Function, Module};
 use brc_model::Exit;
 use std::alloc::{AllocError, Global};
 
@@ -40,18 +41,19 @@ fn rival(visits: &Visits, wanted: CodeAt, at: usize) -> Option<usize>
 /// Follows one exit of the visit of this turn. Returns a path to what is wanted if there is one by that exit.
 fn pass(
     alloc: Global,
-    code: &[Instr],
+    function: &Function,
     wanted: CodeAt,
     visits: &mut Visits,
     turn: usize,
     exit: Exit,
 ) -> Result<Option<Path>, AllocError>
-    requires searched { IsSearchedTo code.now wanted.at wanted.code visits.old turn }
+    requires searched { IsSearchedTo function.now wanted.at wanted.code visits.old turn }
     requires within { turn < length visits.old.list }
     ensures { IfOk result (λ found. MatchOption found
-        (HasPassed code.now wanted.at wanted.code visits.old visits.new turn exit)
-        (LeadsTo code.now wanted.at wanted.code)) }
+        (HasPassed function.now wanted.at wanted.code visits.old visits.new turn exit)
+        (LeadsTo function.now wanted.at wanted.code)) }
 {
+    let code = function.code.as_slice();
     let from = visits.list.as_slice()[turn];
     match follow(code, from.at, &from.state, exit) {
         Step::Ends => Ok(None),
@@ -88,33 +90,34 @@ fn pass(
 /// Follows both exits of the visit of this turn.
 fn pass_both(
     alloc: Global,
-    code: &[Instr],
+    function: &Function,
     wanted: CodeAt,
     visits: &mut Visits,
     turn: usize,
 ) -> Result<Option<Path>, AllocError>
-    requires searched { IsSearchedTo code.now wanted.at wanted.code visits.old turn }
+    requires searched { IsSearchedTo function.now wanted.at wanted.code visits.old turn }
     requires within { turn < length visits.old.list }
     ensures { IfOk result (λ found. MatchOption found
-        (IsSearchedTo code.now wanted.at wanted.code visits.new (turn + 1))
-        (LeadsTo code.now wanted.at wanted.code)) }
+        (IsSearchedTo function.now wanted.at wanted.code visits.new (turn + 1))
+        (LeadsTo function.now wanted.at wanted.code)) }
 {
-    if let Some(path) = pass(alloc, code, wanted, visits, turn, Exit::Success)? {
+    if let Some(path) = pass(alloc, function, wanted, visits, turn, Exit::Success)? {
         return Ok(Some(path));
     }
-    pass(alloc, code, wanted, visits, turn, Exit::Fault)
+    pass(alloc, function, wanted, visits, turn, Exit::Fault)
 }
 
 /// Returns a path to what is wanted, or `None` if there is none.
-fn search(alloc: Global, code: &[Instr], wanted: CodeAt) -> Result<Option<Path>, AllocError>
-    requires { 0 < length code.now }
-    ensures { IfOk result (λ found. MatchOption found (IsReported code.now wanted.at wanted.code → ⊥)
-        (LeadsTo code.now wanted.at wanted.code)) }
+fn search(alloc: Global, function: &Function, wanted: CodeAt) -> Result<Option<Path>, AllocError>
+    requires { 0 < length function.now.code }
+    ensures { IfOk result (λ found. MatchOption found (IsReported function.now wanted.at wanted.code → ⊥)
+        (LeadsTo function.now wanted.at wanted.code)) }
 {
-    let mut visits = first_visits(alloc, code.len())?;
+    let entry = entry_of(function.parameters.as_slice());
+    let mut visits = first_visits(alloc, &entry, function.code.len())?;
     let mut turn = 0;
     while turn < visits.list.len() {
-        if let Some(path) = pass_both(alloc, code, wanted, &mut visits, turn)? {
+        if let Some(path) = pass_both(alloc, function, wanted, &mut visits, turn)? {
             return Ok(Some(path));
         }
         turn += 1;
@@ -130,9 +133,9 @@ fn path_in(
 ) -> Result<Option<Path>, AllocError>
     requires { IsFunction function.now }
     ensures { IfOk result (λ found. MatchOption found
-        (function.now.name ≡ refused.now.function → IsReported function.now.code refused.now.at refused.now.code → ⊥)
+        (function.now.name ≡ refused.now.function → IsReported function.now refused.now.at refused.now.code → ⊥)
         (λ path. (function.now.name ≡ refused.now.function)
-        × LeadsTo function.now.code refused.now.at refused.now.code path)) }
+        × LeadsTo function.now refused.now.at refused.now.code path)) }
 {
     if function.name.as_bytes() != refused.function.as_bytes() {
         return Ok(None);
@@ -141,7 +144,7 @@ fn path_in(
         at: refused.at,
         code: refused.code,
     };
-    search(alloc, function.code.as_slice(), wanted)
+    search(alloc, function, wanted)
 }
 
 /// Returns the exits that lead to what is refused: a path that reports the code at the point, or two paths that reach

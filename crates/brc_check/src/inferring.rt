@@ -4,7 +4,8 @@
 
 ghost use Rattle.std.specs.Prelude.{◌≡◌, ◌⊎◌, ◌<◌, ◌+◌, length, IfOk, OnOk, IfErr, MatchOption, MatchResult};
 ghost use Rattle.brc_lang.specs.Grammar.{IsModule, IsFunction};
-ghost use Rattle.brc_model.specs.Paths.{IsAcceptable, IsAcceptableCode, follow, At};
+ghost use Rattle.brc_model.specs.Paths.{IsAcceptable, IsAcceptableFunction, follow, At};
+ghost use Rattle.brc_model.specs.VarStates.{entry_of};
 ghost use Rattle.brc_check.specs.Entries.{StaysOn, IsBlocked};
 ghost use Rattle.brc_check.specs.Filling.{entry_at, first_filling, settled_at, IsFilledTo, IsFilled, IsInferred, AreReached};
 ghost use Rattle.brc_check.specs.Filling.{AreTrue};
@@ -16,6 +17,7 @@ use crate::filling::{Filling, first_filling, found_at, settle};
 use crate::kept_entry::KeptEntry;
 use crate::kept_points::{has_two_exits, keep};
 use crate::refused::{CodeAt, Refused};
+use crate::state::entry_of;
 use crate::step::{Step, follow};
 use crate::table::Table;
 use brc_lang::{CheckCode, Function, Instr, Module, Name, Sequence};
@@ -49,12 +51,17 @@ fn lead(
 }
 
 /// Follows both exits of the point found at this turn, if there is one.
-fn lead_on(code: &[Instr], filling: &mut Filling, turn: usize) -> Result<Option<CodeAt>, AllocError>
-    requires { IsFilledTo code.now filling.old turn }
-    ensures filled { IfOk result (λ reported. MatchOption reported (IsFilledTo code.now filling.new (turn + 1))
-        (λ m. IsReported code.now m.at m.code)) }
-    ensures reached { IfOk result (λ reported. AreReached code.now filling.new.entries) }
+fn lead_on(
+    function: &Function,
+    filling: &mut Filling,
+    turn: usize,
+) -> Result<Option<CodeAt>, AllocError>
+    requires { IsFilledTo function.now filling.old turn }
+    ensures filled { IfOk result (λ reported. MatchOption reported (IsFilledTo function.now filling.new (turn + 1))
+        (λ m. IsReported function.now m.at m.code)) }
+    ensures reached { IfOk result (λ reported. AreReached function.now filling.new.entries) }
 {
+    let code = function.code.as_slice();
     let Some((at, state)) = found_at(filling, turn) else {
         return Ok(None);
     };
@@ -67,16 +74,16 @@ fn lead_on(code: &[Instr], filling: &mut Filling, turn: usize) -> Result<Option<
     lead(code, filling, at, &state, Exit::Fault)
 }
 
-fn fill(code: &[Instr], filling: &mut Filling) -> Result<Option<CodeAt>, AllocError>
-    requires some { 0 < length code.now }
-    requires begun { filling.old ≡ first_filling (length code.now) }
-    ensures filled { IfOk result (λ reported. MatchOption reported (IsFilled code.now filling.new.entries)
-        (λ m. IsReported code.now m.at m.code)) }
-    ensures reached { IfOk result (λ reported. AreReached code.now filling.new.entries) }
+fn fill(function: &Function, filling: &mut Filling) -> Result<Option<CodeAt>, AllocError>
+    requires some { 0 < length function.now.code }
+    requires begun { filling.old ≡ first_filling (entry_of function.now.parameters) (length function.now.code) }
+    ensures filled { IfOk result (λ reported. MatchOption reported (IsFilled function.now filling.new.entries)
+        (λ m. IsReported function.now m.at m.code)) }
+    ensures reached { IfOk result (λ reported. AreReached function.now filling.new.entries) }
 {
     // No point is found twice, so there is a turn for each.
-    for turn in 0..code.len() {
-        if let Some(reported) = lead_on(code, filling, turn)? {
+    for turn in 0..function.code.len() {
+        if let Some(reported) = lead_on(function, filling, turn)? {
             return Ok(Some(reported));
         }
     }
@@ -96,14 +103,15 @@ fn no_memory(function: Name) -> Refused
 fn infer_function(alloc: Global, function: &Function) -> Result<Sequence<KeptEntry>, Refused>
     requires { IsFunction function.now }
     ensures { MatchResult result
-        (λ kept. IsInferred function.now.code kept)
-        (λ r. (r.function ≡ function.now.name) × (IsForMemory r ⊎ IsReported function.now.code r.at r.code)) }
+        (λ kept. IsInferred function.now kept)
+        (λ r. (r.function ≡ function.now.name) × (IsForMemory r ⊎ IsReported function.now r.at r.code)) }
 {
     let code = function.code.as_slice();
-    let Ok(mut filling) = first_filling(alloc, code.len()) else {
+    let entry = entry_of(function.parameters.as_slice());
+    let Ok(mut filling) = first_filling(alloc, &entry, code.len()) else {
         return Err(no_memory(function.name));
     };
-    match fill(code, &mut filling) {
+    match fill(function, &mut filling) {
         Err(_) => Err(no_memory(function.name)),
         Ok(Some(reported)) => Err(reported.in_function(function.name)),
         Ok(None) => match keep(alloc, code, filling.entries.as_slice()) {
@@ -113,17 +121,21 @@ fn infer_function(alloc: Global, function: &Function) -> Result<Sequence<KeptEnt
     }
 }
 
-/// Returns, for each point of the code, the state in which the first path reaches it, or `None` if none does. If a path
-/// reports an error, or reaches a point in a second state, the points that only later paths find have none.
-pub fn first_states(alloc: Global, code: &[Instr]) -> Result<Sequence<Option<State>>, AllocError>
-    requires { 0 < length code.now }
-    ensures reached { IfOk result (AreReached code.now) }
-    // In code that is accepted, no point that a path reaches is left out.
-    ensures truth { IsAcceptableCode code.now → IfOk result (AreTrue code.now) }
+/// Returns, for each point of the function, the state in which the first path reaches it, or `None` if none does. If a
+/// path reports an error, or reaches a point in a second state, the points that only later paths find have none.
+pub fn first_states(
+    alloc: Global,
+    function: &Function,
+) -> Result<Sequence<Option<State>>, AllocError>
+    requires { 0 < length function.now.code }
+    ensures reached { IfOk result (AreReached function.now) }
+    // In a function that is accepted, no point that a path reaches is left out.
+    ensures truth { IsAcceptableFunction function.now → IfOk result (AreTrue function.now) }
 {
-    let mut filling = first_filling(alloc, code.len())?;
+    let entry = entry_of(function.parameters.as_slice());
+    let mut filling = first_filling(alloc, &entry, function.code.len())?;
     // The error, if there is one, is for `infer` to report.
-    let _reported = fill(code, &mut filling)?;
+    let _reported = fill(function, &mut filling)?;
     Ok(filling.entries)
 }
 

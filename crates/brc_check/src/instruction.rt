@@ -6,10 +6,11 @@ ghost use Rattle.brc_model.specs.VarStates.{lowest, after, target};
 use crate::refusing::{
     as_refusal, drop_refusal, fail_refusal, into_refusal, move_refusal, newref_refusal, ret_refusal,
 };
+use crate::refusing_calls::call_refusal;
 use crate::refusing_host::{read_refusal, write_refusal};
 use crate::refusing_items::{item_refusal, put_refusal, set_refusal};
 use crate::refusing_locks::{lock_refusal, unlock_refusal};
-use crate::variables::{forget_items, kind_of, put, var, with_kind};
+use crate::variables::{forget_items, forget_stolen, kind_of, put, var, with_kind};
 use brc_lang::{CheckCode, Instr, Kind};
 use brc_model::{Exit, State, VarState};
 
@@ -36,8 +37,7 @@ pub fn refusal(instr: Instr, state: &State) -> Option<CheckCode>
         Instr::Read { to, file, .. } => read_refusal(state, to, file),
         Instr::Write { file, number, .. } => write_refusal(state, file, number),
         Instr::As { from, kind, .. } => as_refusal(state, from, kind),
-        // No call is run yet, so each is refused.
-        Instr::Call { .. } => Some(CheckCode::WrongKind),
+        Instr::Call { to, arguments, .. } => call_refusal(state, to, arguments.as_slice()),
         Instr::Goto { .. } | Instr::Again { .. } => None,
         Instr::Ret { from } => ret_refusal(state, from),
         Instr::Fail => fail_refusal(state),
@@ -96,8 +96,13 @@ pub fn apply(instr: Instr, exit: Exit, state: &mut State)
                 put(state, from, asked);
             }
         }
+        // The arguments are stolen on both exits: the function called has given them up before it fails.
+        Instr::Call { to, arguments, .. } => {
+            let returned = VarState::Owned(Kind::Any);
+            forget_stolen(state, arguments.as_slice());
+            put(state, to, filled(returned, exit));
+        }
         Instr::Write { .. }
-        | Instr::Call { .. }
         | Instr::Goto { .. }
         | Instr::Again { .. }
         | Instr::Ret { .. }

@@ -1,7 +1,7 @@
 //! The exits of a path, read back from the visits of a search.
 
-ghost use Rattle.std.specs.Prelude.{◌≡◌, ◌<◌, List, length, reverse, slice_get, Some, IfOk};
-ghost use Rattle.brc_lang.specs.declared.module.Instr.{Instr};
+ghost use Rattle.std.specs.Prelude.{◌≡◌, ◌<◌, length, reverse, slice_get, Some, IfOk};
+ghost use Rattle.brc_lang.specs.declared.module.Function.{Function};
 ghost use Rattle.brc_model.specs.Paths.{At, follow, path_end};
 ghost use Rattle.brc_check.specs.declared.visits.Visit.{Visit};
 ghost use Rattle.brc_check.specs.Searching.{IsChained, AreLinked};
@@ -25,8 +25,8 @@ fn turned_round(alloc: Global, exits: &[Exit]) -> Result<Sequence<Exit>, AllocEr
 pub fn exits_to(alloc: Global, list: &[Visit], number: usize) -> Result<Sequence<Exit>, AllocError>
     requires within { number < length list.now }
     requires chained { IsChained list.now }
-    ensures { (code : List Instr) (v : Visit) → AreLinked code list.now → slice_get list.now number ≡ Some v
-        → IfOk result (λ exits. path_end code exits ≡ At v.at v.state) }
+    ensures { (f : Function) (v : Visit) → AreLinked f list.now → slice_get list.now number ≡ Some v
+        → IfOk result (λ exits. path_end f exits ≡ At v.at v.state) }
 {
     let mut back = Vec::new(alloc);
     let mut at = number;
@@ -47,8 +47,8 @@ pub fn exits_by(
 ) -> Result<Sequence<Exit>, AllocError>
     requires within { number < length list.now }
     requires chained { IsChained list.now }
-    ensures { (code : List Instr) (v : Visit) → AreLinked code list.now → slice_get list.now number ≡ Some v
-        → IfOk result (λ exits. path_end code exits ≡ follow code (At v.at v.state) exit) }
+    ensures { (f : Function) (v : Visit) → AreLinked f list.now → slice_get list.now number ≡ Some v
+        → IfOk result (λ exits. path_end f exits ≡ follow f.code (At v.at v.state) exit) }
 {
     let mut exits = exits_to(alloc, list, number)?;
     exits.push(exit)?;

@@ -4,9 +4,9 @@ ghost use Rattle.std.specs.Prelude.{◌≡◌, [], ◌∷◌, map};
 ghost use Rattle.std.specs.List.{list_any};
 ghost use Rattle.brc_lang.specs.declared.kind.Kind.TheVariants as kinds;
 ghost use Rattle.brc_model.specs.VarStates.{var_of, is_owned, kind_of, is_one_of, lockable, with_resource, names, may_be};
-ghost use Rattle.brc_model.specs.VarStates.{with_kind, put, without_item, without_items};
+ghost use Rattle.brc_model.specs.VarStates.{with_kind, put, without_item, without_items, without_stolen};
 
-use brc_lang::{Kind, Variable};
+use brc_lang::{Argument, Kind, Passing, Variable};
 use brc_model::{State, VarState};
 
 pub fn var(state: &State, variable: Variable) -> VarState
@@ -114,4 +114,15 @@ pub fn forget_items(state: &mut State)
     ensures { state.new ≡ without_items state.old }
 {
     state.vars = vars_without_items(state.vars);
+}
+
+/// Empties each variable whose reference the call of these arguments steals.
+pub fn forget_stolen(state: &mut State, arguments: &[Argument])
+    ensures { state.new ≡ without_stolen state.old arguments.now }
+{
+    for argument in arguments {
+        if let Passing::Steal = argument.parameter.passing {
+            put(state, argument.from, VarState::Empty);
+        }
+    }
 }

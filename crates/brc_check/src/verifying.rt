@@ -21,7 +21,7 @@ use crate::kept_entry::KeptEntry;
 use crate::kept_points::{POINTS, has_points, has_two_exits};
 use crate::point_states::numbers_of;
 use crate::refused::{CodeAt, Refused};
-use crate::state::{entry, same_state};
+use crate::state::{entry_of, same_state};
 use crate::step::{StepEnd, advance};
 use crate::table::Table;
 use brc_lang::{CheckCode, Function, Instr, Module, Sequence};
@@ -126,21 +126,23 @@ fn pass_on(
 /// Compares the exits of a point with the entries to which they lead. What the point before has passed on to this one
 /// becomes what this one passes on to the next.
 fn go_on(
-    code: &[Instr],
+    function: &Function,
     kept: &[KeptEntry],
     numbers: &[Option<usize>; POINTS],
     at: usize,
     here: &mut Option<State>,
 ) -> Option<CodeAt>
     requires numbers { AreNumbers kept.now numbers.now }
-    requires most { length code.now ≤ instruction_limit }
-    requires points { map point_of kept.now ≡ kept_points code.now }
-    requires within { at < length code.now }
-    requires here { HasState code.now kept.now at here.old }
+    requires most { length function.now.code ≤ instruction_limit }
+    requires points { map point_of kept.now ≡ kept_points function.now.code }
+    requires within { at < length function.now.code }
+    requires here { HasState function.now.code kept.now at here.old }
     ensures { MatchOption result
-        (HasState code.now kept.now (at + 1) here.new × IsClosedAt code.now (state_at code.now kept.now) at)
-        (λ m. IsErrorAt code.now (state_at code.now kept.now) m.at m.code) }
+        (HasState function.now.code kept.now (at + 1) here.new
+        × IsClosedAt function.now.code (state_at function.now.code kept.now) at)
+        (λ m. IsErrorAt function.now (state_at function.now.code kept.now) m.at m.code) }
 {
+    let code = function.code.as_slice();
     enter(kept, numbers, at, here);
     let Some(state) = here else {
         return None;
@@ -161,20 +163,21 @@ fn go_on(
     }
 }
 
-fn function_error(code: &[Instr], kept: &[KeptEntry]) -> Option<CodeAt>
-    requires some { 0 < length code.now }
-    requires most { length code.now ≤ instruction_limit }
-    requires points { map point_of kept.now ≡ kept_points code.now }
-    ensures { MatchOption result (IsClosed code.now (state_at code.now kept.now))
-        (λ m. IsErrorAt code.now (state_at code.now kept.now) m.at m.code) }
+fn function_error(function: &Function, kept: &[KeptEntry]) -> Option<CodeAt>
+    requires some { 0 < length function.now.code }
+    requires most { length function.now.code ≤ instruction_limit }
+    requires points { map point_of kept.now ≡ kept_points function.now.code }
+    ensures { MatchOption result (IsClosed function.now (state_at function.now.code kept.now))
+        (λ m. IsErrorAt function.now (state_at function.now.code kept.now) m.at m.code) }
 {
     let numbers = numbers_of(kept);
-    if let Some(reported) = end_error(kept, &numbers, 0, StepEnd::To(0), &entry()) {
+    let entry = entry_of(function.parameters.as_slice());
+    if let Some(reported) = end_error(kept, &numbers, 0, StepEnd::To(0), &entry) {
         return Some(reported);
     }
     let mut here = None;
-    for at in 0..code.len() {
-        if let Some(reported) = go_on(code, kept, &numbers, at, &mut here) {
+    for at in 0..function.code.len() {
+        if let Some(reported) = go_on(function, kept, &numbers, at, &mut here) {
             return Some(reported);
         }
     }
@@ -201,11 +204,11 @@ fn first_error(functions: &[Function], lists: &[Sequence<KeptEntry>]) -> Option<
     requires shape { HasShape functions.now lists.now }
     ensures { MatchOption result
         ((number : ℕ) (f : Function) → slice_get functions.now number ≡ Some f
-        → IsClosed f.code (state_at f.code (entries_of lists.now number)))
+        → IsClosed f (state_at f.code (entries_of lists.now number)))
         (λ r. IsFunctionError functions.now lists.now r) }
 {
     for (number, function) in functions.iter().enumerate() {
-        if let Some(reported) = function_error(function.code.as_slice(), lists[number].as_slice()) {
+        if let Some(reported) = function_error(function, lists[number].as_slice()) {
             return Some(reported.in_function(function.name));
         }
     }
@@ -217,7 +220,7 @@ fn table_error(functions: &[Function], lists: &[Sequence<KeptEntry>]) -> Option<
     requires fit { AllByRecursion IsFunction functions.now }
     ensures { MatchOption result
         (HasShape functions.now lists.now × ((number : ℕ) (f : Function) → slice_get functions.now number ≡ Some f
-        → IsClosed f.code (state_at f.code (entries_of lists.now number))))
+        → IsClosed f (state_at f.code (entries_of lists.now number))))
         (λ r. IsTableError functions.now lists.now r) }
 {
     if !has_shape(functions, lists) {

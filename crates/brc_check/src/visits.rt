@@ -3,7 +3,7 @@
 ghost use Rattle.std.specs.Prelude.{◌≡◌, ◌↔◌, ◌<◌, ◌-◌, [], ◌∷◌, ◌++◌, length, replicate, IfOk, None, Some, IsTrue};
 ghost use Rattle.brc_check.specs.Searching.{first_visit, first_visits, added, IsVisit, IsVisited, AreFirsts};
 
-use crate::state::{entry, same_state};
+use crate::state::same_state;
 use brc_lang::Sequence;
 use brc_model::{Exit, State};
 use std::alloc::{AllocError, Global};
@@ -39,12 +39,12 @@ fn first_numbers(alloc: Global, count: usize) -> Result<Sequence<Option<usize>>,
     Ok(numbers)
 }
 
-fn first_visit() -> Visit
-    ensures { result ≡ first_visit }
+fn first_visit(entry: &State) -> Visit
+    ensures { result ≡ first_visit entry.now }
 {
     Visit {
         at: 0,
-        state: entry(),
+        state: *entry,
         before: 0,
         exit: Exit::Success,
     }
@@ -65,13 +65,13 @@ fn push_visit(list: &mut Sequence<Visit>, visit: Visit) -> Result<(), AllocError
 
 /// Returns the visits of a search through a function of `count` instructions at first: only that of the function's
 /// entry.
-pub fn first_visits(alloc: Global, count: usize) -> Result<Visits, AllocError>
+pub fn first_visits(alloc: Global, entry: &State, count: usize) -> Result<Visits, AllocError>
     requires { 0 < count }
-    ensures { IfOk result (λ visits. visits ≡ first_visits count) }
+    ensures { IfOk result (λ visits. visits ≡ first_visits entry.now count) }
 {
     let firsts = first_numbers(alloc, count)?;
     let mut list = Sequence::new(alloc);
-    push_visit(&mut list, first_visit())?;
+    push_visit(&mut list, first_visit(entry))?;
     Ok(Visits { list, firsts })
 }
 

@@ -8,7 +8,7 @@ use Rattle.std.proofs.lemmas.Result.{IfOk-at_ok}
 use Rattle.brc_lang.specs.declared.parameter.Argument.{Argument}
 use Rattle.brc_lang.specs.declared.parameter.Parameter.{Parameter}
 use Rattle.brc_lang.specs.declared.fault.FaultCode.{FaultCode}
-use Rattle.brc_lang.specs.Fault.{variable_in, variables_in, arguments_of, IsOk}
+use Rattle.brc_lang.specs.InstructionWords.{variable_in, variables_in, arguments_of, IsOk}
 use Rattle.brc_lang.specs.Grammar.{variable, target, argument_words}
 use Rattle.brc_lang.specs.Limits.{variable_count, target_count}
 use Rattle.brc_lang.specs.RoundTrips.{IsPlain}

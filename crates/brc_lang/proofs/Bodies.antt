@@ -15,7 +15,8 @@ use Rattle.brc_lang.specs.declared.fault.FaultCode.{FaultCode}
 use Rattle.brc_lang.specs.declared.fault.FaultCode.TheVariants.{OverLimit, Target}
 use Rattle.brc_lang.specs.declared.cursor.Cursor.{Cursor}
 use Rattle.brc_lang.specs.Grammar.{line, instruction, instructions, TargetsFit}
-use Rattle.brc_lang.specs.Fault.{words, instruction_in, Beginning, targets_fit, end_fault_of, line_fault_of}
+use Rattle.brc_lang.specs.InstructionWords.{words, instruction_in}
+use Rattle.brc_lang.specs.Fault.{Beginning, targets_fit, end_fault_of, line_fault_of}
 use Rattle.brc_lang.specs.Fault.{next_instruction_fault_of, fault_of}
 use Rattle.brc_lang.specs.Progress.{IsFirstLineOf, Passes, IsLineFault, Appends, inside, AreInstructions, Ends}
 use Rattle.brc_lang.specs.Progress.{HasFaultInside, IsFaultInside}

@@ -19,7 +19,7 @@ use Rattle.brc_lang.specs.declared.module.Function.{Function}
 use Rattle.brc_lang.specs.declared.fault.FaultCode.{FaultCode}
 use Rattle.brc_lang.specs.declared.fault.FaultCode.TheVariants.{Callee, OverLimit}
 use Rattle.brc_lang.specs.Grammar.{depths, AreNamedApart, MayCall}
-use Rattle.brc_lang.specs.Fault.{variables_in, arguments_of, callee_at, callee_found, callee_in}
+use Rattle.brc_lang.specs.InstructionWords.{variables_in, arguments_of, callee_at, callee_found, callee_in}
 use Rattle.brc_lang.specs.Limits.{depth_limit}
 use Rattle.brc_lang.proofs.Tests.{same_text}
 use Rattle.brc_lang.proofs.Spelling.{ok_is}

@@ -14,8 +14,9 @@ use Rattle.brc_lang.specs.declared.version.Version.TheVariants.{Two}
 use Rattle.brc_lang.specs.declared.fault.FaultCode.TheVariants.{UnknownWord, OverLimit, Callee, NoMemory}
 use Rattle.brc_lang.specs.Grammar.{variable, target, is_name, name_of, name_or_none, argument_words, instruction_words}
 use Rattle.brc_lang.specs.Grammar.{IsInstruction, IsFunction, AreNamedApart, MayCall, IfFound, CallFits, depths}
-use Rattle.brc_lang.specs.Fault.{variable_in, target_in, name_in, variables_in, callee_at, callee_found, callee_in}
-use Rattle.brc_lang.specs.Fault.{call_of, call_in, IsOwn}
+use Rattle.brc_lang.specs.InstructionWords.{variable_in, target_in, name_in, variables_in, callee_at, callee_found, callee_in}
+use Rattle.brc_lang.specs.InstructionWords.{call_of, call_in}
+use Rattle.brc_lang.specs.Fault.{IsOwn}
 use Rattle.brc_lang.specs.Limits.{function_limit, parameter_limit, depth_limit, variable_count}
 use Rattle.brc_lang.specs.RoundTrips.{IsPlain}
 use Rattle.brc_lang.proofs.Words.{ArePlain}

@@ -17,8 +17,8 @@ use Rattle.brc_lang.specs.declared.version.Version.TheVariants as versions
 use Rattle.brc_lang.specs.declared.fault.FaultCode.{FaultCode}
 use Rattle.brc_lang.specs.declared.fault.FaultCode.TheVariants.{FirstLine, OverLimit, CutOff}
 use Rattle.brc_lang.specs.Grammar.{line, instructions, heading, function, functions, first_line, IsFunction, IsModule}
-use Rattle.brc_lang.specs.Grammar.{Runs}
-use Rattle.brc_lang.specs.Fault.{words, instruction_in, Beginning, beginning, IsBeginning, heading_fault_of}
+use Rattle.brc_lang.specs.InstructionWords.{words, instruction_in}
+use Rattle.brc_lang.specs.Fault.{Beginning, beginning, IsBeginning, heading_fault_of}
 use Rattle.brc_lang.specs.Fault.{end_fault_of, next_instruction_fault_of, line_fault_of, is_whole, is_line_feed}
 use Rattle.brc_lang.specs.Fault.{fault_of, line_count, HasLaterFault}
 use Rattle.brc_lang.specs.Progress.{opened, closed}
@@ -61,7 +61,6 @@ module _ (version : Version) (done : List Function) (text : List ℕ) where
       record {
         below = at_line version done (Some f);
         fits = record {
-          version = fits.version;
           most = omega (arith, length-append done (f ∷ []), opening.room);
           done = fits.done;
           names = apart_push done f fits.names opening.new_name;
@@ -90,7 +89,6 @@ module _ (version : Version) (done : List Function) (text : List ℕ) where
       record {
         below = closed version (done ++ f ∷ []);
         fits = record {
-          version = fits.version;
           most = fits.most;
           done = all_push IsFunction done f fits.done ended;
           names = fits.names;
@@ -128,7 +126,6 @@ module _ (version : Version) (done : List Function) (text : List ℕ) where
             record {
               below = at_line version done (Some g);
               fits = record {
-                version = fits.version;
                 most = omega (arith, fits.most, length-append done (f ∷ []), length-append done (g ∷ []));
                 done = fits.done;
                 names = apart_push done g others.0 (new_name_from done f [] fits.names);
@@ -169,7 +166,6 @@ whole_spells bytes version done None fits parts whole =
     let some : 0 < length done = ltb-true 0 (length done) whole in
     let m : Module = record { version = version; functions = done } in
     let module_fits : IsModule m = record {
-      version = fits.version;
       some = some;
       most = fits.most;
       functions = fits.done;
@@ -238,9 +234,8 @@ from_here bytes b text (c ∷ more) fits parts plain = elim (cases_Bool (is_line
       (lacks_append is_line_feed text (c ∷ []) plain (rw other refl))
 ]
 
-first_fits : (version : Version) → Runs version → IsBeginning (closed version [])
-first_fits version runs = record {
-  version = runs;
+first_fits : (version : Version) → IsBeginning (closed version [])
+first_fits version = record {
   most = omega arith;
   done = tt;
   names = λ i j d lt below same. absurd (omega arith);
@@ -248,11 +243,22 @@ first_fits version runs = record {
   open_fits = tt;
 }
 
+-- the text begins with the first line of this version
+below_first : (version : Version) (bytes : List ℕ) → starts_with nat_eq bytes (first_line version) ≡ true
+    → SpellsAModule bytes ⊎ HasAFault bytes
+below_first version bytes starts =
+    let first = first_line version in
+    let same = starts_is Decides-eqb bytes first (starts_with nat_eq bytes first) refl in
+    let rest = drop (length first) bytes in
+    from_here bytes (closed version []) [] rest (first_fits version)
+    (same.0 starts ∙ ap (λ (x : List ℕ). x ++ rest) (sym (append-nil (first ++ []) ∙ append-nil first))) refl
+
 pub each_text : (bytes : List ℕ) → SpellsAModule bytes ⊎ HasAFault bytes
 each_text bytes = elim (cases_Bool (starts_with nat_eq bytes (first_line versions.One))) [
-  | inl starts ↦
-      let first = first_line versions.One in
-      let same = starts_is Decides-eqb bytes first (starts_with nat_eq bytes first) refl in
-      from_here bytes (closed versions.One []) [] (drop 9 bytes) (first_fits versions.One tt) (same.0 starts) refl
-  | inr other ↦ inr (1, FirstLine, inl (record { other = rw other refl; numbered = refl; fault = refl }))
+  | inl one ↦ below_first versions.One bytes one
+  | inr not_one ↦ elim (cases_Bool (starts_with nat_eq bytes (first_line versions.Two))) [
+    | inl two ↦ below_first versions.Two bytes two
+    | inr not_two ↦
+        inr (1, FirstLine, inl (record { other = rw (not_one, not_two) refl; numbered = refl; fault = refl }))
+  ]
 ]

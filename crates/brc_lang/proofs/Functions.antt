@@ -14,7 +14,8 @@ use Rattle.brc_lang.specs.declared.fault.FaultCode.TheVariants.{CutOff}
 use Rattle.brc_lang.specs.declared.fault.ReadFault.{ReadFault}
 use Rattle.brc_lang.specs.declared.cursor.Cursor.{Cursor}
 use Rattle.brc_lang.specs.Grammar.{line, heading, instructions, function, functions, first_line, IsFunction}
-use Rattle.brc_lang.specs.Fault.{words, beginning, open_text, IsBeginning, heading_fault_of, fault_of, is_line_feed}
+use Rattle.brc_lang.specs.InstructionWords.{words}
+use Rattle.brc_lang.specs.Fault.{beginning, open_text, IsBeginning, heading_fault_of, fault_of, is_line_feed}
 use Rattle.brc_lang.specs.Fault.{line_count, IsFaultOf}
 use Rattle.brc_lang.specs.Progress.{IsFirstLineOf, Passes, Opens, opened, closed, IsLineFault, Ends, IsFaultInside}
 use Rattle.brc_lang.specs.Progress.{ReadsFunction, IsFaultBelow, KnowsDepths}
@@ -65,7 +66,6 @@ module _ (version : Version) (done : List Function) (p : Cursor) (fits : IsBegin
           rest = h.rest;
           fits =
               record {
-                version = fits.version;
                 most = omega (arith, length-append done (f ∷ []), opening.room);
                 done = fits.done;
                 names = apart_push done f fits.names opening.new_name;
@@ -116,7 +116,6 @@ module _ (version : Version) (done : List Function) (p : Cursor) (fits : IsBegin
           targets = end.targets;
         } in
         let more : IsBeginning (closed version (done ++ f ∷ [])) = record {
-          version = fits.version;
           most = omega (arith, length-append done (f ∷ []), opening.room);
           done = all_push IsFunction done f fits.done whole;
           names = apart_push done f fits.names (rw named opening.new_name);

@@ -15,7 +15,8 @@ use Rattle.brc_lang.specs.declared.version.Version.{Version}
 use Rattle.brc_lang.specs.declared.fault.FaultCode.{FaultCode}
 use Rattle.brc_lang.specs.declared.fault.FaultCode.TheVariants.{UnknownWord, OverLimit, NameTwice}
 use Rattle.brc_lang.specs.Grammar.{line, spaced, heading, parameter_words, is_name, AreNamedApart, most_parameters}
-use Rattle.brc_lang.specs.Fault.{words, heading_in, name_in, parameters_within, opening_fault_of, heading_fault_of}
+use Rattle.brc_lang.specs.InstructionWords.{words, name_in}
+use Rattle.brc_lang.specs.Fault.{heading_in, parameters_within, opening_fault_of, heading_fault_of}
 use Rattle.brc_lang.specs.Fault.{is_line_feed}
 use Rattle.brc_lang.specs.Progress.{Opens}
 use Rattle.brc_lang.specs.Limits.{function_limit}

@@ -6,7 +6,7 @@ use Rattle.std.specs.Str.{bytes_eq}
 use Rattle.brc_lang.specs.declared.mode.Mode.{Mode}
 use Rattle.brc_lang.specs.declared.fault.FaultCode.TheVariants.{UnknownWord}
 use Rattle.brc_lang.specs.Grammar.{variable, target}
-use Rattle.brc_lang.specs.Fault.{number_in, variable_in, target_in, mode_in, open_in, pair_in}
+use Rattle.brc_lang.specs.InstructionWords.{number_in, variable_in, target_in, mode_in, open_in, pair_in}
 use Rattle.brc_lang.specs.Limits.{variable_count, target_count, path_count, last_path}
 use Rattle.brc_lang.specs.Modes.{mode_name, IsMode}
 use Rattle.brc_lang.proofs.Tests.{either_way}

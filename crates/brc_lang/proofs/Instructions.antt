@@ -15,8 +15,9 @@ use Rattle.brc_lang.specs.declared.version.Version.TheVariants as versions
 use Rattle.brc_lang.specs.declared.fault.FaultCode.TheVariants.{UnknownWord}
 use Rattle.brc_lang.specs.Grammar.{instruction_words, instruction, IsInstruction, IsFunction, AreNamedApart, IsCall}
 use Rattle.brc_lang.specs.Grammar.{CallFits}
-use Rattle.brc_lang.specs.Fault.{words, ◌>>=◌, fail_in, path_instruction_in, host_instruction_in, item_instruction_in}
-use Rattle.brc_lang.specs.Fault.{plain_instruction_in, instruction_in, call_in, has_calls, is_line_feed}
+use Rattle.brc_lang.specs.InstructionWords.{words, ◌>>=◌, fail_in, path_instruction_in, host_instruction_in, item_instruction_in}
+use Rattle.brc_lang.specs.InstructionWords.{plain_instruction_in, instruction_in, call_in, has_calls}
+use Rattle.brc_lang.specs.Fault.{is_line_feed}
 use Rattle.brc_lang.specs.Limits.{function_limit}
 use Rattle.brc_lang.proofs.Calls.{call_spelled, call_again, call_plain}
 use Rattle.brc_lang.proofs.Words.{joined, some_word, ArePlain, spaced_words, spaced_plain}

@@ -7,7 +7,7 @@ use Rattle.brc_lang.specs.declared.kind.Kind.TheVariants as kinds
 use Rattle.brc_lang.specs.declared.fault.FaultCode.{FaultCode}
 use Rattle.brc_lang.specs.declared.fault.FaultCode.TheVariants.{UnknownWord}
 use Rattle.brc_lang.specs.Grammar.{kind_name}
-use Rattle.brc_lang.specs.Fault.{kind_in}
+use Rattle.brc_lang.specs.InstructionWords.{kind_in}
 use Rattle.brc_lang.specs.RoundTrips.{IsPlain}
 use Rattle.brc_lang.proofs.Tests.{either_way, same_text}
 use Rattle.brc_lang.proofs.Spelling.{ok_is}

@@ -8,7 +8,8 @@ use Rattle.std.proofs.lemmas.List.{take_rest}
 use Rattle.std.proofs.lemmas.List.Sums.{passes_at_first, split_at_first, sum_by-append, sum_by-cons}
 use Rattle.std.proofs.lemmas.List.Splits.{slice_split_first}
 use Rattle.brc_lang.specs.Grammar.{line}
-use Rattle.brc_lang.specs.Fault.{words, is_line_feed, line_count}
+use Rattle.brc_lang.specs.InstructionWords.{words}
+use Rattle.brc_lang.specs.Fault.{is_line_feed, line_count}
 use Rattle.brc_lang.specs.Progress.{IsFirstLineOf}
 use Rattle.brc_lang.specs.RoundTrips.{is_space}
 use Rattle.brc_lang.proofs.Cuts.{found_at, found_none, lacks_all, lacks_before, one_part, has_behind, cut_before}

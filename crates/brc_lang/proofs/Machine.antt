@@ -16,9 +16,10 @@ use Rattle.brc_lang.specs.declared.version.Version.TheVariants as versions
 use Rattle.brc_lang.specs.declared.fault.FaultCode.{FaultCode}
 use Rattle.brc_lang.specs.declared.fault.FaultCode.TheVariants.{FirstLine, CutOff}
 use Rattle.brc_lang.specs.Grammar.{line, spaced, instruction, instructions, heading, function, functions_below, functions}
-use Rattle.brc_lang.specs.Grammar.{first_line, is_name, IsInstruction, IsFunction, AreNamedApart, most_parameters, Runs}
+use Rattle.brc_lang.specs.Grammar.{first_line, is_name, IsInstruction, IsFunction, AreNamedApart, most_parameters}
 use Rattle.brc_lang.specs.Grammar.{CallFits, FitsBelow, CallsFit}
-use Rattle.brc_lang.specs.Fault.{words, instruction_in, heading_in, Beginning, beginning, open_text, named, IsBeginning}
+use Rattle.brc_lang.specs.InstructionWords.{words, instruction_in}
+use Rattle.brc_lang.specs.Fault.{heading_in, Beginning, beginning, open_text, named, IsBeginning}
 use Rattle.brc_lang.specs.Fault.{line_fault_of, is_whole, is_line_feed, fault_of, line_count, version_in}
 use Rattle.brc_lang.specs.Progress.{opened, closed}
 use Rattle.brc_lang.specs.Limits.{function_limit, instruction_limit}
@@ -251,10 +252,10 @@ first_line_is_one versions.One = refl
 first_line_is_one versions.Two = refl
 
 -- the first line is read
-first_line_passes : (version : Version) (rest : List ℕ) → Runs version
+first_line_passes : (version : Version) (rest : List ℕ)
     → reading (first_line version ++ rest) ≡ read_rest 2 (closed version []) rest
-first_line_passes versions.One rest runs = refl
-first_line_passes versions.Two rest runs = absurd runs
+first_line_passes versions.One rest = refl
+first_line_passes versions.Two rest = refl
 
 -- the text above is read, and then the rest
 pub beginning_passes : (b : Beginning) (rest : List ℕ) → IsBeginning b
@@ -268,7 +269,7 @@ beginning_passes b rest fits =
     ap reading (ap (λ (x : List ℕ). x ++ rest) (append_assoc first lines last)
     ∙ append_assoc first (lines ++ last) rest
     ∙ ap (λ (x : List ℕ). first ++ x) (append_assoc lines last rest))
-    ∙ first_line_passes b.version (lines ++ (last ++ rest)) fits.version in
+    ∙ first_line_passes b.version (lines ++ (last ++ rest)) in
     let one : line_count first ≡ 1 = first_line_is_one b.version in
     let count : (2 + line_count lines) + line_count last ≡ line_count (beginning b) + 1 =
     omega (arith, one, line_count-append (first ++ lines) last, line_count-append first lines) in

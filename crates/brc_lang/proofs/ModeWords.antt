@@ -6,7 +6,7 @@ use Rattle.std.proofs.lemmas.Bool.{cases_eq, ne_eqb}
 use Rattle.brc_lang.specs.declared.mode.Mode.{Mode}
 use Rattle.brc_lang.specs.declared.fault.FaultCode.{FaultCode}
 use Rattle.brc_lang.specs.declared.fault.FaultCode.TheVariants.{UnknownWord}
-use Rattle.brc_lang.specs.Fault.{mode_in}
+use Rattle.brc_lang.specs.InstructionWords.{mode_in}
 use Rattle.brc_lang.specs.Modes.{reads, writes, creates, mode_of, mode_name, IsMode}
 use Rattle.brc_lang.specs.RoundTrips.{IsPlain}
 use Rattle.brc_lang.proofs.Tests.{either_way, same_text}

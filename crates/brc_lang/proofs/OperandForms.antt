@@ -10,8 +10,8 @@ use Rattle.brc_lang.specs.declared.kind.Kind.TheVariants as kinds
 use Rattle.brc_lang.specs.declared.fault.FaultCode.{FaultCode}
 use Rattle.brc_lang.specs.declared.fault.FaultCode.TheVariants.{UnknownWord}
 use Rattle.brc_lang.specs.Grammar.{variable, target, kind_name}
-use Rattle.brc_lang.specs.Fault.{number_in, variable_in, target_in, number_between, one_variable_in, two_variables_in}
-use Rattle.brc_lang.specs.Fault.{one_target_in, again_in, birth_in, taking_in, store_in, kind_in, as_in}
+use Rattle.brc_lang.specs.InstructionWords.{number_in, variable_in, target_in, number_between, one_variable_in, two_variables_in}
+use Rattle.brc_lang.specs.InstructionWords.{one_target_in, again_in, birth_in, taking_in, store_in, kind_in, as_in}
 use Rattle.brc_lang.specs.Limits.{variable_count, target_count, index_count, last_index, value_limit, text_cells}
 use Rattle.brc_lang.specs.Limits.{last_peer, read_limit, turn_limit}
 use Rattle.brc_lang.specs.RoundTrips.{IsPlain}

@@ -13,11 +13,12 @@ use Rattle.brc_lang.specs.declared.fault.FaultCode.{FaultCode}
 use Rattle.brc_lang.specs.declared.fault.FaultCode.TheVariants.{FirstLine, UnknownWord, Number, Target, NameTwice}
 use Rattle.brc_lang.specs.declared.fault.FaultCode.TheVariants.{OverLimit, CutOff, NoMemory}
 use Rattle.brc_lang.specs.Grammar.{most_parameters}
-use Rattle.brc_lang.specs.Fault.{words, number_in, variable_in, target_in, name_in, one_variable_in}
-use Rattle.brc_lang.specs.Fault.{two_variables_in, one_target_in, number_between, birth_in, taking_in, store_in, kind_in}
-use Rattle.brc_lang.specs.Fault.{mode_in, open_in, pair_in, as_in, fail_in, path_instruction_in, host_instruction_in}
-use Rattle.brc_lang.specs.Fault.{item_instruction_in, plain_instruction_in, call_in, has_calls, instruction_in, again_in}
-use Rattle.brc_lang.specs.Fault.{passing_in, parameter_kind_in, parameters_in, parameters_within, heading_in}
+use Rattle.brc_lang.specs.InstructionWords.{words, number_in, variable_in, target_in, name_in, one_variable_in}
+use Rattle.brc_lang.specs.InstructionWords.{two_variables_in, one_target_in, number_between, birth_in, taking_in, store_in, kind_in}
+use Rattle.brc_lang.specs.InstructionWords.{mode_in, open_in, pair_in, as_in, fail_in, path_instruction_in, host_instruction_in}
+use Rattle.brc_lang.specs.InstructionWords.{item_instruction_in, plain_instruction_in, call_in, has_calls, instruction_in, again_in}
+use Rattle.brc_lang.specs.InstructionWords.{passing_in, parameter_kind_in}
+use Rattle.brc_lang.specs.Fault.{parameters_in, parameters_within, heading_in}
 use Rattle.brc_lang.specs.Fault.{opening_fault_of, targets_fit}
 use Rattle.brc_lang.specs.Fault.{Beginning, end_fault_of, next_instruction_fault_of, line_fault_of}
 use Rattle.brc_lang.specs.Fault.{is_whole, is_line_feed, fault_of, HasFault, IsOwn, IsOwnFault}

@@ -5,7 +5,8 @@ use Rattle.std.specs.Str.Parse.{digits_value}
 use Rattle.brc_lang.specs.declared.fault.FaultCode.{FaultCode}
 use Rattle.brc_lang.specs.declared.fault.FaultCode.TheVariants.{UnknownWord, Number, OverLimit, NoMemory}
 use Rattle.brc_lang.specs.Grammar.{is_name}
-use Rattle.brc_lang.specs.Fault.{is_numeral, number_in, variable_in, target_in, name_in, IsOwn, ◌>>=◌}
+use Rattle.brc_lang.specs.InstructionWords.{is_numeral, number_in, variable_in, target_in, name_in, ◌>>=◌}
+use Rattle.brc_lang.specs.Fault.{IsOwn}
 use Rattle.brc_lang.specs.Limits.{last_variable, last_target}
 
 -- ---- results

@@ -13,7 +13,8 @@ use Rattle.brc_lang.specs.declared.parameter.Passing.TheVariants as passings
 use Rattle.brc_lang.specs.declared.fault.FaultCode.{FaultCode}
 use Rattle.brc_lang.specs.declared.fault.FaultCode.TheVariants.{UnknownWord}
 use Rattle.brc_lang.specs.Grammar.{kind_name, passing_name, parameter_words}
-use Rattle.brc_lang.specs.Fault.{words, passing_in, parameter_kind_in, parameters_in, parameters_within, ◌>>=◌}
+use Rattle.brc_lang.specs.InstructionWords.{words, passing_in, parameter_kind_in, ◌>>=◌}
+use Rattle.brc_lang.specs.Fault.{parameters_in, parameters_within}
 use Rattle.brc_lang.specs.RoundTrips.{IsPlain}
 use Rattle.brc_lang.proofs.KindWords.{kind_spelled, kind_plain}
 use Rattle.brc_lang.proofs.OperandForms.{both_same}

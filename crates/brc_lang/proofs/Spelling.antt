@@ -14,7 +14,8 @@ use Rattle.std.proofs.lemmas.Str.Parse.{IsDigitsTest, IsNumeralModel, numerals_b
 use Rattle.brc_lang.specs.declared.fault.FaultCode.{FaultCode}
 use Rattle.brc_lang.specs.declared.fault.FaultCode.TheVariants.{UnknownWord, Number}
 use Rattle.brc_lang.specs.Grammar.{variable, target, is_name, is_letter, is_name_byte}
-use Rattle.brc_lang.specs.Fault.{is_numeral, number_in, number_between, variable_in, target_in, is_line_feed, ◌>>=◌}
+use Rattle.brc_lang.specs.InstructionWords.{is_numeral, number_in, number_between, variable_in, target_in, ◌>>=◌}
+use Rattle.brc_lang.specs.Fault.{is_line_feed}
 use Rattle.brc_lang.specs.RoundTrips.{is_space, IsPlain}
 use Rattle.brc_lang.specs.Limits.{variable_count, last_variable, target_count, last_target, index_count, last_index}
 use Rattle.brc_lang.specs.Limits.{path_count, last_path, name_rest_limit}

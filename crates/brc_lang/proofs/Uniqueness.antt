@@ -13,7 +13,6 @@ use Rattle.brc_lang.proofs.Machine.{Answer, reading, stops, beginning_passes}
 
 whole_beginning : (m : Module) → IsModule m → IsBeginning (closed m.version m.functions)
 whole_beginning m fits = record {
-  version = fits.version;
   most = fits.most;
   done = fits.functions;
   names = fits.names;

@@ -4,7 +4,8 @@ use Rattle.std.specs.List.{list_all, list_any, AllByRecursion}
 use Rattle.std.proofs.lemmas.Bool.{and_parts, or_from}
 use Rattle.std.proofs.lemmas.List.Splits.{join_with_byte-slice_split}
 use Rattle.brc_lang.specs.Grammar.{spaced}
-use Rattle.brc_lang.specs.Fault.{words, is_line_feed}
+use Rattle.brc_lang.specs.InstructionWords.{words}
+use Rattle.brc_lang.specs.Fault.{is_line_feed}
 use Rattle.brc_lang.specs.RoundTrips.{is_space, IsPlain}
 use Rattle.brc_lang.proofs.Cuts.{lacks_append, one_part, first_part, parts_some}
 

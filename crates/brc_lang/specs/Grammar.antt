@@ -302,14 +302,8 @@ CallsFit version above (f ∷ fs) = FitsBelow version above f × CallsFit versio
 abbrev pub AreNamedApart : List Function → Type 0
 AreNamedApart fs = AllPairs (λ f g. f.name ≢ g.name) fs
 
--- modules of this version run: those of version 2 don't yet
-abbrev pub Runs : Version → Type 0
-Runs versions.One = Unit {0}
-Runs versions.Two = ⊥
-
 -- 1 to 64 functions
 pub record IsModule (m : Module) : Type 0 where
-  pub version : Runs m.version
   pub some : 0 < length m.functions
   pub most : length m.functions ≤ function_limit
   pub functions : AllByRecursion IsFunction m.functions

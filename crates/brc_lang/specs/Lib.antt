@@ -2,6 +2,7 @@ pub mod Limits
 pub mod Modes
 pub mod Padding
 pub mod Grammar
+pub mod InstructionWords
 pub mod Fault
 pub mod EachText
 pub mod RoundTrips

@@ -13,7 +13,8 @@ use Rattle.brc_lang.specs.declared.above.Above.{Above}
 use Rattle.brc_lang.specs.declared.parameter.Parameter.{Parameter}
 use Rattle.brc_lang.specs.declared.version.Version.{Version}
 use Rattle.brc_lang.specs.Grammar.{line, instructions, function, IsInstruction, TargetsFit, CallFits, depths}
-use Rattle.brc_lang.specs.Fault.{words, instruction_in, heading_in, Beginning, IsBeginning, open_text, fault_of}
+use Rattle.brc_lang.specs.InstructionWords.{words, instruction_in}
+use Rattle.brc_lang.specs.Fault.{heading_in, Beginning, IsBeginning, open_text, fault_of}
 use Rattle.brc_lang.specs.Fault.{is_line_feed, line_count}
 use Rattle.brc_lang.specs.Limits.{function_limit, instruction_limit}
 

@@ -3,7 +3,8 @@ use Rattle.std.specs.Prelude.{◌≡◌, ℕ, ◌<◌, ◌≤◌, ◌^◌, Bool,
 use Rattle.std.specs.List.{AllByRecursion, list_any, slice_split, before_first, after_first}
 use Rattle.std.specs.Fmt.{decimal}
 use Rattle.brc_lang.specs.Grammar.{line, spaced, is_name}
-use Rattle.brc_lang.specs.Fault.{words, number_in, is_line_feed, line_count}
+use Rattle.brc_lang.specs.InstructionWords.{words, number_in}
+use Rattle.brc_lang.specs.Fault.{is_line_feed, line_count}
 
 abbrev pub is_space : ℕ → Bool
 is_space c = c == 32

@@ -2,7 +2,7 @@
 
 ghost use Rattle.std.specs.Prelude.{◌≡◌, ◌≤◌, length, map, position, IfOk, MatchResult, Err};
 ghost use Rattle.std.specs.Str.{bytes_eq};
-ghost use Rattle.brc_lang.specs.Fault.{words, variables_in, arguments_of, callee_in, call_of, call_in, IsOk};
+ghost use Rattle.brc_lang.specs.InstructionWords.{words, variables_in, arguments_of, callee_in, call_of, call_in, IsOk};
 ghost use Rattle.brc_lang.specs.Limits.{function_limit, parameter_limit};
 ghost use Rattle.brc_lang.specs.Progress.{KnowsDepths};
 

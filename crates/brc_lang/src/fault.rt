@@ -24,7 +24,7 @@ pub enum FaultCode {
     CutOff,
     /// L8: memory was refused.
     NoMemory,
-    /// L9: a call of a function that doesn't stand above, or with an argument too many or too few.
+    /// L9: a call of a function that isn't above, or with an argument too many or too few.
     Callee,
 }
 

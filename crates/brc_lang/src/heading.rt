@@ -4,7 +4,8 @@ ghost use Rattle.std.specs.Prelude.{◌≡◌, ◌≤◌, ◌⊎◌, length, IfO
 ghost use Rattle.std.specs.List.{list_any};
 ghost use Rattle.std.specs.Str.{bytes_eq};
 ghost use Rattle.brc_lang.specs.declared.fault.FaultCode.TheVariants.{NoMemory};
-ghost use Rattle.brc_lang.specs.Fault.{words, passing_in, parameter_kind_in, parameters_within, heading_in};
+ghost use Rattle.brc_lang.specs.InstructionWords.{words, passing_in, parameter_kind_in};
+ghost use Rattle.brc_lang.specs.Fault.{parameters_within, heading_in};
 ghost use Rattle.brc_lang.specs.Fault.{heading_fault_of, version_in};
 ghost use Rattle.brc_lang.specs.Grammar.{most_parameters};
 ghost use Rattle.brc_lang.specs.Limits.{name_limit, parameter_limit};
@@ -21,7 +22,9 @@ use crate::sequence::Sequence;
 use crate::version::Version;
 use std::alloc::Global;
 
-const FIRST_LINE: &[u8] = b"module 1\n";
+const FIRST_LINE_OF_ONE: &[u8] = b"module 1\n";
+
+const FIRST_LINE_OF_TWO: &[u8] = b"module 2\n";
 
 const MOST_FUNCTIONS: usize = 64;
 
@@ -31,7 +34,13 @@ const MOST_PARAMETERS: usize = 4;
 pub(crate) fn version(bytes: &[u8]) -> Option<Version>
     ensures { result ≡ version_in bytes.now }
 {
-    bytes.starts_with(FIRST_LINE).then_some(Version::One)
+    if bytes.starts_with(FIRST_LINE_OF_ONE) {
+        Some(Version::One)
+    } else if bytes.starts_with(FIRST_LINE_OF_TWO) {
+        Some(Version::Two)
+    } else {
+        None
+    }
 }
 
 /// Reads the line that opens a function: its name and its parameters.

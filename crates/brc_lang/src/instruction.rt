@@ -3,8 +3,8 @@
 ghost use Rattle.std.specs.Prelude.{◌≡◌, ◌≤◌, List, ◌∷◌, [], length};
 ghost use Rattle.brc_lang.specs.declared.module.Function.{Function};
 ghost use Rattle.brc_lang.specs.declared.version.Version.{Version};
-ghost use Rattle.brc_lang.specs.Fault.{words, instruction_in, plain_instruction_in, item_instruction_in};
-ghost use Rattle.brc_lang.specs.Fault.{host_instruction_in, path_instruction_in, has_calls};
+ghost use Rattle.brc_lang.specs.InstructionWords.{words, instruction_in, plain_instruction_in, item_instruction_in};
+ghost use Rattle.brc_lang.specs.InstructionWords.{host_instruction_in, path_instruction_in, has_calls};
 ghost use Rattle.brc_lang.specs.Limits.{function_limit};
 ghost use Rattle.brc_lang.specs.Progress.{KnowsDepths};
 

@@ -15,7 +15,7 @@ pub enum Kind {
 }
 
 impl Kind {
-    /// Returns the kind's word, as in `as v1 num else @3`. `Any` has one too, which no module names.
+    /// Returns the kind's word, as in `as v1 num else @3`. That of `Any` stands for a parameter of any kind.
     pub fn name(self) -> &'static str
         ensures { result.now ≡ kind_name self }
     {

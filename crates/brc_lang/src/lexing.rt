@@ -8,8 +8,9 @@ ghost use Rattle.std.specs.Str.Parse.{digits_value};
 ghost use Rattle.brc_lang.specs.declared.fault.FaultCode.TheVariants.{Number};
 ghost use Rattle.std.specs.Str.{bytes_eq};
 ghost use Rattle.brc_lang.specs.Grammar.{is_name, is_name_byte};
-ghost use Rattle.brc_lang.specs.Fault.{words, number_in, number_between, variable_in, target_in, is_line_feed, kind_in};
-ghost use Rattle.brc_lang.specs.Fault.{mode_in};
+ghost use Rattle.brc_lang.specs.InstructionWords.{words, number_in, number_between, variable_in, target_in, kind_in};
+ghost use Rattle.brc_lang.specs.Fault.{is_line_feed};
+ghost use Rattle.brc_lang.specs.InstructionWords.{mode_in};
 ghost use Rattle.brc_lang.specs.Limits.{last_index, last_path, turn_limit};
 ghost use Rattle.brc_lang.specs.Progress.{IsFirstLineOf};
 

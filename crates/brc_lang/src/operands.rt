@@ -1,8 +1,8 @@
 //! The words after the first one of an instruction.
 
 ghost use Rattle.std.specs.Prelude.{◌≡◌, ◌≤◌, IfOk};
-ghost use Rattle.brc_lang.specs.Fault.{words, one_variable_in, two_variables_in, one_target_in, birth_in, taking_in};
-ghost use Rattle.brc_lang.specs.Fault.{store_in, open_in, pair_in, as_in, again_in};
+ghost use Rattle.brc_lang.specs.InstructionWords.{words, one_variable_in, two_variables_in, one_target_in, birth_in, taking_in};
+ghost use Rattle.brc_lang.specs.InstructionWords.{store_in, open_in, pair_in, as_in, again_in};
 
 use crate::fault::FaultCode;
 use crate::kind::Kind;

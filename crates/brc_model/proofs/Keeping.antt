@@ -8,10 +8,11 @@
 -- cell; `FirstOfChain` says what holds of the first object of a thread's dying chain, and `Locks` that the thread still
 -- holds the list that it has locked. `Moved`, `OneReference` and `HandedOver` hand a reference over to another thread.
 -- None of these knows code. `Callers`, `FirstCounts` and `FirstRanges` show the invariant of a machine in which some
--- threads hold the root, `FirstHands` and `FirstMachine` that the first machines are such. `CodeInvariant` adds the
--- second layer, about accepted code, `StepCases` splits an event by its action, `KindsHold` shows over it that
--- variables keep their kinds, `ItemsHold` that borrowed items stay in the locked list and `RoomsHold` that a thread
--- that awaits a birth has room for it, and `CodeEvents` carries both layers through every list of events.
+-- threads hold the root, `FirstHands` and `FirstMachine` that the first machines are such, and `Sound` what is true of
+-- a module's functions. `CodeInvariant` adds the second layer, about accepted code, `StepCases` splits an event by its
+-- action, `KindsHold` shows over it that variables keep their kinds, `ItemsHold` that borrowed items stay in the locked
+-- list and `RoomsHold` that a thread that awaits a birth has room for it, and `CodeEvents` carries both layers through
+-- every list of events.
 
 pub mod NotBad
 pub mod KeepsDuty
@@ -41,6 +42,7 @@ pub mod FirstCounts
 pub mod FirstRanges
 pub mod FirstHands
 pub mod FirstMachine
+pub mod Sound
 pub mod CodeInvariant
 pub mod StepCases
 pub mod KindsHold

@@ -5,9 +5,8 @@
 -- running threads, and `SlotsFree` and `SlotsKnown`, what they know of slots; `RowLaws`, which extends these laws to
 -- every list of events, as `HandedMerges` does its own; `KnownKinds` and `BorrowedItems`, what the checker says of
 -- kinds and of borrowed items; then the laws of the world: `Worlds`, `AgendaMoves`, `Emptying`, `Emptied`, `Leading`,
--- `Turns`,
--- `Elsewhere`, `StepsMove`, `LocksWait`, `Trace`, `CallsLeft`, `Bounded`, `Faults`, `HostCalls`.
--- `Rules` proves that the named rules are the steps. `Worked` computes three schedules.
+-- `Turns`, `Elsewhere`, `StepsMove`, `LocksWait`, `Trace`, `CallLimits`, `CallsLeft`, `Bounded`, `Faults`, `HostCalls`.
+-- `Rules` proves that the named rules are the steps. `Worked` and `WorkedCalls` compute some schedules.
 
 pub mod Agreeing
 pub mod AtTheEnd
@@ -41,10 +40,12 @@ pub mod StepsMove
 pub mod Stops
 pub mod LocksWait
 pub mod Trace
+pub mod CallLimits
 pub mod CallsLeft
 pub mod Bounded
 pub mod Faults
 pub mod HostCalls
 pub mod Rules
 pub mod Worked
+pub mod WorkedCalls
 pub mod Ending

@@ -7,7 +7,7 @@ use Rattle.brc_model.specs.declared.duty.Duty.{Duty}
 use Rattle.brc_model.specs.AbstractState.{Move}
 use Rattle.brc_model.specs.declared.actor.Actor.{Actor}
 
--- a thread of the step world: the function that it calls, where it is, and what it counts with
+-- a thread of the step world: the function that it calls from outside, where it is, and what it counts with
 pub record StepActor : Type 0 where
   pub function : ℕ
   pub place : Place

@@ -1,38 +1,37 @@
 -- Actions. At an event a thread of the step world does the first duty of its agenda, or what its code dispatches.
-use Rattle.std.specs.Prelude.{ℕ, zero, suc, ◌+◌, ◌*◌, Bool, true, false, ◌&&◌, ◌==◌, nat_lt, if◌then◌else◌, List, [], ◌∷◌, length, Option, None, Some, slice_get, slice_index_or, slice_set, replicate}
+use Rattle.std.specs.Prelude.{ℕ, zero, suc, ◌+◌, ◌*◌, ◌==◌, nat_lt, if◌then◌else◌, List, [], ◌∷◌, ◌++◌, length, map, fold, Option, None, Some, is_some, slice_index_or, slice_set, replicate}
+use Rattle.std.specs.List.{list_all}
 use Rattle.brc_word.specs.declared.values.TheConstants.{NUM, LIST, FILE, SOCK}
 use Rattle.brc_lang.specs.declared.module.Instr.{Instr}
 use Rattle.brc_lang.specs.declared.module.Instr.TheVariants.{Num, List as ListObject, NoneObject, Newref, Move as MoveReference, Drop, Lock, Unlock, Borrow, Fetch, Set, Put, Goto, Again, Ret, Fail, As, Open, Connect, Read, Write, Call}
-use Rattle.brc_lang.specs.declared.module.Function.{Function}
+use Rattle.brc_lang.specs.declared.parameter.Argument.{Argument}
 use Rattle.brc_word.specs.Words.{half, free_word}
-use Rattle.brc_model.specs.declared.thread.Choice.{Choice}
-use Rattle.brc_model.specs.declared.thread.Choice.TheVariants.{Ok, Fault, Claim, Stop}
-use Rattle.brc_model.specs.declared.state.Exit.{Exit}
 use Rattle.brc_model.specs.declared.state.Exit.TheVariants.{Success, Fault as FaultExit}
-use Rattle.brc_model.specs.declared.actor.Status.{Status}
-use Rattle.brc_model.specs.declared.actor.Status.TheVariants.{Running, Leaving, Gone}
 use Rattle.brc_model.specs.declared.actor.Context.{Context}
+use Rattle.brc_model.specs.declared.actor.OpenCall.{OpenCall}
 use Rattle.brc_model.specs.declared.actor.Place.{Place}
-use Rattle.brc_model.specs.declared.actor.Place.TheVariants.{Idle, InCall, Inside, Stopping, Exiting}
-use Rattle.brc_model.specs.declared.state.State.{State}
+use Rattle.brc_model.specs.declared.actor.Place.TheVariants.{Idle, InCall, Inside}
 use Rattle.brc_model.specs.declared.actor.Stage.{Stage}
 use Rattle.brc_model.specs.declared.actor.Stage.TheVariants.{InRange, OutOfRange, Found, Retained, Loaded, Lent, Called, Granted}
 use Rattle.brc_model.specs.declared.duty.Holding.{Holding}
-use Rattle.brc_model.specs.declared.duty.Holding.TheVariants.{ByVariable, AsCaller, InFlight}
-use Rattle.brc_model.specs.declared.duty.Duty.{Duty}
-use Rattle.brc_model.specs.declared.duty.Duty.TheVariants.{RetainLoad, ReleaseLoad, Settle, Leave, ClaimMark, BirthKind, KindLoad, LockGate, UnlockGate, CellLoad, CellSwap, LendSlot, ReturnSlot}
+use Rattle.brc_model.specs.declared.duty.Holding.TheVariants.{ByVariable, InFlight}
+use Rattle.brc_model.specs.declared.duty.Duty.TheVariants.{RetainLoad, ReleaseLoad, Settle, BirthKind, KindLoad, LockGate, UnlockGate, CellLoad, CellSwap, LendSlot, ReturnSlot}
 use Rattle.brc_model.specs.Kinds.{same_kind, kind_of_word}
-use Rattle.brc_model.specs.Threads.{code_of, row_of, entry_variables}
+use Rattle.brc_model.specs.VarStates.{is_stolen, stolen, padded}
+use Rattle.brc_model.specs.Threads.{row_of}
 use Rattle.brc_model.specs.Duties.{cells_of}
+use Rattle.brc_model.specs.AbstractState.{Move}
 use Rattle.brc_model.specs.Moves.{pass_on, gain}
 use Rattle.brc_model.specs.declared.layout.Layout.{Layout}
-use Rattle.brc_model.specs.Layout.{none_row, root_row, block_of, row_at, index_of}
-use Rattle.brc_model.specs.Machine.{is_running, has_room}
+use Rattle.brc_model.specs.Layout.{none_row, root_row, row_at}
+use Rattle.brc_model.specs.Machine.{has_room}
 pub use Rattle.brc_model.specs.Action.{StepActor, Action, Skip, Stuck, Silent, Calls, Does, always, by_exit, with_row}
 pub use Rattle.brc_model.specs.Stops.{
   owned_rows,
   row_locked,
-  none_of,
+  waiting_state,
+  owned_by,
+  given_up,
   holds_some,
   stopping,
   first_named,
@@ -132,6 +131,83 @@ abbrev pub by_item : Place → (ℕ → Place) → ℕ → Place
 by_item empty holds zero = empty
 by_item empty holds (suc row) = holds row
 
+-- ---- calls of functions
+
+-- the variables once this one is empty
+abbrev pub without_row : List (Option ℕ) → ℕ → List (Option ℕ)
+without_row variables x = slice_set variables x None
+
+-- What the variables of a call name while it waits for one that it has made: those that the call stole are empty, and
+-- so is the variable `to` of the result.
+abbrev pub kept_rows : List (Option ℕ) → List Argument → ℕ → List (Option ℕ)
+kept_rows variables arguments to = slice_set (fold without_row variables (stolen arguments)) to None
+
+-- the row of each argument
+abbrev pub argument_rows : List (Option ℕ) → List Argument → List (Option ℕ)
+argument_rows variables arguments = map (λ a. row_of variables a.from) arguments
+
+-- at the start of a call that a call has made v0 names the root, and the variables from v1 on the arguments' rows
+abbrev pub passed_variables : List (Option ℕ) → List Argument → List (Option ℕ)
+passed_variables variables arguments = Some root_row ∷ padded 15 None (argument_rows variables arguments)
+
+-- The moves of a call's argument, if the call is made in one at this depth: a reference that it steals goes from the
+-- variable to the callee's variable `to`.
+abbrev pub handed_row : ℕ → ℕ → ℕ → Argument → Option ℕ → List Move
+handed_row t depth to a None = []
+handed_row t depth to a (Some row) =
+    if is_stolen a then pass_on t (ByVariable depth a.from) (ByVariable (suc depth) to) row else []
+
+-- the moves of these arguments, of which the first is for the callee's variable `to`
+abbrev pub handed_rows : ℕ → ℕ → List (Option ℕ) → ℕ → List Argument → List Move
+handed_rows t depth variables to [] = []
+handed_rows t depth variables to (a ∷ others) =
+    handed_row t depth to a (row_of variables a.from) ++ handed_rows t depth variables (suc to) others
+
+-- the context of a call of `callee` that the instruction at this point makes
+abbrev pub callee_context : Context → ℕ → List (Option ℕ) → ℕ → ℕ → List Argument → ℕ → Context
+callee_context context at variables to callee arguments otherwise = record {
+  left = context.left;
+  turns = replicate 256 0;
+  outer = record {
+    callee = callee;
+    at = at;
+    variables = kept_rows variables arguments to;
+    turns = context.turns;
+    to = to;
+    otherwise = otherwise;
+  } ∷ context.outer;
+}
+
+-- the context of an open call in which the thread goes on
+abbrev pub waiting_context : ℕ → OpenCall → List OpenCall → Context
+waiting_context left o outer = record { left = left; turns = o.turns; outer = outer }
+
+-- Returns what a thread does that calls a function. The call's stolen references are the callee's from then on.
+abbrev pub call_action : ℕ → Context → ℕ → List (Option ℕ) → ℕ → ℕ → List Argument → ℕ → Action
+call_action t context at variables to callee arguments otherwise =
+    if list_all is_some (argument_rows variables arguments)
+    then Silent (handed_rows t (depth_of context) variables 1 arguments)
+    (InCall (callee_context context at variables to callee arguments otherwise) 0
+    (passed_variables variables arguments))
+    else Stuck
+
+-- Returns what a thread does that ends a call and returns the reference in the variable, which names the row. The
+-- caller of an outermost call releases it. A call that waits for this one has it from then on, and goes on at the next
+-- instruction.
+abbrev pub ret_action : ℕ → ℕ → ℕ → ℕ → List OpenCall → Action
+ret_action t left from row [] = Does (ReleaseLoad row (ByVariable 0 from)) (Settle ∷ []) (always (Idle left))
+ret_action t left from row (o ∷ outer) =
+    Silent (pass_on t (ByVariable (suc (length outer)) from) (ByVariable (length outer) o.to) row)
+    (InCall (waiting_context left o outer) (o.at + 1) (slice_set o.variables o.to (Some row)))
+
+-- Returns what a thread does that ends a call and returns no reference. A call that waits for this one goes on where a
+-- fault of it leads.
+abbrev pub fail_action : ℕ → List OpenCall → Action
+fail_action left [] = Silent [] (Idle left)
+fail_action left (o ∷ outer) = Silent [] (InCall (waiting_context left o outer) o.otherwise o.variables)
+
+-- ---- instructions
+
 -- Returns what a thread does at an instruction, if it has used `used` rows of its block. A lock that another thread
 -- holds isn't got: the instruction hasn't begun, and the thread is where it was, at `before`.
 abbrev pub dispatch_instruction : Layout → ℕ → ℕ → Place → Context → ℕ → List (Option ℕ) → Option Instr → Action
@@ -192,15 +268,15 @@ dispatch_instruction layout t used before context at variables (Some (As from ki
     with_row (row_of variables from)
     (λ row. Does (KindLoad row) []
     (λ found. InCall context (if same_kind (kind_of_word found) kind then at + 1 else otherwise) variables))
-dispatch_instruction layout t used before context at variables (Some (Call to callee arguments otherwise)) = Stuck
+dispatch_instruction layout t used before context at variables (Some (Call to callee arguments otherwise)) =
+    call_action t context at variables to callee arguments otherwise
 dispatch_instruction layout t used before context at variables (Some (Goto to)) =
     Silent [] (InCall context to variables)
 dispatch_instruction layout t used before context at variables (Some (Again to times)) =
     Silent [] (again_place context at variables to times)
 dispatch_instruction layout t used before context at variables (Some (Ret from)) =
-    with_row (row_of variables from)
-    (λ row. Does (ReleaseLoad row (by_variable context from)) (Settle ∷ []) (always (Idle context.left)))
-dispatch_instruction layout t used before context at variables (Some Fail) = Silent [] (Idle context.left)
+    with_row (row_of variables from) (λ row. ret_action t context.left from row context.outer)
+dispatch_instruction layout t used before context at variables (Some Fail) = fail_action context.left context.outer
 
 -- Returns what a thread does inside an instruction that takes several steps, by how far it is. An item is borrowed as
 -- it is found, or fetched with a reference of its own. A stored item's reference is the variable's (`set`), or a new
@@ -258,77 +334,3 @@ dispatch_inside layout t used context at variables (Called Success) (Some (Write
 dispatch_inside layout t used context at variables (Called FaultExit) (Some (Write file number otherwise)) =
     return_action variables file (InCall context otherwise variables)
 dispatch_inside layout t used context at variables stage i = Stuck
-
--- ---- what a thread dispatches
-
--- Returns what a thread with an empty agenda does. With no call left it gives up its reference to the root, settles,
--- and leaves.
-abbrev pub dispatch : Layout → ℕ → ℕ → List Instr → Place → Action
-dispatch layout t used code Exiting = Stuck
-dispatch layout t used code (Idle zero) =
-    Does (ReleaseLoad root_row AsCaller) (Settle ∷ Leave 0 used ∷ []) (always Exiting)
-dispatch layout t used code (Idle (suc left)) =
-    dispatch_instruction layout t used (Idle (suc left)) (first_context left) 0 entry_variables (slice_get code 0)
-dispatch layout t used code (InCall context at variables) =
-    dispatch_instruction layout t used (InCall context at variables) context at variables (slice_get code at)
-dispatch layout t used code (Inside context at variables stage) =
-    dispatch_inside layout t used context at variables stage (slice_get code at)
-dispatch layout t used code (Stopping (Some row) calls) = Does (UnlockGate row) [] (always (stopping None calls))
-dispatch layout t used code (Stopping None calls) = give_up calls
-
--- Says whether the place is outside all calls.
-abbrev pub is_idle : Place → Bool
-is_idle (Idle left) = true
-is_idle (InCall context at variables) = false
-is_idle (Inside context at variables stage) = false
-is_idle (Stopping lock calls) = false
-is_idle Exiting = false
-
--- Says whether the thread is before an instruction: at the beginning of a call or at a point of one.
-abbrev pub is_before_instruction : Place → Bool
-is_before_instruction (Idle zero) = false
-is_before_instruction (Idle (suc left)) = true
-is_before_instruction (InCall context at variables) = true
-is_before_instruction (Inside context at variables stage) = false
-is_before_instruction (Stopping lock calls) = false
-is_before_instruction Exiting = false
-
--- Says whether the thread may stop: it runs, has nothing to do, and is before an instruction. An instruction that it
--- has begun it ends first; a lock that it tried and didn't get hasn't begun.
-abbrev pub may_stop : StepActor → Bool
-may_stop a = is_before_instruction a.place && is_running a.actor.status && (length a.actor.agenda == 0)
-
--- Says whether the thread may claim the row: it runs, is outside its calls with nothing to do, and has used the row,
--- which is in its own block.
-abbrev pub may_claim : Layout → ℕ → StepActor → ℕ → Bool
-may_claim layout t a row =
-    is_idle a.place && is_running a.actor.status && (length a.actor.agenda == 0) && (block_of layout row == t)
-    && nat_lt (index_of layout t row) a.actor.used
-
--- Returns what a thread that isn't gone does: the first duty of its agenda, or what it dispatches.
-abbrev pub agenda_action : List Function → Layout → ℕ → StepActor → List Duty → Action
-agenda_action functions layout t a [] =
-    dispatch layout t a.actor.used (code_of (slice_get functions a.function)) a.place
-agenda_action functions layout t a (d ∷ rest) = Does d rest (always a.place)
-
--- Returns what a thread of the status does: one that is gone takes no step.
-abbrev pub status_action : List Function → Layout → ℕ → StepActor → Status → Action
-status_action functions layout t a Gone = Skip
-status_action functions layout t a Running = agenda_action functions layout t a a.actor.agenda
-status_action functions layout t a Leaving = agenda_action functions layout t a a.actor.agenda
-
--- The exit that the choice gives a host call or a close.
-abbrev pub exit_of : Choice → Exit
-exit_of Ok = Success
-exit_of Fault = FaultExit
-exit_of (Claim row) = Success
-exit_of Stop = Success
-
--- Returns what the thread does at an event with the choice. Only a host call or a close ends another way by `Fault`
--- than by `Ok`. The states are those that the module's table gives the points of its functions.
-abbrev pub action_of : List Function → (ℕ → ℕ → Option State) → Layout → ℕ → StepActor → Choice → Action
-action_of functions states layout t a Ok = status_action functions layout t a a.actor.status
-action_of functions states layout t a Fault = status_action functions layout t a a.actor.status
-action_of functions states layout t a (Claim row) =
-    if may_claim layout t a row then Does (ClaimMark row) [] (always a.place) else Skip
-action_of functions states layout t a Stop = if may_stop a then stop_action (states a.function) a.place else Skip

@@ -6,8 +6,9 @@ use Rattle.brc_model.specs.declared.duty.Duty.{Duty}
 use Rattle.brc_model.specs.declared.thread.Choice.{Choice}
 use Rattle.brc_model.specs.declared.thread.Choice.TheVariants.{Ok, Fault, Claim, Stop}
 use Rattle.brc_model.specs.BadDuties.{touches_freed, is_bad_duty}
-use Rattle.brc_model.specs.Threads.{code_of}
-use Rattle.brc_model.specs.Actions.{StepActor, Action, Skip, Stuck, Silent, Calls, Does, action_of}
+use Rattle.brc_model.specs.Threads.{function_in}
+use Rattle.brc_model.specs.Actions.{StepActor, Action, Skip, Stuck, Silent, Calls, Does}
+use Rattle.brc_model.specs.Dispatch.{action_of}
 use Rattle.brc_model.specs.Needs.{starts_unfit}
 use Rattle.brc_model.specs.StepMachine.{StepMachine, counting, of_thread}
 
@@ -22,7 +23,7 @@ is_bad_action m t a (Does d rest place) = is_bad_duty (counting m) t a.actor d
 -- Says whether the thread begins an instruction that lacks what it needs. A thread with duties is inside one.
 abbrev pub begins_unfit : StepMachine → StepActor → List Duty → Bool
 begins_unfit m a [] =
-    starts_unfit m.memory a.actor.locked (code_of (slice_get m.functions a.function)) a.place
+    starts_unfit m.memory a.actor.locked (function_in m.functions a.function a.place).code a.place
 begins_unfit m a (d ∷ rest) = false
 
 abbrev pub chooses_unfit : StepMachine → StepActor → Choice → Bool

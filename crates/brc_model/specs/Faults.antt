@@ -3,7 +3,8 @@ use Rattle.std.specs.Prelude.{◌≡◌, ℕ, ◌≤◌, Bool, true, false, if�
 use Rattle.brc_model.specs.declared.thread.Choice.{Choice}
 use Rattle.brc_model.specs.declared.thread.Choice.TheVariants.{Ok, Fault}
 use Rattle.brc_model.specs.Limits.{most_faults}
-use Rattle.brc_model.specs.Actions.{Action, Calls, Does, exit_of, action_of}
+use Rattle.brc_model.specs.Actions.{Action, Calls, Does}
+use Rattle.brc_model.specs.Dispatch.{exit_of, action_of}
 use Rattle.brc_model.specs.StepMachine.{StepMachine, of_thread, counted, closes, next_machine}
 
 -- Says whether the action is a host call.

@@ -6,7 +6,7 @@ use Rattle.brc_lang.specs.declared.module.Instr.TheVariants.{Read, Write}
 use Rattle.brc_model.specs.declared.actor.Context.{Context}
 use Rattle.brc_model.specs.declared.actor.Place.TheVariants.{Inside}
 use Rattle.brc_model.specs.declared.actor.Stage.TheVariants.{Lent}
-use Rattle.brc_model.specs.Threads.{code_of, row_of}
+use Rattle.brc_model.specs.Threads.{function_in, row_of}
 use Rattle.brc_model.specs.Actions.{StepActor}
 use Rattle.brc_model.specs.StepMachine.{StepMachine}
 
@@ -27,5 +27,5 @@ abbrev pub CallsUseTheLent : StepMachine → Type 0
 CallsUseTheLent m =
     (t at file : ℕ) (a : StepActor) (context : Context) (variables : List (Option ℕ))
     → slice_get m.actors t ≡ Some a → a.place ≡ Inside context at variables Lent
-    → file_of (slice_get (code_of (slice_get m.functions a.function)) at) ≡ Some file
+    → file_of (slice_get (function_in m.functions a.function a.place).code at) ≡ Some file
     → HasLent a variables file

@@ -2,6 +2,7 @@
 -- cell that the thread is about to use is one of the list's. (Python/C API manual, Reference Count Details: a borrowed
 -- reference is good for as long as the list has the item.)
 use Rattle.std.specs.Prelude.{◌≡◌, ℕ, ◌+◌, ◌<◌, Bool, true, false, List, Option, Some, slice_get}
+use Rattle.brc_lang.specs.declared.module.Function.{Function}
 use Rattle.brc_lang.specs.declared.module.Instr.{Instr}
 use Rattle.brc_lang.specs.declared.module.Instr.TheVariants.{Borrow, Fetch, Set, Put}
 use Rattle.brc_model.specs.declared.state.VarState.{VarState}
@@ -16,7 +17,7 @@ use Rattle.brc_model.specs.declared.address.Address.{Address}
 use Rattle.brc_model.specs.declared.address.Address.TheVariants.{KindOf, Cell}
 use Rattle.brc_model.specs.VarStates.{var_of}
 use Rattle.brc_model.specs.Paths.{At, path_end}
-use Rattle.brc_model.specs.Threads.{code_of, row_of}
+use Rattle.brc_model.specs.Threads.{function_in, row_of}
 use Rattle.brc_model.specs.Duties.{cells_of}
 use Rattle.brc_model.specs.Actions.{StepActor}
 use Rattle.brc_model.specs.StepMachine.{StepMachine}
@@ -58,22 +59,22 @@ StageKnows memory locked variables (Found item) i = IsItem memory locked item
 StageKnows memory locked variables stage i = Unit {0}
 
 -- What a thread inside an instruction knows of items.
-pub record KnowsInside (code : List Instr) (memory : Address → ℕ) (locked : Option ℕ) (at : ℕ)
+pub record KnowsInside (f : Function) (memory : Address → ℕ) (locked : Option ℕ) (at : ℕ)
     (variables : List (Option ℕ)) (stage : Stage) : Type 0 where
-  pub items : (exits : List Exit) (s : State) → path_end code exits ≡ At at s → HaveItems memory locked s variables
-  pub cell : StageKnows memory locked variables stage (slice_get code at)
+  pub items : (exits : List Exit) (s : State) → path_end f exits ≡ At at s → HaveItems memory locked s variables
+  pub cell : StageKnows memory locked variables stage (slice_get f.code at)
 
 -- What a thread knows of items at its place, in the states in which paths reach its point.
-abbrev pub KnowsItems : List Instr → (Address → ℕ) → Option ℕ → Place → Type 0
-KnowsItems code memory locked (Idle left) = Unit {0}
-KnowsItems code memory locked (InCall context at variables) =
-    (exits : List Exit) (s : State) → path_end code exits ≡ At at s → HaveItems memory locked s variables
-KnowsItems code memory locked (Inside context at variables stage) = KnowsInside code memory locked at variables stage
-KnowsItems code memory locked (Stopping lock calls) = Unit {0}
-KnowsItems code memory locked Exiting = Unit {0}
+abbrev pub KnowsItems : Function → (Address → ℕ) → Option ℕ → Place → Type 0
+KnowsItems f memory locked (Idle left) = Unit {0}
+KnowsItems f memory locked (InCall context at variables) =
+    (exits : List Exit) (s : State) → path_end f exits ≡ At at s → HaveItems memory locked s variables
+KnowsItems f memory locked (Inside context at variables stage) = KnowsInside f memory locked at variables stage
+KnowsItems f memory locked (Stopping lock calls) = Unit {0}
+KnowsItems f memory locked Exiting = Unit {0}
 
 -- each thread's borrowed items stand in the list that it has locked
 abbrev pub ItemsAreThere : StepMachine → Type 0
 ItemsAreThere m =
     (t : ℕ) (a : StepActor) → slice_get m.actors t ≡ Some a
-    → KnowsItems (code_of (slice_get m.functions a.function)) m.memory a.actor.locked a.place
+    → KnowsItems (function_in m.functions a.function a.place) m.memory a.actor.locked a.place

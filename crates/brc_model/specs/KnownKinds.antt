@@ -4,7 +4,7 @@
 use Rattle.std.specs.Prelude.{◌≡◌, ◌≢◌, ◌⊎◌, ℕ, List, Option, Some, slice_get}
 use Rattle.brc_lang.specs.declared.kind.Kind.{Kind}
 use Rattle.brc_lang.specs.declared.kind.Kind.TheVariants as kinds
-use Rattle.brc_lang.specs.declared.module.Instr.{Instr}
+use Rattle.brc_lang.specs.declared.module.Function.{Function}
 use Rattle.brc_model.specs.declared.state.VarState.{VarState}
 use Rattle.brc_model.specs.declared.state.State.{State}
 use Rattle.brc_model.specs.declared.state.Exit.{Exit}
@@ -15,7 +15,7 @@ use Rattle.brc_model.specs.declared.thread.Choice.{Choice}
 use Rattle.brc_model.specs.Kinds.{kind_of_word}
 use Rattle.brc_model.specs.VarStates.{var_of, kind_of}
 use Rattle.brc_model.specs.Paths.{At, path_end}
-use Rattle.brc_model.specs.Threads.{code_of, row_of}
+use Rattle.brc_model.specs.Threads.{function_in, row_of}
 use Rattle.brc_model.specs.Layout.{none_row, root_row}
 use Rattle.brc_model.specs.Actions.{StepActor}
 use Rattle.brc_model.specs.StepMachine.{StepMachine, next_machine}
@@ -33,14 +33,14 @@ HaveTrueKinds words s variables = (v : ℕ) → HasTrueKind words (var_of s v) (
 
 -- In a call, each variable has the kind of its state of a variable in the state in which paths reach the thread's
 -- point.
-abbrev pub KnowsKinds : List Instr → (ℕ → ℕ) → Place → Type 0
-KnowsKinds code words (Idle left) = Unit {0}
-KnowsKinds code words (InCall context at variables) =
-    (exits : List Exit) (s : State) → path_end code exits ≡ At at s → HaveTrueKinds words s variables
-KnowsKinds code words (Inside context at variables stage) =
-    (exits : List Exit) (s : State) → path_end code exits ≡ At at s → HaveTrueKinds words s variables
-KnowsKinds code words (Stopping lock calls) = Unit {0}
-KnowsKinds code words Exiting = Unit {0}
+abbrev pub KnowsKinds : Function → (ℕ → ℕ) → Place → Type 0
+KnowsKinds f words (Idle left) = Unit {0}
+KnowsKinds f words (InCall context at variables) =
+    (exits : List Exit) (s : State) → path_end f exits ≡ At at s → HaveTrueKinds words s variables
+KnowsKinds f words (Inside context at variables stage) =
+    (exits : List Exit) (s : State) → path_end f exits ≡ At at s → HaveTrueKinds words s variables
+KnowsKinds f words (Stopping lock calls) = Unit {0}
+KnowsKinds f words Exiting = Unit {0}
 
 abbrev pub kind_words : StepMachine → ℕ → ℕ
 kind_words m x = m.memory (KindOf x)
@@ -49,17 +49,12 @@ kind_words m x = m.memory (KindOf x)
 abbrev pub KindsAreKnown : StepMachine → Type 0
 KindsAreKnown m =
     (t : ℕ) (a : StepActor) → slice_get m.actors t ≡ Some a
-    → KnowsKinds (code_of (slice_get m.functions a.function)) (kind_words m) a.place
+    → KnowsKinds (function_in m.functions a.function a.place) (kind_words m) a.place
 
 -- none and the root have their kinds from the start
 pub record AreNamed (words : ℕ → ℕ) : Type 0 where
   pub none : kind_of_word (words none_row) ≡ kinds.None
   pub root : kind_of_word (words root_row) ≡ kinds.List
-
--- Each thread knows the kinds of what its variables name, and none and the root have their kinds.
-pub record KindsHold (m : StepMachine) : Type 0 where
-  pub named : AreNamed (kind_words m)
-  pub known : KindsAreKnown m
 
 -- a kind word that a birth has stored stays
 abbrev pub KindsStay : StepMachine → ℕ × Choice → Type 0

@@ -12,6 +12,7 @@ pub mod Machine
 pub mod Action
 pub mod Stops
 pub mod Actions
+pub mod Dispatch
 pub mod StepMachine
 pub mod KnownKinds
 pub mod Items

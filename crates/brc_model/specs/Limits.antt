@@ -1,8 +1,8 @@
 -- The limits of a machine.
 use Rattle.std.specs.Prelude.{ℕ, ◌+◌, ◌*◌, ◌-◌, ◌^◌}
 use Rattle.brc_model.specs.Layout.{front_rows}
--- the most cells of a list in a text
-pub use Rattle.brc_lang.specs.Limits.{text_cells}
+-- the most cells of a list in a text, and the most calls of one thread that are open at a time
+pub use Rattle.brc_lang.specs.Limits.{text_cells, depth_limit}
 
 -- the most cells of a list in any machine: each has its own limit, which is at most this
 abbrev pub cell_limit : ℕ
@@ -34,10 +34,6 @@ block_limit = front_rows + immortal_limit + row_limit
 -- the most rows in all
 abbrev pub total_limit : ℕ
 total_limit = front_rows + worker_limit * row_limit + immortal_limit
-
--- the most calls of one thread that are open at a time
-abbrev pub depth_limit : ℕ
-depth_limit = 8
 
 -- the most calls that one worker makes
 abbrev pub times_limit : ℕ

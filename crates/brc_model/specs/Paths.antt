@@ -9,7 +9,7 @@ use Rattle.brc_lang.specs.declared.check_code.CheckCode.{CheckCode}
 use Rattle.brc_lang.specs.declared.check_code.CheckCode.TheVariants.{RunsOff}
 use Rattle.brc_model.specs.declared.state.State.{State}
 use Rattle.brc_model.specs.declared.state.Exit.{Exit}
-use Rattle.brc_model.specs.VarStates.{lowest, after, target, entry}
+use Rattle.brc_model.specs.VarStates.{lowest, after, target, entry_of}
 
 -- the end of a path: a point in a state, the end of the call, or an error code that applies at a point
 pub data PathEnd : Type 0 where
@@ -39,19 +39,19 @@ follow code Ended exit = Ended
 follow code (Reports at c) exit = Reports at c
 
 -- the end of the path that takes these exits, one after another, from the function's entry
-abbrev pub path_end : List Instr → List Exit → PathEnd
-path_end code exits = fold (follow code) (At 0 entry) exits
+abbrev pub path_end : Function → List Exit → PathEnd
+path_end f exits = fold (follow f.code) (At 0 (entry_of f.parameters)) exits
 
 -- some path reports the code at the point
-pub record ReportsCode (code : List Instr) (at : ℕ) (reported : CheckCode) : Type 0 where
+pub record ReportsCode (f : Function) (at : ℕ) (reported : CheckCode) : Type 0 where
   pub exits : List Exit
-  pub reports : path_end code exits ≡ Reports at reported
+  pub reports : path_end f exits ≡ Reports at reported
 
 -- no path reports an error, and any two paths to one point reach it in equal states
-pub record IsAcceptableCode (code : List Instr) : Type 0 where
-  pub reports_none : (at : ℕ) (reported : CheckCode) → ReportsCode code at reported → ⊥
-  pub states_agree : (exits others : List Exit) (at : ℕ) (s t : State) → path_end code exits ≡ At at s
-      → path_end code others ≡ At at t → s ≡ t
+pub record IsAcceptableFunction (f : Function) : Type 0 where
+  pub reports_none : (at : ℕ) (reported : CheckCode) → ReportsCode f at reported → ⊥
+  pub states_agree : (exits others : List Exit) (at : ℕ) (s t : State) → path_end f exits ≡ At at s
+      → path_end f others ≡ At at t → s ≡ t
 
 abbrev pub IsAcceptable : Module → Type 0
-IsAcceptable m = AllByRecursion (λ (f : Function). IsAcceptableCode f.code) m.functions
+IsAcceptable m = AllByRecursion IsAcceptableFunction m.functions

@@ -1,5 +1,5 @@
 -- The safety of an accepted module.
-use Rattle.std.specs.Prelude.{◌≡◌, ◌≢◌, ℕ, ◌<◌, ◌≤◌, Bool, true, false, List, length, AllPairs, ◌↔◌, Option}
+use Rattle.std.specs.Prelude.{◌≡◌, ◌≢◌, ℕ, ◌<◌, ◌≤◌, Bool, true, false, List, [], length, AllPairs, ◌↔◌, Option}
 use Rattle.std.specs.List.{All, AllByRecursion, list_all}
 use Rattle.brc_lang.specs.declared.module.Module.{Module}
 use Rattle.brc_model.specs.declared.thread.Call.{Call}
@@ -19,10 +19,13 @@ use Rattle.brc_model.specs.Events.{is_bad_event}
 use Rattle.brc_model.specs.Limits.{row_limit, worker_limit, times_limit}
 use Rattle.brc_model.specs.Layout.{IsCounted}
 use Rattle.brc_model.specs.Tables.{AreTrueWhereReached}
+use Rattle.brc_model.specs.Threads.{function_at}
 
--- the calls of one worker: 1 to 1,000,000 calls of one function of the module
+-- the calls of one worker: 1 to 1,000,000 calls of one function of the module, which has no parameters
 abbrev pub IsCall : Module → Call → Type 0
-IsCall m c = (c.function < length m.functions) × (0 < c.times) × (c.times ≤ times_limit)
+IsCall m c =
+    (c.function < length m.functions) × (0 < c.times) × (c.times ≤ times_limit)
+    × ((function_at m.functions c.function).parameters ≡ [])
 
 -- the calls of 1 to 32 workers
 pub record AreCalls (m : Module) (calls : List Call) : Type 0 where

@@ -26,7 +26,8 @@ use Rattle.brc_model.specs.Layout.{root_row, front_rows, by_row}
 use Rattle.brc_model.specs.Duties.{address_of}
 use Rattle.brc_model.specs.declared.actor.Actor.{Actor}
 use Rattle.brc_model.specs.Machine.{idle_actor, Life, Unborn, Live, Machine, actor_by, machine_by_duty}
-use Rattle.brc_model.specs.Actions.{StepActor, Action, Skip, Stuck, Silent, Calls, Does, exit_of, action_of}
+use Rattle.brc_model.specs.Actions.{StepActor, Action, Skip, Stuck, Silent, Calls, Does}
+use Rattle.brc_model.specs.Dispatch.{exit_of, action_of}
 
 -- ---- the machine
 

@@ -1,17 +1,19 @@
 -- Stops. A thread that stops unlocks what it has locked, and gives up what its calls hold, without a further call. What
--- that is says the state that the module's table gives its point.
-use Rattle.std.specs.Prelude.{ℕ, Bool, suc, ◌||◌, if◌then◌else◌, is_some, map, List, [], ◌∷◌, length, Option, None, Some, slice_set}
+-- that is say the states that the module's table gives the calls' points.
+use Rattle.std.specs.Prelude.{ℕ, Bool, suc, ◌||◌, if◌then◌else◌, is_some, List, [], ◌∷◌, length, Option, None, Some, slice_get, slice_set}
 use Rattle.std.specs.List.{list_any}
 use Rattle.brc_model.specs.declared.state.VarState.{VarState}
 use Rattle.brc_model.specs.declared.state.State.{State}
-use Rattle.brc_model.specs.declared.actor.Context.{Context}
+use Rattle.brc_model.specs.declared.state.Exit.TheVariants.{Fault}
+use Rattle.brc_lang.specs.declared.module.Instr.{Instr}
+use Rattle.brc_lang.specs.declared.module.Function.{Function}
 use Rattle.brc_model.specs.declared.actor.OpenCall.{OpenCall}
 use Rattle.brc_model.specs.declared.actor.Place.{Place}
 use Rattle.brc_model.specs.declared.actor.Place.TheVariants.{Idle, InCall, Stopping}
 use Rattle.brc_model.specs.declared.duty.Holding.TheVariants.{ByVariable}
 use Rattle.brc_model.specs.declared.duty.Duty.TheVariants.{ReleaseLoad, Settle}
-use Rattle.brc_model.specs.VarStates.{is_owned}
-use Rattle.brc_model.specs.Threads.{row_of}
+use Rattle.brc_model.specs.VarStates.{is_owned, after}
+use Rattle.brc_model.specs.Threads.{function_at, number_under, row_of}
 use Rattle.brc_model.specs.Action.{Action, Skip, Stuck, Silent, Does, always, with_row}
 
 -- the rows of the variables whose states own a reference
@@ -25,9 +27,28 @@ abbrev pub row_locked : Option ℕ → List (Option ℕ) → Option ℕ
 row_locked None variables = None
 row_locked (Some v) variables = row_of variables v
 
--- A call further out holds nothing by its variables.
-abbrev pub none_of : OpenCall → List (Option ℕ)
-none_of call = []
+-- the state that the fault exit of the instruction leaves, if there are both
+abbrev pub fault_state : Option Instr → Option State → Option State
+fault_state (Some i) (Some s) = Some (after i Fault s)
+fault_state i s = None
+
+-- The state in which a call of the function `number` waits for the one that it has made: what the fault exit of its
+-- instruction leaves. The success exit leaves the result beside it.
+abbrev pub waiting_state : List Function → (ℕ → ℕ → Option State) → ℕ → OpenCall → Option State
+waiting_state functions states number o =
+    fault_state (slice_get (function_at functions number).code o.at) (states number o.at)
+
+-- the rows of the variables whose states own a reference, if there is a state
+abbrev pub owned_by : Option State → List (Option ℕ) → List (Option ℕ)
+owned_by None rows = []
+owned_by (Some s) rows = owned_rows s.vars rows
+
+-- What the open calls of a thread that calls `first` give up, the nearest first.
+abbrev pub given_up : List Function → (ℕ → ℕ → Option State) → ℕ → List OpenCall → List (List (Option ℕ))
+given_up functions states first [] = []
+given_up functions states first (o ∷ outer) =
+    owned_by (waiting_state functions states (number_under first outer) o) o.variables
+    ∷ given_up functions states first outer
 
 -- Says whether some of the calls has still to give up a reference.
 abbrev pub holds_some : List (List (Option ℕ)) → Bool
@@ -63,14 +84,18 @@ give_up (rows ∷ outer) = if list_any is_some rows then give_up_first rows oute
 -- ---- the stop itself
 
 -- Returns what a thread does that stops in a call, at a point with this state. What the state says is locked it has to
--- unlock, and what the state says its variables own it has to give up; what they borrow isn't its own.
-abbrev pub stop_in_call : Context → List (Option ℕ) → Option State → Action
-stop_in_call context variables None = Stuck
-stop_in_call context variables (Some s) =
-    Silent [] (stopping (row_locked s.locked variables) (owned_rows s.vars variables ∷ map none_of context.outer))
+-- unlock, and what the state says its variables own it has to give up; what they borrow isn't its own. The calls
+-- further out give up the rows of `outer`.
+abbrev pub stop_in_call : List (List (Option ℕ)) → List (Option ℕ) → Option State → Action
+stop_in_call outer variables None = Stuck
+stop_in_call outer variables (Some s) =
+    Silent [] (stopping (row_locked s.locked variables) (owned_rows s.vars variables ∷ outer))
 
--- Returns what a thread does that stops at the place. Between two calls it holds nothing by variables.
-abbrev pub stop_action : (ℕ → Option State) → Place → Action
-stop_action states (Idle left) = Silent [] (Idle 0)
-stop_action states (InCall context at variables) = stop_in_call context variables (states at)
-stop_action states _ = Skip
+-- Returns what a thread does that calls `first` from outside, and stops at the place. Between two calls it holds
+-- nothing by variables.
+abbrev pub stop_action : List Function → (ℕ → ℕ → Option State) → ℕ → Place → Action
+stop_action functions states first (Idle left) = Silent [] (Idle 0)
+stop_action functions states first (InCall context at variables) =
+    stop_in_call (given_up functions states first context.outer) variables
+    (states (number_under first context.outer) at)
+stop_action functions states first _ = Skip

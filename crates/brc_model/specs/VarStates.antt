@@ -1,12 +1,16 @@
 -- Slot states: what each instruction asks of the variables, and what it leaves in them. (Python/C API manual, Reference
 -- Count Details; Extending manual, Ownership Rules: the owner of a reference gives it up once, by a decrement or by
 -- passing it on; a borrower doesn't give it up; a call returns an owned reference.)
-use Rattle.std.specs.Prelude.{ℕ, ◌+◌, Bool, true, false, not, ◌==◌, List, [], ◌∷◌, Option, None, Some, is_some, find, slice_set, replicate, map}
+use Rattle.std.specs.Prelude.{ℕ, zero, suc, ◌+◌, Bool, true, false, not, ◌&&◌, ◌||◌, ◌==◌, List, [], ◌∷◌, Option, None, Some, is_some, find, slice_set, map, fold, filter, flat_map}
 use Rattle.std.specs.List.{list_any, slice_index_or}
 use Rattle.brc_lang.specs.declared.kind.Kind.{Kind}
 use Rattle.brc_lang.specs.declared.kind.Kind.TheVariants as kinds
 use Rattle.brc_lang.specs.declared.module.Instr.{Instr}
 use Rattle.brc_lang.specs.declared.module.Instr.TheVariants.{Num, List as ListObject, NoneObject, Newref, Move, Drop, Lock, Unlock, Borrow, Fetch, Set, Put, Goto, Again, Ret, Fail, As, Open, Connect, Read, Write, Call}
+use Rattle.brc_lang.specs.declared.parameter.Argument.{Argument}
+use Rattle.brc_lang.specs.declared.parameter.Parameter.{Parameter}
+use Rattle.brc_lang.specs.declared.parameter.Passing.{Passing}
+use Rattle.brc_lang.specs.declared.parameter.Passing.TheVariants.{Borrow as BorrowPassing, Steal}
 use Rattle.brc_model.specs.Kinds.{same_kind}
 use Rattle.brc_lang.specs.declared.check_code.CheckCode.{CheckCode}
 use Rattle.brc_lang.specs.declared.check_code.CheckCode.TheVariants.{EmptyUsed, WrongKind, NotOwned, StillOwns, LeftOwned, LeftLocked, SecondLock, NotLocked, LockedChanged}
@@ -86,6 +90,36 @@ without_items s = record { vars = map without_item s.vars; locked = s.locked }
 abbrev pub with_lock : State → Option ℕ → State
 with_lock s locked = record { vars = s.vars; locked = locked }
 
+-- ---- what a call takes
+
+abbrev pub steals : Passing → Bool
+steals BorrowPassing = false
+steals Steal = true
+
+abbrev pub is_stolen : Argument → Bool
+is_stolen argument = steals argument.parameter.passing
+
+-- the variables whose references the call steals
+abbrev pub stolen : List Argument → List ℕ
+stolen arguments = map (λ a. a.from) (filter is_stolen arguments)
+
+-- Says whether the two places of a call have one variable, and one of them steals its reference.
+abbrev pub clash : Argument → Argument → Bool
+clash a b = (is_stolen a || is_stolen b) && (a.from == b.from)
+
+-- Says whether each variable whose reference the call steals stands at one of its places alone.
+abbrev pub are_given_once : List Argument → Bool
+are_given_once [] = true
+are_given_once (a ∷ others) = not (list_any (clash a) others) && are_given_once others
+
+-- the state once the variable is empty
+abbrev pub emptied : State → ℕ → State
+emptied s x = put s x Empty
+
+-- the state once the call has stolen what it steals
+abbrev pub without_stolen : State → List Argument → State
+without_stolen s arguments = fold emptied s (stolen arguments)
+
 -- ---- conditions
 
 -- a condition that an instruction puts on the state before it
@@ -110,6 +144,8 @@ pub data Condition : Type 0 where
   NothingLocked : Condition
   -- nothing is locked yet: a thread locks one object at a time
   NoLockYet : Condition
+  -- each variable whose reference a call steals is one of its arguments alone
+  GivenOnce : List Argument → Condition
 
 -- says whether the state breaks the condition in the way that the code names
 abbrev pub breaks : State → CheckCode → Condition → Bool
@@ -126,7 +162,22 @@ breaks s LeftLocked NothingLocked = is_some s.locked
 breaks s WrongKind (IsOneOf x asked) = not (is_one_of (kind_of (var_of s x)) asked)
 breaks s SecondLock NoLockYet = is_some s.locked
 breaks s NotLocked (IsLocked x) = not (names s.locked x)
+breaks s EmptyUsed (GivenOnce arguments) = not (are_given_once arguments)
 breaks s _ _ = false
+
+-- what a passing asks of the argument's variable
+abbrev pub passed_by : Passing → ℕ → Condition
+passed_by BorrowPassing x = Use x
+passed_by Steal x = Give x
+
+-- what a parameter's kind asks of the argument's variable; `Any` asks nothing
+abbrev pub of_kind : Kind → ℕ → List Condition
+of_kind kinds.Any x = []
+of_kind kind x = IsOneOf x (kind ∷ []) ∷ []
+
+-- what a call asks of one of its arguments
+abbrev pub of_argument : Argument → List Condition
+of_argument a = passed_by a.parameter.passing a.from ∷ of_kind a.parameter.kind a.from
 
 abbrev pub conditions_of : Instr → List Condition
 conditions_of (Num to value otherwise) = Into to ∷ []
@@ -152,8 +203,8 @@ conditions_of (Read to file most otherwise) =
 conditions_of (Write file number otherwise) =
     Use file ∷ IsOneOf file with_resource ∷ IsLocked file ∷ Use number ∷ IsOneOf number (kinds.Num ∷ []) ∷ []
 conditions_of (As from kind otherwise) = Use from ∷ MayBe from kind ∷ []
--- no state meets this condition: the checker refuses every call, until calls are run
-conditions_of (Call to callee arguments otherwise) = IsOneOf to [] ∷ []
+conditions_of (Call to callee arguments otherwise) =
+    Into to ∷ NoLockYet ∷ GivenOnce arguments ∷ flat_map of_argument arguments
 conditions_of (Goto to) = []
 conditions_of (Again to times) = []
 conditions_of (Ret from) = Give from ∷ NothingOwnedBut from ∷ NothingLocked ∷ []
@@ -174,7 +225,7 @@ lowest i s = find (applies i s) rising
 
 -- ---- exits
 
--- what an exit of a birth leaves in its variable, and one of a fetch: an owned reference, or nothing
+-- what an exit of a birth leaves in its variable, and one of a fetch or a call: an owned reference, or nothing
 abbrev pub birth_var : Kind → Exit → VarState
 birth_var kind Success = Owned kind
 birth_var kind Fault = Empty
@@ -200,7 +251,7 @@ after (Read to file most otherwise) exit s = put s to (birth_var kinds.Num exit)
 after (Write file number otherwise) exit s = s
 after (As from kind otherwise) Success s = put s from (with_kind (var_of s from) kind)
 after (As from kind otherwise) Fault s = s
-after (Call to callee arguments otherwise) exit s = s
+after (Call to callee arguments otherwise) exit s = put (without_stolen s arguments) to (birth_var kinds.Any exit)
 after (Goto to) exit s = s
 after (Again to times) exit s = s
 after (Ret from) exit s = s
@@ -244,6 +295,26 @@ target (Again to times) Fault at = Some to
 target (Ret from) exit at = None
 target Fail exit at = None
 
--- the state at a function's entry: the caller lends the root in v0, and the other variables are empty
-abbrev pub entry : State
-entry = record { vars = Caller kinds.List ∷ replicate 15 Empty; locked = None }
+-- ---- the entry
+
+-- the first items of the list, this many, filled up with the given item
+abbrev pub padded : {A : Type 0} → ℕ → A → List A → List A
+padded zero item xs = []
+padded (suc n) item [] = item ∷ padded n item []
+padded (suc n) item (x ∷ xs) = x ∷ padded n item xs
+
+-- what the variable of a parameter has at the function's entry
+abbrev pub passed_var : Passing → Kind → VarState
+passed_var BorrowPassing kind = Caller kind
+passed_var Steal kind = Owned kind
+
+abbrev pub parameter_var : Parameter → VarState
+parameter_var p = passed_var p.passing p.kind
+
+-- The state at a function's entry: the caller lends the root in v0, and what it passes is in the variables from v1 on,
+-- lent or owned. The other variables are empty.
+abbrev pub entry_of : List Parameter → State
+entry_of parameters = record {
+  vars = Caller kinds.List ∷ padded 15 Empty (map parameter_var parameters);
+  locked = None;
+}

@@ -12,7 +12,8 @@ use Rattle.brc_model.specs.Duties.{address_of}
 use Rattle.brc_model.specs.declared.actor.Actor.{Actor}
 use Rattle.brc_model.specs.Machine.{used_by, is_running}
 use Rattle.brc_model.specs.World.{World}
-use Rattle.brc_model.specs.Actions.{StepActor, Does, action_of}
+use Rattle.brc_model.specs.Actions.{StepActor, Does}
+use Rattle.brc_model.specs.Dispatch.{action_of}
 use Rattle.brc_model.specs.declared.layout.Layout.{Layout}
 use Rattle.brc_model.specs.Layout.{row_count, block_of, mark_words_of}
 

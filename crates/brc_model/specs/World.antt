@@ -19,7 +19,8 @@ use Rattle.brc_model.specs.Tables.{AreTrueWhereReached}
 use Rattle.brc_model.specs.Safety.{AreCalls}
 use Rattle.brc_model.specs.Machine.{Unborn}
 use Rattle.brc_word.specs.Words.{free_word}
-use Rattle.brc_model.specs.Actions.{StepActor, Action, Does, action_of}
+use Rattle.brc_model.specs.Actions.{StepActor, Action, Does}
+use Rattle.brc_model.specs.Dispatch.{action_of}
 use Rattle.brc_model.specs.StepMachine.{StepMachine, next_machine, first_machine, machine_after}
 use Rattle.brc_model.specs.Limits.{row_limit}
 

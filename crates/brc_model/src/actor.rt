@@ -40,19 +40,20 @@ pub struct Context {
     pub left: u32,
     /// How often each instruction `again` of the function, by its point, has gone back in this call.
     pub turns: [u16; 256],
-    /// The calls open around this one, the nearest first. No instruction calls a function, so there are none.
+    /// The calls open around this one, the nearest first.
     pub outer: LinkedList<OpenCall>,
 }
 
 /// A call that waits for the one that it has made.
 pub struct OpenCall {
-    /// Its function, by its number in the module.
-    pub function: usize,
+    /// The function that it has called, by its number in the module.
+    pub callee: usize,
     /// The point of the instruction that made the call.
     pub at: usize,
-    /// The row that each variable names, if it isn't empty.
+    /// The row that each variable names, if it isn't empty. Those that the call stole are empty, and so is the variable
+    /// that takes the result.
     pub variables: [Option<u32>; 16],
-    /// How often each instruction `again` of the function, by its point, has gone back in this call.
+    /// How often each instruction `again` of its function, by its point, has gone back in this call.
     pub turns: [u16; 256],
     /// The variable that takes the result.
     pub to: Variable,

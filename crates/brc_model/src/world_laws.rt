@@ -6,7 +6,7 @@ ghost use Rattle.brc_word.specs.declared.values.TheConstants.{UNSET};
 ghost use Rattle.brc_lang.specs.declared.module.Module.{Module};
 ghost use Rattle.brc_lang.specs.Grammar.{IsModule};
 ghost use Rattle.brc_model.specs.Paths.{IsAcceptable};
-ghost use Rattle.brc_model.specs.Limits.{row_limit, thread_limit, total_limit};
+ghost use Rattle.brc_model.specs.Limits.{row_limit, thread_limit, total_limit, depth_limit};
 ghost use Rattle.brc_model.specs.Safety.{AreCalls};
 ghost use Rattle.brc_model.specs.Tables.{AreTrueWhereReached};
 ghost use Rattle.brc_model.specs.declared.state.State.{State};
@@ -14,7 +14,8 @@ ghost use Rattle.brc_model.specs.declared.thread.Call.{Call};
 ghost use Rattle.brc_model.specs.declared.thread.Choice.{Choice};
 ghost use Rattle.brc_model.specs.declared.thread.Choice.TheVariants.{Ok, Fault, Claim, Stop};
 ghost use Rattle.brc_model.specs.declared.actor.Status.TheVariants.{Gone};
-ghost use Rattle.brc_model.specs.Actions.{StepActor, may_claim, may_stop};
+ghost use Rattle.brc_model.specs.Actions.{StepActor};
+ghost use Rattle.brc_model.specs.Dispatch.{may_claim, may_stop};
 ghost use Rattle.brc_model.specs.StepMachine.{StepMachine, at_place, next_machine, machine_after};
 ghost use Rattle.brc_model.specs.World.{World, world_of, first_world, step, waits_for_lock, IsReachable};
 ghost use Rattle.brc_model.specs.Within.{StepsWithin};
@@ -23,6 +24,7 @@ ghost use Rattle.brc_model.specs.declared.actor.Context.{Context};
 ghost use Rattle.brc_model.specs.declared.actor.Place.TheVariants.{Idle, InCall};
 ghost use Rattle.brc_model.specs.Trace.{CanMake, events_on};
 ghost use Rattle.brc_model.specs.Layout.{row_count};
+ghost use Rattle.brc_model.specs.Threads.{outer_of};
 ghost use Rattle.brc_model.specs.Machine.{mark_of};
 
 /// States that a machine's step is a step of its world: a step depends on nothing else.
@@ -63,8 +65,9 @@ pub fn steps_move()
 {}
 
 /// States what a thread has to do that stops. In a call, before an instruction, it has to unlock what it has locked,
-/// and to give up just what its variables own at the point, by the module's table. Before its first call or between two
-/// calls it has nothing to give up. In either case it makes no further call.
+/// and to give up just what its variables own at the point, by the module's table, and what those of the calls further
+/// out own at the fault exits of their instructions. Before its first call or between two calls it has nothing to give
+/// up. In either case it makes no further call.
 pub fn stops_give_up_what_is_owned()
     ensures in_call { (p : Module) (w : World) (t at : ℕ) (a : StepActor) (context : Context)
         (variables : List (Option ℕ)) → IsReachable p w → slice_get w.actors t ≡ Some a → may_stop a ≡ true
@@ -82,7 +85,8 @@ pub fn steps_are_within()
 {}
 
 /// States that a reachable world has the functions of its module, states that are true at each point that a path
-/// reaches, main and 1 to 32 workers, 1 to 1024 rows for each worker, and so at most `total_limit` rows in all.
+/// reaches, main and 1 to 32 workers, 1 to 1024 rows for each worker, and so at most `total_limit` rows in all; and that
+/// each thread has at most eight calls open.
 pub fn worlds_are_small()
     ensures functions { (p : Module) (w : World) → IsReachable p w → w.functions ≡ p.functions }
     ensures states { (p : Module) (w : World) → IsReachable p w → AreTrueWhereReached p w.states }
@@ -92,6 +96,8 @@ pub fn worlds_are_small()
     ensures few_rows { (p : Module) (w : World) → IsReachable p w → w.layout.rows ≤ row_limit }
     ensures few_in_all { (p : Module) (w : World) → IsReachable p w → row_count w.layout ≤ total_limit }
     ensures workers { (p : Module) (w : World) → IsReachable p w → length w.actors ≡ 1 + w.layout.workers }
+    ensures few_calls { (p : Module) (w : World) (t : ℕ) (a : StepActor) → IsReachable p w → slice_get w.actors t
+        ≡ Some a → length (outer_of a.place) < depth_limit }
 {}
 
 /// States that a thread's word events, along any events, are a trace that its automaton can make: the thread's next

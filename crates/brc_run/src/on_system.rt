@@ -1,6 +1,7 @@
 //! A run over the files and the peers of the system.
 
-ghost use Rattle.std.specs.Prelude.{◌≡◌, ◌<◌, All, length, map, IfOk};
+ghost use Rattle.brc_model.specs.Threads.{function_at};
+ghost use Rattle.std.specs.Prelude.{◌≡◌, ◌<◌, All, length, map, IfOk, []};
 ghost use Rattle.std.specs.String.{string_bytes};
 ghost use Rattle.brc_os.specs.HostStates.{AnswersForSystem, new_host};
 ghost use Rattle.brc_run.specs.Runs.{IsTallyOfRun, CountsMain};
@@ -33,6 +34,7 @@ pub fn run_on_system<R: System, G: Gate + Sync>(
     gate: &G,
 ) -> Result<Tally, RunFault>
     requires function { plan.call.function < length checked.now.module.functions }
+    requires parameters { (function_at checked.now.module.functions plan.call.function).parameters ≡ [] }
     ensures { IfOk result (IsTallyOfRun (map (λ path. path.now) paths.now) (map (λ peer. peer.now) peers.now)
         checked.now.module plan.threads plan.rows plan.call plan.steps) }
 {
@@ -62,6 +64,7 @@ fn run_alike<'r, R: System, G: Gate + Sync>(
     gate: &G,
 ) -> Result<Tally, RunFault>
     requires function { plan.call.function < length checked.now.module.functions }
+    requires parameters { (function_at checked.now.module.functions plan.call.function).parameters ≡ [] }
     requires one_each { length hosts.old ≡ plan.threads }
     requires alike { All (λ host. host ≡ main_host.old) hosts.old }
     ensures { IfOk result (CountsMain AnswersForSystem (λ host. host.counts) checked.now.module plan.threads plan.rows

@@ -10,7 +10,8 @@ use brc_model::Call;
 pub struct Plan {
     /// The function that each worker calls, and how often.
     pub call: Call,
-    /// How many instructions each worker begins at most, in all its calls together; with `u64::MAX` no worker stops.
+    /// How many instructions each worker begins at most, in all its calls together. With `u64::MAX` no worker stops,
+    /// unless functions call functions.
     pub steps: u64,
     /// How many workers there are, 1 to 32.
     pub threads: u8,

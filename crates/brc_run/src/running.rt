@@ -1,5 +1,6 @@
 //! A run of a function: its workers in threads of their own, main's leave, and the tally.
 
+ghost use Rattle.brc_model.specs.Threads.{function_at};
 ghost use Rattle.std.specs.Prelude.{◌≡◌, ℕ, ◌<◌, [], map, length, vec_len, slice_index_or, IfOk, IfErr, OnOk};
 ghost use Rattle.brc_model.specs.declared.actor.Status.TheVariants.{Gone};
 ghost use Rattle.brc_table.specs.Hands.{IsOf};
@@ -39,6 +40,7 @@ pub fn run<R: Threads + Wait + Sync, T: Send + Drop, H: Host<Res = T> + Send, G:
     gate: &G,
 ) -> Result<Tally, RunFault>
     requires function { plan.call.function < length checked.now.module.functions }
+    requires parameters { (function_at checked.now.module.functions plan.call.function).parameters ≡ [] }
     requires one_each { length hosts.old ≡ plan.threads }
     ensures tally { IfOk result (CountsMain H.answers H.counts checked.now.module plan.threads plan.rows plan.call
         plan.steps main_host.old main_host.new) }

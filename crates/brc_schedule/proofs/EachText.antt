@@ -12,7 +12,8 @@ use Rattle.std.proofs.lemmas.Slice.Eq.{starts_is}
 use Rattle.brc_lang.specs.declared.fault.FaultCode.{FaultCode}
 use Rattle.brc_lang.specs.declared.fault.FaultCode.TheVariants.{FirstLine, CutOff}
 use Rattle.brc_lang.specs.Grammar.{line}
-use Rattle.brc_lang.specs.Fault.{words, is_line_feed, line_count}
+use Rattle.brc_lang.specs.InstructionWords.{words}
+use Rattle.brc_lang.specs.Fault.{is_line_feed, line_count}
 use Rattle.brc_lang.specs.RoundTrips.{TextsRoundTrip}
 use Rattle.brc_schedule.specs.declared.beginning.Beginning.{Beginning}
 use Rattle.brc_schedule.specs.declared.beginning.Beginning.TheVariants.{Opened, Staffed, Planned}

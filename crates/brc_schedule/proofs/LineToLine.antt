@@ -8,7 +8,8 @@ use Rattle.brc_lang.specs.declared.fault.FaultCode.{FaultCode}
 use Rattle.brc_lang.specs.declared.fault.FaultCode.TheVariants.{CutOff, NoMemory}
 use Rattle.brc_lang.specs.declared.cursor.Cursor.{Cursor}
 use Rattle.brc_lang.specs.Grammar.{line}
-use Rattle.brc_lang.specs.Fault.{words, is_line_feed, line_count}
+use Rattle.brc_lang.specs.InstructionWords.{words}
+use Rattle.brc_lang.specs.Fault.{is_line_feed, line_count}
 use Rattle.brc_lang.specs.Progress.{IsFirstLineOf}
 use Rattle.brc_lang.specs.RoundTrips.{TextsRoundTrip}
 use Rattle.brc_schedule.specs.declared.beginning.Beginning.{Beginning}

@@ -8,7 +8,7 @@ use Rattle.std.proofs.lemmas.List.{append-nil, length-append}
 use Rattle.std.proofs.lemmas.List.Concat.{flat_map-append}
 use Rattle.brc_lang.specs.declared.fault.FaultCode.{FaultCode}
 use Rattle.brc_lang.specs.Grammar.{line, spaced}
-use Rattle.brc_lang.specs.Fault.{words, ◌>>=◌}
+use Rattle.brc_lang.specs.InstructionWords.{words, ◌>>=◌}
 use Rattle.brc_lang.specs.RoundTrips.{TextsRoundTrip}
 use Rattle.brc_model.specs.Limits.{worker_limit, row_limit}
 use Rattle.brc_schedule.specs.declared.beginning.Beginning.{Beginning}

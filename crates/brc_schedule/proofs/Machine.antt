@@ -11,7 +11,8 @@ use Rattle.std.proofs.lemmas.List.{append-nil, length-append}
 use Rattle.brc_lang.specs.declared.fault.FaultCode.{FaultCode}
 use Rattle.brc_lang.specs.declared.fault.FaultCode.TheVariants.{FirstLine, CutOff}
 use Rattle.brc_lang.specs.Grammar.{line, spaced}
-use Rattle.brc_lang.specs.Fault.{words, is_line_feed, line_count}
+use Rattle.brc_lang.specs.InstructionWords.{words}
+use Rattle.brc_lang.specs.Fault.{is_line_feed, line_count}
 use Rattle.brc_lang.specs.RoundTrips.{IsPlain, TextsRoundTrip}
 use Rattle.brc_model.specs.declared.thread.Choice.{Choice}
 use Rattle.brc_model.specs.declared.thread.Choice.TheVariants as choices

@@ -7,7 +7,8 @@ use Rattle.std.specs.Str.{bytes_eq}
 use Rattle.brc_lang.specs.declared.fault.FaultCode.{FaultCode}
 use Rattle.brc_lang.specs.declared.fault.FaultCode.TheVariants.{FirstLine, UnknownWord, Number, CutOff, NoMemory}
 use Rattle.brc_lang.specs.Grammar.{is_name}
-use Rattle.brc_lang.specs.Fault.{words, number_in, number_between, is_line_feed, IsOwn, IsOwnFault}
+use Rattle.brc_lang.specs.InstructionWords.{words, number_in, number_between}
+use Rattle.brc_lang.specs.Fault.{is_line_feed, IsOwn, IsOwnFault}
 use Rattle.brc_model.specs.declared.thread.Choice.TheVariants as choices
 use Rattle.brc_model.specs.Limits.{worker_limit, row_limit, times_limit}
 use Rattle.brc_schedule.specs.Limits.{last_row}

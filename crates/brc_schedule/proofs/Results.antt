@@ -7,7 +7,8 @@ use Rattle.std.proofs.lemmas.Slice.Eq.{bytes_eq-Decides}
 use Rattle.std.proofs.lemmas.List.Sums.{sum_by-append}
 use Rattle.brc_lang.specs.declared.fault.FaultCode.{FaultCode}
 use Rattle.brc_lang.specs.declared.fault.FaultCode.TheVariants.{Number}
-use Rattle.brc_lang.specs.Fault.{◌>>=◌, is_numeral, number_in, line_count, IsOwn, IsOwnFault}
+use Rattle.brc_lang.specs.InstructionWords.{◌>>=◌, is_numeral, number_in}
+use Rattle.brc_lang.specs.Fault.{line_count, IsOwn, IsOwnFault}
 
 -- ---- the way a test went
 

@@ -9,7 +9,7 @@ use Rattle.std.proofs.lemmas.Bool.{leb-true, le-leb}
 use Rattle.brc_lang.specs.declared.fault.FaultCode.{FaultCode}
 use Rattle.brc_lang.specs.declared.fault.FaultCode.TheVariants.{UnknownWord, Number}
 use Rattle.brc_lang.specs.Grammar.{is_name}
-use Rattle.brc_lang.specs.Fault.{number_in, number_between}
+use Rattle.brc_lang.specs.InstructionWords.{number_in, number_between}
 use Rattle.brc_lang.specs.RoundTrips.{IsPlain, TextsRoundTrip}
 use Rattle.brc_model.specs.declared.thread.Choice.{Choice}
 use Rattle.brc_model.specs.declared.thread.Choice.TheVariants as choices

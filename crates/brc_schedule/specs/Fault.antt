@@ -7,7 +7,8 @@ use Rattle.brc_lang.specs.declared.fault.FaultCode.{FaultCode}
 use Rattle.brc_lang.specs.declared.fault.FaultCode.TheVariants.{FirstLine, UnknownWord, CutOff, NoMemory}
 use Rattle.brc_lang.specs.declared.fault.ReadFault.{ReadFault}
 use Rattle.brc_lang.specs.Grammar.{is_name}
-use Rattle.brc_lang.specs.Fault.{words, number_between, ◌>>=◌, is_line_feed, line_count}
+use Rattle.brc_lang.specs.InstructionWords.{words, number_between, ◌>>=◌}
+use Rattle.brc_lang.specs.Fault.{is_line_feed, line_count}
 use Rattle.brc_model.specs.declared.thread.Choice.{Choice}
 use Rattle.brc_model.specs.declared.thread.Choice.TheVariants as choices
 use Rattle.brc_model.specs.Limits.{worker_limit, row_limit, times_limit}

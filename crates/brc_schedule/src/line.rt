@@ -1,7 +1,7 @@
 //! Single lines of a schedule's text.
 
 ghost use Rattle.std.specs.Prelude.{◌≡◌, ◌∷◌, [], ◌≤◌};
-ghost use Rattle.brc_lang.specs.Fault.{words, number_between};
+ghost use Rattle.brc_lang.specs.InstructionWords.{words, number_between};
 ghost use Rattle.brc_schedule.specs.Fault.{size_in, call_in, choice_in, steps_in};
 
 use crate::schedule::{PlannedCall, Steps};

@@ -3,7 +3,7 @@
 ghost use Rattle.std.specs.Prelude.{◌≡◌, ℕ, ◌⊎◌, false, true, Ok, Err, IfOk, IfErr, OnOk, MatchOption, MatchResult};
 ghost use Rattle.brc_lang.specs.declared.fault.FaultCode.{FaultCode};
 ghost use Rattle.brc_lang.specs.declared.fault.FaultCode.TheVariants.{NoMemory};
-ghost use Rattle.brc_lang.specs.Fault.{words};
+ghost use Rattle.brc_lang.specs.InstructionWords.{words};
 ghost use Rattle.brc_schedule.specs.declared.beginning.Beginning.TheVariants.{Planned};
 ghost use Rattle.brc_schedule.specs.declared.schedule.Schedule.{Schedule};
 ghost use Rattle.brc_schedule.specs.Text.{Spells};

@@ -1,10 +1,11 @@
 -- A hand's thread and a thread of the step world make the same, but for what `Automata` of specs/ names.
-use Rattle.std.proofs.Common.{◌≡◌, ◌≢◌, ℕ, suc, ◌+◌, Bool, true, false, Option, Some, cond, length, List, [], ◌∷◌, ◌++◌, append_assoc, append-nil, refl, sym, ap, ◌∙◌, subst}
+use Rattle.std.proofs.Common.{◌≡◌, ◌≢◌, ℕ, suc, ◌+◌, Bool, true, false, Option, None, Some, cond, length, List, [], ◌∷◌, ◌++◌, append_assoc, append-nil, refl, sym, ap, ◌∙◌, subst}
 use Rattle.std.specs.Prelude.{◌==◌, ◌&&◌, slice_get, slice_set}
 use Rattle.brc_host.specs.HostCalls.{HostCall, Read, Close}
 use Rattle.brc_lang.specs.declared.module.Function.{Function}
 use Rattle.brc_lang.specs.declared.module.Instr.{Instr}
-use Rattle.brc_model.specs.declared.actor.Context.{Context}
+use Rattle.brc_lang.specs.declared.module.Module.{Module}
+use Rattle.brc_model.specs.declared.actor.OpenCall.{OpenCall}
 use Rattle.brc_model.specs.declared.actor.Place.{Place}
 use Rattle.brc_model.specs.declared.actor.Place.TheVariants.{Idle, InCall, Inside}
 use Rattle.brc_model.specs.declared.actor.Stage.TheVariants.{Granted}
@@ -13,19 +14,25 @@ use Rattle.brc_model.specs.declared.actor.Status.TheVariants.{Running, Leaving, 
 use Rattle.brc_model.specs.declared.duty.Duty.{Duty}
 use Rattle.brc_model.specs.declared.duty.Duty.TheVariants.{CloseResource}
 use Rattle.brc_model.specs.declared.layout.Layout.{Layout}
+use Rattle.brc_model.specs.declared.state.Exit.TheVariants.{Fault as FaultExit}
 use Rattle.brc_model.specs.declared.state.State.{State}
 use Rattle.brc_model.specs.declared.thread.Choice.{Choice}
 use Rattle.brc_model.specs.declared.thread.Choice.TheVariants.{Ok, Fault, Claim, Stop}
-use Rattle.brc_model.specs.Actions.{StepActor, Action, Skip, Stuck, Silent, Calls, Does, always, dispatch_inside, dispatch, agenda_action, status_action, action_of, is_before_instruction, stop_action, stop_in_call}
+use Rattle.brc_model.specs.Actions.{StepActor, Action, Skip, Stuck, Silent, Calls, Does, always, dispatch_inside, stop_action, stop_in_call}
+use Rattle.brc_model.specs.Dispatch.{agenda_action, status_action, action_of, is_before_instruction}
 use Rattle.brc_model.specs.Layout.{row_at}
 use Rattle.brc_model.specs.declared.actor.Actor.{Actor}
 use Rattle.brc_model.specs.Machine.{actor_by, is_running}
-use Rattle.brc_model.specs.Stops.{row_locked, owned_rows, stopping}
-use Rattle.brc_model.specs.Threads.{code_of}
+use Rattle.brc_model.specs.Stops.{row_locked, owned_rows, owned_by, fault_state, waiting_state, given_up, stopping}
+use Rattle.brc_model.specs.Tables.{Reaches, AreTrueWhereReached}
+use Rattle.brc_model.specs.Threads.{function_of, number_under}
+use Rattle.brc_model.specs.VarStates.{after}
+use Rattle.brc_model.proofs.Basics.Lists.{none_some}
 use Rattle.brc_model.specs.declared.event.WordEvent.{WordEvent}
 use Rattle.brc_model.specs.Trace.{events_of, MakesStep, GoesSilently, CallsHost, DoesDuty, CanMake, Nothing, Then}
-use Rattle.brc_work.specs.Traces.{Makes, Refl, Silently, Asks, Dispatches, Reads, Continues, Closes, read_birth, exit_of, is_birth, has_read}
-use Rattle.brc_work.specs.Automata.{IsPlain, MakesPlainly, IsNoClaim, ClaimsNothing, HasNoClaim, CanMakeUnclaimed, AsksNothing, GoesAlone, thread_at, HandsMakeAsThreads, ThreadsAloneMakeAsHands, HandsStopAsThreads}
+use Rattle.brc_work.specs.Stopping.{OuterGiveUp, NoOuter, OneOuter}
+use Rattle.brc_work.specs.Traces.{Program, program_of, dispatch_in, Makes, Refl, Silently, Asks, Dispatches, Reads, Continues, Closes, read_birth, exit_of, is_birth, has_read}
+use Rattle.brc_work.specs.Automata.{IsPlain, MakesPlainly, IsNoClaim, ClaimsNothing, HasNoClaim, CanMakeUnclaimed, AsksNothing, GoesAlone, thread_at, HandsMakeAsThreads, ThreadsAloneMakeAsHands, HandsStopAsThreads, OuterCallsGiveUpAlike}
 
 -- ---- actions
 
@@ -36,8 +43,8 @@ alive_action functions layout t a Running alive = refl
 alive_action functions layout t a Leaving alive = refl
 alive_action functions layout t a Gone alive = absurd (alive refl)
 
-abbrev code : List Function → ℕ → List Instr
-code functions function = code_of (slice_get functions function)
+abbrev called_in : List Function → ℕ → Program
+called_in functions function = record { functions = functions; first = function }
 
 -- ---- from a hand's thread to one of the step world
 
@@ -86,14 +93,14 @@ module _ (functions : List Function) (states : ℕ → ℕ → Option State) (la
 
     -- A thread with nothing to do does what it dispatches.
     dispatches : (q : Place) (b : Actor) (x : Action) → b.status ≢ Gone → b.agenda ≡ []
-        → dispatch layout t b.used (code functions function) q ≡ x
+        → dispatch_in layout t b.used (called_in functions function) q ≡ x
         → action_of functions states layout t (thread_at function q b) Ok ≡ x
     dispatches q b x alive none is =
         alive_action functions layout t (thread_at function q b) b.status alive
         ∙ ap (agenda_action functions layout t (thread_at function q b)) none ∙ is
 
     pub plain_can : (n : ℕ) (cs : List HostCall) (es : List WordEvent) (q : Place) (b : Actor)
-        (made : Makes layout t (code functions function) p a n cs es q b) → IsPlain made → Can es q b
+        (made : Makes layout t (called_in functions function) p a n cs es q b) → IsPlain made → Can es q b
     plain_can n cs es q b Refl plain = (Nothing (thread_at function p a), tt)
     plain_can n cs es q b (Silently k ds fs r s c moves before none is) plain =
         silent_more fs r s c c (plain_can k ds fs r c before plain.1)
@@ -108,7 +115,7 @@ module _ (functions : List Function) (states : ℕ → ℕ → Option State) (la
         =
         let r = Inside context at variables Granted in
         let after = InCall context (at + 1) (slice_set variables to (Some (row_at layout t c.used))) in
-        let reads : dispatch layout t c.used (code functions function) r
+        let reads : dispatch_in layout t c.used (called_in functions function) r
         ≡ Does (read_birth layout t c context to 0) [] (always after) =
         ap (dispatch_inside layout t c.used context at variables Granted) is in
         subst (λ (n : ℕ). Can (fs ++ events_of layout t c (read_birth layout t c context to n) found) after
@@ -134,7 +141,7 @@ module _ (functions : List Function) (states : ℕ → ℕ → Option State) (la
 module _ (functions : List Function) (states : ℕ → ℕ → Option State) (layout : Layout) (t function : ℕ) (p : Place)
     (a : Actor) where
   abbrev Plainly : List WordEvent → Place → Actor → Type 0
-  Plainly es q b = MakesPlainly layout t (code functions function) p a es q b
+  Plainly es q b = MakesPlainly layout t (called_in functions function) p a es q b
 
   -- A hand's thread that has come to a place goes on by the action.
   abbrev GoesOn : List WordEvent → Place → Actor → Action → Type 0
@@ -143,11 +150,11 @@ module _ (functions : List Function) (states : ℕ → ℕ → Option State) (la
   GoesOn es q b (Silent moves place) = Plainly es place b
   GoesOn es q b (Calls row place) = Unit {0}
   GoesOn es q b (Does d rest place) =
-      (found : ℕ) → (is_birth d && has_read (code functions function) q) ≡ false
+      (found : ℕ) → (is_birth d && has_read (called_in functions function) q) ≡ false
       → Plainly (es ++ events_of layout t b d found) (place found) (actor_by layout t b d rest found)
 
   dispatched : (es : List WordEvent) (q : Place) (b : Actor) (x : Action) → Plainly es q b → b.status ≢ Gone
-      → b.agenda ≡ [] → dispatch layout t b.used (code functions function) q ≡ x → GoesOn es q b x
+      → b.agenda ≡ [] → dispatch_in layout t b.used (called_in functions function) q ≡ x → GoesOn es q b x
   dispatched es q b Skip so alive none is = tt
   dispatched es q b Stuck so alive none is = tt
   dispatched es q b (Silent moves place) so alive none is =
@@ -186,7 +193,7 @@ module _ (functions : List Function) (states : ℕ → ℕ → Option State) (la
 module _ (functions : List Function) (states : ℕ → ℕ → Option State) (layout : Layout) (t : ℕ) (p : Place)
     (a : Actor) where
   abbrev On : ℕ → List WordEvent → Place → Actor → Type 0
-  On function es q b = MakesPlainly layout t (code functions function) p a es q b
+  On function es q b = MakesPlainly layout t (called_in functions function) p a es q b
 
   -- A thread of the step world keeps its function.
   one_step : (x next : StepActor) (es : List WordEvent) (now : List WordEvent)
@@ -232,21 +239,45 @@ threads_alone_as_hands functions states layout t function p q a b es can =
 
 stop_running : (functions : List Function) (states : ℕ → ℕ → Option State) (layout : Layout) (t function : ℕ)
     (place : Place) (a : Actor) → is_before_instruction place ≡ true → a.status ≡ Running → a.agenda ≡ []
-    → action_of functions states layout t (thread_at function place a) Stop ≡ stop_action (states function) place
+    → action_of functions states layout t (thread_at function place a) Stop
+    ≡ stop_action functions states function place
 stop_running functions states layout t function place a before running none =
-    let does = λ (b : Bool). cond b (stop_action (states function) place) Skip in
+    let does = λ (b : Bool). cond b (stop_action functions states function place) Skip in
     ap (λ (b : Bool). does (b && is_running a.status && (length a.agenda == 0))) before
     ∙ (ap (λ (s : Status). does (is_running s && (length a.agenda == 0))) running
     ∙ ap (λ (ds : List Duty). does (length ds == 0)) none)
 
 pub hands_stop_as_threads : HandsStopAsThreads
 hands_stop_as_threads functions states layout t function a running none = record {
-  in_call = λ turns left at variables s known.
-      let context : Context = record { left = left; turns = turns; outer = [] } in
-      GoesSilently Stop [] (stopping (row_locked s.locked variables) (owned_rows s.vars variables ∷ []))
+  in_call = λ context at variables s known.
+      let outer = given_up functions states function context.outer in
+      GoesSilently Stop [] (stopping (row_locked s.locked variables) (owned_rows s.vars variables ∷ outer))
       (stop_running functions states layout t function (InCall context at variables) a refl running none
-      ∙ ap (stop_in_call context variables) known);
+      ∙ ap (stop_in_call outer variables) known);
   between = λ left.
       GoesSilently Stop [] (Idle 0)
       (stop_running functions states layout t function (Idle (suc left)) a refl running none);
 }
+
+-- The table gives the point of an open call the state in which paths reach it.
+outer_known : (m : Module) (states : ℕ → ℕ → Option State) (number at : ℕ) (i : Instr) (s : State)
+    → AreTrueWhereReached m states → (o : Option Function) → slice_get m.functions number ≡ o
+    → slice_get (function_of o).code at ≡ Some i → Reaches (function_of o) at s → states number at ≡ Some s
+outer_known m states number at i s truth None is found reaches = absurd (none_some i found)
+outer_known m states number at i s truth (Some f) is found reaches = truth number at f s is reaches
+
+pub outer_give_up_alike : OuterCallsGiveUpAlike
+outer_give_up_alike m states function outer calls truth gives = alike outer calls gives where
+  alike : (outer : List OpenCall) (calls : List (List (Option ℕ)))
+      → OuterGiveUp (program_of m function) outer calls → given_up m.functions states function outer ≡ calls
+  alike outer calls NoOuter = refl
+  alike outer calls (OneOuter o further rest i s found reaches gives) =
+      let number = number_under function further in
+      let known = outer_known m states number o.at i s truth (slice_get m.functions number) refl found reaches in
+      let own : owned_by (waiting_state m.functions states number o) o.variables
+      ≡ owned_rows (after i FaultExit s).vars o.variables =
+      ap (λ (w : Option Instr). owned_by (fault_state w (states number o.at)) o.variables) found
+      ∙ ap (λ (w : Option State). owned_by (fault_state (Some i) w) o.variables) known in
+      ap (λ (rows : List (Option ℕ)). rows ∷ given_up m.functions states function further) own
+      ∙ ap (λ (l : List (List (Option ℕ))). owned_rows (after i FaultExit s).vars o.variables ∷ l)
+      (alike further rest gives)

@@ -2,11 +2,9 @@
 -- and all. Two of these need what the thread has done before: `write` needs the word that it sends, and the birth of
 -- what `read` has read needs the answer of the host. Where such a thread needs it, it has just done it (`Remembers`).
 use Rattle.std.proofs.Common.{◌≡◌, ◌≢◌, ℕ, false, List, [], ◌∷◌, ◌++◌, Option, Some, append_assoc, append-nil, refl, sym, ◌∙◌, subst, arith}
-use Rattle.std.specs.Prelude.{slice_get}
 use Rattle.brc_host.specs.HostCalls.{HostCall}
 use Rattle.brc_host.specs.HostCalls as asked
 use Rattle.brc_lang.specs.declared.module.Function.{Function}
-use Rattle.brc_lang.specs.declared.module.Instr.{Instr}
 use Rattle.brc_model.specs.declared.actor.Place.{Place}
 use Rattle.brc_model.specs.declared.actor.Status.{Status}
 use Rattle.brc_model.specs.declared.actor.Status.TheVariants.{Running, Leaving, Gone}
@@ -17,26 +15,26 @@ use Rattle.brc_model.specs.declared.state.Exit.{Exit}
 use Rattle.brc_model.specs.declared.state.State.{State}
 use Rattle.brc_model.specs.declared.thread.Choice.{Choice}
 use Rattle.brc_model.specs.declared.thread.Choice.TheVariants.{Ok, Fault, Claim, Stop}
-use Rattle.brc_model.specs.Actions.{StepActor, Action, Skip, Stuck, Silent, Calls, Does, dispatch, agenda_action, status_action, action_of}
+use Rattle.brc_model.specs.Actions.{StepActor, Action, Skip, Stuck, Silent, Calls, Does}
+use Rattle.brc_model.specs.Dispatch.{agenda_action, status_action, action_of}
 use Rattle.brc_model.specs.declared.actor.Actor.{Actor}
 use Rattle.brc_model.specs.Machine.{actor_by}
-use Rattle.brc_model.specs.Threads.{code_of}
 use Rattle.brc_model.specs.declared.event.WordEvent.{WordEvent}
 use Rattle.brc_model.specs.Trace.{events_of, MakesStep, GoesSilently, CallsHost, DoesDuty, CanMake, Nothing, Then}
-use Rattle.brc_work.specs.Traces.{Makes, Refl, Silently, Asks, Dispatches, Reads, Continues, Closes}
+use Rattle.brc_work.specs.Traces.{Program, dispatch_in, Makes, Refl, Silently, Asks, Dispatches, Reads, Continues, Closes}
 use Rattle.brc_work.specs.Automata.{IsPlain, IsNoClaim, ClaimsNothing, HasNoClaim, thread_at, ThreadsMakeAsHands}
 use Rattle.brc_work.proofs.Remembering.{Remembers, nothing_outside, nothing_busy, IsKnown, Other, OfRead, Leads, dispatch_leads}
 
 module _ (functions : List Function) (states : ℕ → ℕ → Option State) (layout : Layout) (t function : ℕ) (p : Place)
     (a : Actor) where
-  abbrev code : List Instr
-  code = code_of (slice_get functions function)
+  abbrev program : Program
+  program = record { functions = functions; first = function }
 
   -- A hand's thread can make the events, with these calls of the host; and remembers what it needs then.
   abbrev Ready : List WordEvent → Place → Actor → Type 0
   Ready es q b =
-      (n : ℕ) × (cs : List HostCall) × (made : Makes layout t code p a n cs es q b) × IsPlain made
-      × Remembers code cs es b q
+      (n : ℕ) × (cs : List HostCall) × (made : Makes layout t program p a n cs es q b) × IsPlain made
+      × Remembers program cs es b q
 
   -- It goes on by the action.
   abbrev GoesOn : List WordEvent → Place → Actor → Action → Type 0
@@ -50,9 +48,9 @@ module _ (functions : List Function) (states : ℕ → ℕ → Option State) (la
   module _ (n : ℕ) (cs : List HostCall) (es : List WordEvent) (b : Actor) (none : b.agenda ≡ [])
       (alive : b.status ≢ Gone) where
     does : (q : Place) (d : Duty) (rest : List Duty) (place : ℕ → Place) (found : ℕ)
-        → (made : Makes layout t code p a n cs es q b) → IsPlain made
-        → dispatch layout t b.used code q ≡ Does d rest place → IsKnown layout t code cs b q d rest place
-        → Remembers code cs (es ++ events_of layout t b d found) (actor_by layout t b d rest found) (place found)
+        → (made : Makes layout t program p a n cs es q b) → IsPlain made
+        → dispatch_in layout t b.used program q ≡ Does d rest place → IsKnown layout t program cs b q d rest place
+        → Remembers program cs (es ++ events_of layout t b d found) (actor_by layout t b d rest found) (place found)
         → Ready (es ++ events_of layout t b d found) (place found) (actor_by layout t b d rest found)
     does q d rest place found made plain is (Other other) has =
         (_, cs, Dispatches n cs es q b d rest place found made none is other, (alive, plain), has)
@@ -60,7 +58,7 @@ module _ (functions : List Function) (states : ℕ → ℕ → Option State) (la
         (OfRead context at variables to file most otherwise before here read) has
         =
         let reads = before ++ asked.Read most (Some 0) ∷ [] in
-        let so = subst (λ (ds : List HostCall). (now : Makes layout t code p a n ds es q b) × IsPlain now) read
+        let so = subst (λ (ds : List HostCall). (now : Makes layout t program p a n ds es q b) × IsPlain now) read
         (made, plain) in (
           n,
           reads,
@@ -69,8 +67,8 @@ module _ (functions : List Function) (states : ℕ → ℕ → Option State) (la
           tt,
         )
 
-    dispatched : (q : Place) (x : Action) → (made : Makes layout t code p a n cs es q b) → IsPlain made
-        → dispatch layout t b.used code q ≡ x → Leads layout t code cs es b none q x → GoesOn es q b x
+    dispatched : (q : Place) (x : Action) → (made : Makes layout t program p a n cs es q b) → IsPlain made
+        → dispatch_in layout t b.used program q ≡ x → Leads layout t program cs es b none q x → GoesOn es q b x
     dispatched q Skip made plain is leads = tt
     dispatched q Stuck made plain is leads = tt
     dispatched q (Silent moves place) made plain is leads =
@@ -78,7 +76,7 @@ module _ (functions : List Function) (states : ℕ → ℕ → Option State) (la
     dispatched q (Calls row place) made plain is leads = λ exit.
         let asks = leads exit in
         let all = cs ++ asks.1 ∷ [] in
-        subst (λ (e : Exit). Remembers code all es b (place e) → Ready es (place e) b) asks.4
+        subst (λ (e : Exit). Remembers program all es b (place e) → Ready es (place e) b) asks.4
         (λ has. (_, all, Asks n cs es q b row place asks.0 asks.1 made none is asks.2 asks.3, (alive, plain), has))
         asks.5
     dispatched q (Does d rest place) made plain is leads = λ found.
@@ -87,8 +85,8 @@ module _ (functions : List Function) (states : ℕ → ℕ → Option State) (la
   by_agenda : (es : List WordEvent) (q : Place) (b : Actor) (agenda : List Duty) → Ready es q b → b.status ≢ Gone
       → b.agenda ≡ agenda → GoesOn es q b (agenda_action functions layout t (thread_at function q b) agenda)
   by_agenda es q b [] so alive is =
-      dispatched so.0 so.1 es b is alive q (dispatch layout t b.used code q) so.2 so.3 refl
-      (dispatch_leads layout t code so.1 es b is q so.4)
+      dispatched so.0 so.1 es b is alive q (dispatch_in layout t b.used program q) so.2 so.3 refl
+      (dispatch_leads layout t program so.1 es b is q so.4)
   by_agenda es q b (CloseResource x ∷ rest) so alive is =
       λ found. subst (λ (fs : List WordEvent). Ready fs q (actor_by layout t b (CloseResource x) rest found))
       (sym (append-nil es)) (
@@ -96,7 +94,7 @@ module _ (functions : List Function) (states : ℕ → ℕ → Option State) (la
         so.1 ++ asked.Close false ∷ [],
         Closes so.0 so.1 es q b x rest false so.2 is,
         (alive, so.3),
-        nothing_busy code so.1 (so.1 ++ asked.Close false ∷ []) es es b
+        nothing_busy program so.1 (so.1 ++ asked.Close false ∷ []) es es b
             (actor_by layout t b (CloseResource x) rest found) (CloseResource x) rest q is so.4,
       )
   by_agenda es q b (d ∷ rest) so alive is =
@@ -105,7 +103,8 @@ module _ (functions : List Function) (states : ℕ → ℕ → Option State) (la
         so.1,
         Continues so.0 so.1 es q b d rest found so.2 is refl,
         (alive, so.3),
-        nothing_busy code so.1 so.1 es (es ++ events_of layout t b d found) b (actor_by layout t b d rest found) d rest
+        nothing_busy program so.1 so.1 es (es ++ events_of layout t b d found) b
+            (actor_by layout t b d rest found) d rest
             q is so.4,
       )
 
@@ -166,7 +165,7 @@ module _ (functions : List Function) (states : ℕ → ℕ → Option State) (la
 
 pub threads_as_hands : ThreadsMakeAsHands
 threads_as_hands functions states layout t function p q a b es outside can =
-    let code = code_of (slice_get functions function) in
+    let program : Program = record { functions = functions; first = function } in
     let so = can_ready functions states layout t p a (thread_at function p a) (thread_at function q b) [] es
-    can.0 can.1 (0, [], Refl, tt, nothing_outside code [] [] a p outside) in
+    can.0 can.1 (0, [], Refl, tt, nothing_outside program [] [] a p outside) in
     (so.0, so.1, so.2, so.3)

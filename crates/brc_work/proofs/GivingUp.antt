@@ -1,12 +1,11 @@
 -- Variable after variable, a stopped call gives up what it owns.
-use Rattle.std.proofs.Common.{◌≡◌, ◌≢◌, ℕ, zero, suc, ◌<◌, Bool, true, false, cond, List, [], ◌∷◌, Option, None, Some, inl, inr, length, refl, sym, ap, ◌∙◌, subst, arith}
+use Rattle.std.proofs.Common.{◌≡◌, ◌≢◌, ℕ, zero, suc, ◌<◌, Bool, true, false, cond, List, [], ◌∷◌, Option, None, Some, inl, inr, refl, sym, ap, ◌∙◌, subst, arith}
 use Rattle.std.specs.Prelude.{◌||◌, not, find, map}
 use Rattle.std.specs.List.{slice_index_or}
 use Rattle.std.proofs.lemmas.Bool.Decides.{eqb_tells}
-use Rattle.brc_host.specs.HostCalls.{HostCall}
 use Rattle.brc_lang.specs.declared.check_code.CheckCode.TheVariants.{EmptyUsed, WrongKind, NotOwned, StillOwns, LeftOwned, LeftLocked, SecondLock, NotLocked, LockedChanged}
-use Rattle.brc_lang.specs.declared.module.Instr.{Instr}
 use Rattle.brc_lang.specs.declared.module.Instr.TheVariants as instructions
+use Rattle.brc_model.specs.declared.actor.Place.{Place}
 use Rattle.brc_model.specs.declared.actor.Place.TheVariants.{Stopping}
 use Rattle.brc_model.specs.declared.state.Exit.TheVariants.{Success}
 use Rattle.brc_model.specs.declared.state.VarState.{VarState}
@@ -18,43 +17,43 @@ use Rattle.brc_model.specs.Stops.{row_locked, owned_rows, stopping}
 use Rattle.brc_model.specs.Threads.{row_of}
 use Rattle.brc_model.proofs.Dispatch.Stopped.{owned_exactly}
 use Rattle.brc_table.specs.Hands.{TableState, HandState, IsOf}
-use Rattle.brc_table.specs.Views.{holds}
-use Rattle.brc_free.specs.Works.{HasWorked, to_settle}
+use Rattle.brc_table.specs.declared.view.View.{View}
 use Rattle.brc_work.specs.Calls.{HasReturned}
-use Rattle.brc_work.specs.Changes.{CanGive, IsIn}
+use Rattle.brc_work.specs.Changes.{CanGive}
 use Rattle.brc_work.specs.Fits.{Base, Fits, HasDone}
-use Rattle.brc_work.specs.Stopping.{unchained, OwnsAsMuch, GoesChained, Unlocks, Loosens, MakesReleases}
-use Rattle.brc_work.specs.Traces.{MakesTrace}
+use Rattle.brc_work.specs.Stopping.{unchained, OwnsAsMuch, IsGivingUp, GoesChained, Unlocks, Loosens, GivesUpTo, MakesReleases}
+use Rattle.brc_work.specs.Traces.{Program, MakesTrace}
 use Rattle.brc_work.proofs.Holding.{lock_of}
 use Rattle.brc_work.proofs.Stepping.{ends}
 use Rattle.brc_work.proofs.Stopping.{emptied, emptied_later, emptied_locked, all_emptied}
 use Rattle.brc_work.proofs.Traces.Joining.{no_trace}
 use Rattle.brc_work.proofs.Traces.Starting.{unlocks as unlocks_row}
-use Rattle.brc_work.proofs.Traces.Stops.{place_of, Stops, stops_first, stops_on, stops_last, emptied_left, unowned_left, nothing_left}
+use Rattle.brc_work.proofs.Traces.Stops.{Stops, stops_first, stops_on, stops_off, emptied_left, unowned_left, nothing_left}
 
 -- The variables below the number have given up what they owned, and the thread gives up the rest.
 abbrev pub HaveGiven : TableState → State → List (Option ℕ) → HandState → ℕ → List (Option ℕ) → HandState → Type 0
 HaveGiven heap state first hand k rows after =
     IsOf heap after
-    × ((base : Base) (s : State) → Fits base s first hand → OwnsAsMuch state s
+    × ((base : Base) (s : State) → Fits base s first (unchained hand) → OwnsAsMuch state s
     → Fits base (emptied k s) rows (unchained after))
     × ((i : ℕ) → i < k → row_of (owned_rows state.vars rows) i ≡ None)
-    × ((code : List Instr)
-    → Stops code (place_of state.vars first) hand.view state.vars rows after.view)
+    × ((program : Program) (p : Place) (w : View) (outer : List (List (Option ℕ)))
+    → GivesUpTo program p w (owned_rows state.vars first ∷ outer) hand.view
+    → Stops program p w state.vars outer rows after.view)
 
 -- A hand whose chain is empty.
-as_unchained : (hand : HandState) → hand.view.actor.head ≡ 0 → hand ≡ unchained hand
+pub as_unchained : (hand : HandState) → hand.view.actor.head ≡ 0 → hand ≡ unchained hand
 as_unchained hand empty =
     λ i. record hand { view = record hand.view { actor = record hand.view.actor { head = empty i } } }
 
 module _ (heap : TableState) (state : State) (first : List (Option ℕ)) (hand : HandState)
-    (is : IsIn heap (OwnsAsMuch state) first hand) where
+    (is : IsGivingUp heap (OwnsAsMuch state) first hand) where
   pub none_given : HaveGiven heap state first hand 0 first hand
   none_given = (
     is.of,
-    λ base s fits alike. subst (Fits base s first) (as_unchained hand fits.rests.settled) fits,
+    λ base s fits alike. fits,
     λ i low. absurd (omega (arith, low)),
-    λ code. stops_first code hand.view state.vars first is.fits.rests.agenda is.fits.rests.settled,
+    λ program p w outer to. stops_first program p w state.vars outer first hand.view to is.fits.rests.agenda,
   )
 
   pub can_loosen : (s : State) (k : ℕ) → OwnsAsMuch state s → is_owned (var_of state k) ≡ true
@@ -83,9 +82,9 @@ module _ (heap : TableState) (state : State) (first : List (Option ℕ)) (hand :
       λ i low.
           subst (λ (rs : List (Option ℕ)). row_of (owned_rows state.vars rs) i ≡ None) (sym loosens.emptied)
           (emptied_left state.vars rows k i low given.2),
-      λ code.
-          stops_on code (place_of state.vars first) hand.view state.vars rows after_rows k now.view after.view
-          (given.3 code) fits_now.rests.agenda loosens
+      λ program p w outer to.
+          stops_on program p w state.vars outer rows after_rows k now.view after.view (given.3 program p w outer to)
+          fits_now.rests.agenda loosens
           ((owned_exactly state.vars rows k loosens.row).1 (owned, loosens.names)) given.2,
     )
 
@@ -99,47 +98,19 @@ module _ (heap : TableState) (state : State) (first : List (Option ℕ)) (hand :
       given.3,
     )
 
-  -- All have given up what they owned, and the hand has settled.
-  module _ (rows : List (Option ℕ)) (now after : HandState) (given : HaveGiven heap state first hand 16 rows now)
-      (cs : List HostCall) (worked : HasWorked (to_settle [] now.view) cs [] after.view)
-      (empty : after.view.actor.head ≡ 0)
-    where
-      pub all_returned : after.table ≡ now.table → after.carried ≡ now.carried → after.slots ≡ now.slots → (base : Base)
-          (s : State) → Fits base s first hand → OwnsAsMuch state s → HasReturned base after
-      all_returned table carried slots base s fits alike =
-          let at_end = given.1 base s fits alike in
-          let ended = ends base (emptied 16 s) rows (unchained now) at_end (all_emptied s fits.some_vars)
-          (emptied_locked 16 s ∙ alike.unlocked) in
-          let keeps = worked.keeps in
-          record {
-            follows = record {
-              table = table ∙ ended.follows.table;
-              layout = keeps.layout ∙ ended.follows.layout;
-              thread = keeps.thread ∙ ended.follows.thread;
-              given = keeps.given ∙ ended.follows.given;
-              carried = carried ∙ ended.follows.carried;
-              used = let more = ended.follows.used in let same = keeps.used in omega (arith, more, same);
-            };
-            rests = record {
-              running = keeps.status ∙ ended.rests.running;
-              agenda = worked.agenda;
-              aside = keeps.aside ∙ ended.rests.aside;
-              settled = empty;
-            };
-            unlocked = keeps.locked ∙ ended.unlocked;
-            slots = slots ∙ ended.slots;
-            held = λ y counted.
-                ap (λ (references : List ℕ). holds (record now.view { references = references }) y) keeps.references
-                ∙ ended.held y counted;
-            few = let less = ended.few in
-                let same = ap {B = ℕ} length keeps.references in omega (arith, less, same);
-          }
+  -- All have given up what they owned.
+  module _ (rows : List (Option ℕ)) (now : HandState) (given : HaveGiven heap state first hand 16 rows now) where
+    pub all_returned : (base : Base) (s : State) → Fits base s first (unchained hand) → OwnsAsMuch state s
+        → HasReturned base (unchained now)
+    all_returned base s fits alike =
+        ends base (emptied 16 s) rows (unchained now) (given.1 base s fits alike) (all_emptied s fits.some_vars)
+        (emptied_locked 16 s ∙ alike.unlocked)
 
-      pub all_made : MakesReleases cs state first hand.view after.view
-      all_made = λ code.
-          let at_end = given.1 is.base is.state is.fits is.can_do in
-          stops_last code (place_of state.vars first) hand.view state.vars rows cs now.view after.view (given.3 code)
-          (nothing_left state.vars rows at_end.some_rows given.2) at_end.rests.agenda worked empty
+    pub all_made : MakesReleases state first hand.view now.view
+    all_made = λ program p w outer to.
+        let at_end = given.1 is.base is.state is.fits is.can_do in
+        stops_off program p w state.vars outer rows now.view (given.3 program p w outer to)
+        (nothing_left state.vars rows at_end.some_rows given.2) at_end.rests.agenda
 
 -- ---- the lock
 
@@ -176,31 +147,30 @@ pub record IsUnlocked (heap : TableState) (state : State) (rows : List (Option �
   pub alike : OwnsAsMuch state left
   pub of : IsOf heap now
   pub fits : (base : Base) → Fits base state rows hand → Fits base left rows now
-  pub made : (code : List Instr)
-      → MakesTrace 0 [] code (stopping (row_locked state.locked rows) (owned_rows state.vars rows ∷ [])) hand.view
-      (place_of state.vars rows) now.view
+  pub made : (program : Program) (outer : List (List (Option ℕ)))
+      → MakesTrace 0 [] program (stopping (row_locked state.locked rows) (owned_rows state.vars rows ∷ outer))
+      hand.view (stopping None (owned_rows state.vars rows ∷ outer)) now.view
 
 module _ (heap : TableState) (state : State) (rows : List (Option ℕ)) (hand : HandState) where
   pub unlocked_now : (now : HandState) (object : ℕ) → state.locked ≡ Some object → IsOf heap now
       → hand.view.actor.agenda ≡ []
       → HasDone (instructions.Unlock object) Success rows hand rows now → Unlocks object rows hand.view now.view
       → IsUnlocked heap state rows hand now
-  unlocked_now now object locked of none done unlocks =
-      let calls = owned_rows state.vars rows ∷ [] in
-      record {
-        left = after (instructions.Unlock object) Success state;
-        alike = record { unlocked = refl; owned = λ i. owned_alike state.vars i };
-        of = of;
-        fits = λ base fits. done base state fits
-            (may_unlock state object (lock_of base state rows hand fits object locked).used locked);
-        made = λ code.
-            subst (λ (o : Option ℕ). MakesTrace 0 [] code (stopping o calls) hand.view (stopping None calls) now.view)
-            (sym (ap (λ (o : Option ℕ). row_locked o rows) locked ∙ unlocks.names))
-            (subst (MakesTrace 0 [] code (Stopping (Some unlocks.row) calls) hand.view (stopping None calls))
-            (sym unlocks.is)
-            (unlocks_row code (Stopping (Some unlocks.row) calls) (always (stopping None calls)) hand.view none
-            unlocks.row unlocks.found refl));
-      }
+  unlocked_now now object locked of none done unlocks = record {
+    left = after (instructions.Unlock object) Success state;
+    alike = record { unlocked = refl; owned = λ i. owned_alike state.vars i };
+    of = of;
+    fits = λ base fits. done base state fits
+        (may_unlock state object (lock_of base state rows hand fits object locked).used locked);
+    made = λ program outer.
+        let calls = owned_rows state.vars rows ∷ outer in
+        subst (λ (o : Option ℕ). MakesTrace 0 [] program (stopping o calls) hand.view (stopping None calls) now.view)
+        (sym (ap (λ (o : Option ℕ). row_locked o rows) locked ∙ unlocks.names))
+        (subst (MakesTrace 0 [] program (Stopping (Some unlocks.row) calls) hand.view (stopping None calls))
+        (sym unlocks.is)
+        (unlocks_row program (Stopping (Some unlocks.row) calls) (always (stopping None calls)) hand.view none
+        unlocks.row unlocks.found refl));
+  }
 
   pub unlocked_already : state.locked ≡ None → IsOf heap hand → IsUnlocked heap state rows hand hand
   unlocked_already locked of = record {
@@ -208,10 +178,10 @@ module _ (heap : TableState) (state : State) (rows : List (Option ℕ)) (hand : 
     alike = record { unlocked = locked; owned = λ i. refl };
     of = of;
     fits = λ base fits. fits;
-    made = λ code.
-        subst (λ (o : Option ℕ). MakesTrace 0 [] code (stopping (row_locked o rows) (owned_rows state.vars rows ∷ []))
-        hand.view (place_of state.vars rows) hand.view) (sym locked)
-        (no_trace code (place_of state.vars rows) [] hand.view);
+    made = λ program outer.
+        let calls = owned_rows state.vars rows ∷ outer in
+        subst (λ (o : Option ℕ). MakesTrace 0 [] program (stopping (row_locked o rows) calls) hand.view
+        (stopping None calls) hand.view) (sym locked) (no_trace program (stopping None calls) [] hand.view);
   }
 
 pub no_lock_left : (o : Option ℕ) → ((x : ℕ) → o ≢ Some x) → o ≡ None

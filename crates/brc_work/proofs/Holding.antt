@@ -76,7 +76,7 @@ module _ (base : Base) (s : State) (rows : List (Option ℕ)) (hand : HandState)
       omega (arith, one, all, more, fits.held x (here x counted))
 
   -- What the caller lends it holds further out.
-  lent_outer : (i x : ℕ) (k : Kind) → var_of s i ≡ Caller k → row_of rows i ≡ Some x → IsCounted hand.view.layout x
+  pub lent_outer : (i x : ℕ) (k : Kind) → var_of s i ≡ Caller k → row_of rows i ≡ Some x → IsCounted hand.view.layout x
       → 1 ≤ base.held x
   lent_outer i x k is row counted =
       let lent : SlotFits base.held hand.view (Caller k) (row_of rows i) =

@@ -11,7 +11,11 @@ mod Locking
 mod Asking
 mod LockedList
 mod Lending
+mod Entering
+mod StolenSums
+mod Handing
 mod Stepping
+mod Nesting
 mod Calling
 mod NewObjects
 mod Moving

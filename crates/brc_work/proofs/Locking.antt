@@ -37,7 +37,8 @@ borrows_none held v (Owned k) row none fits = refl
 borrows_none held v (Caller k) row none fits = refl
 borrows_none held v (Locked k) row none fits = absurd (none_some fits.borrows.list (sym none ∙ fits.borrows.locked))
 
-slot_unlocked : (held : ℕ → ℕ) (v u : View) (slot : VarState) (row : Option ℕ) → KnowsMore v u → v.actor.locked ≡ None
+pub slot_unlocked : (held : ℕ → ℕ) (v u : View) (slot : VarState) (row : Option ℕ) → KnowsMore v u → v.actor.locked
+    ≡ None
     → SlotFits held v slot row → SlotFits held u slot row
 slot_unlocked held v u Empty row more none fits = tt
 slot_unlocked held v u (Owned k) row more none fits = names_more v u k row more fits

@@ -7,7 +7,7 @@ use Rattle.brc_model.specs.declared.layout.Layout.{Layout}
 use Rattle.brc_model.specs.Layout.{is_immortal_row}
 use Rattle.brc_model.specs.declared.state.VarState.{VarState}
 use Rattle.brc_model.specs.declared.state.VarState.TheVariants.{Empty, Owned, Caller, Locked}
-use Rattle.brc_model.specs.VarStates.{is_owned, without_item, entry}
+use Rattle.brc_model.specs.VarStates.{is_owned, without_item, entry_of}
 use Rattle.brc_model.specs.Threads.{entry_variables}
 use Rattle.brc_work.specs.Fits.{owns, lists, over_variables}
 
@@ -122,9 +122,9 @@ sum_lists layout (s ∷ vars) [] = omega arith
 sum_lists layout (s ∷ vars) (r ∷ rows) =
     let one = lists_one layout s r in let rest = sum_lists layout vars rows in omega (arith, one, rest)
 
--- At the beginning of a call the variables own nothing.
-pub entry_owned : (y : ℕ) → over_variables (owns y) entry.vars entry_variables ≡ 0
+-- At the beginning of an outermost call the variables own nothing.
+pub entry_owned : (y : ℕ) → over_variables (owns y) (entry_of []).vars entry_variables ≡ 0
 entry_owned y = refl
 
-pub entry_listed : (layout : Layout) → over_variables (lists layout) entry.vars entry_variables ≡ 0
+pub entry_listed : (layout : Layout) → over_variables (lists layout) (entry_of []).vars entry_variables ≡ 0
 entry_listed layout = refl

@@ -1,9 +1,13 @@
 -- A call goes from point to point as the checker's paths do.
-use Rattle.std.proofs.Common.{◌≡◌, ℕ, zero, suc, ◌+◌, ◌<◌, inl, inr, length, Bool, true, false, cond, List, [], ◌∷◌, ◌++◌, drop, Option, None, Some, refl, sym, ap, ◌∙◌, subst, arith}
-use Rattle.std.specs.Prelude.{find, slice_get}
+use Rattle.std.proofs.Common.{◌≡◌, ℕ, ◌+◌, ◌<◌, inl, inr, length, Bool, true, false, cond, List, [], ◌∷◌, ◌++◌, drop, Option, None, Some, refl, sym, ap, ◌∙◌, subst, arith}
+use Rattle.std.specs.Prelude.{find, slice_get, slice_set}
 use Rattle.std.specs.List.{list_any}
 use Rattle.std.proofs.lemmas.Option.{slice_get_cases}
+use Rattle.brc_lang.specs.Limits.{function_limit}
+use Rattle.brc_lang.specs.declared.kind.Kind.TheVariants as kinds
 use Rattle.brc_lang.specs.declared.module.Function.{Function}
+use Rattle.brc_lang.specs.declared.parameter.Argument.{Argument}
+use Rattle.brc_lang.specs.declared.parameter.Parameter.{Parameter}
 use Rattle.brc_lang.specs.declared.module.Instr.{Instr}
 use Rattle.brc_lang.specs.declared.module.Module.{Module}
 use Rattle.brc_lang.specs.declared.module.Instr.TheVariants.{Num, List as ListObject, NoneObject, Newref, Move, Drop, Lock, Unlock, Borrow, Fetch, Set, Put, Goto, Again, Ret, Fail, As, Open, Connect, Read, Write, Call}
@@ -12,20 +16,23 @@ use Rattle.brc_lang.specs.declared.check_code.CheckCode.TheVariants.{EmptyUsed, 
 use Rattle.brc_model.specs.declared.state.State.{State}
 use Rattle.brc_model.specs.declared.state.Exit.{Exit}
 use Rattle.brc_model.specs.Layout.{root_row}
-use Rattle.brc_model.specs.Paths.{At, IsAcceptableCode}
+use Rattle.brc_model.specs.Paths.{At, IsAcceptableFunction}
 use Rattle.brc_model.specs.declared.state.VarState.{VarState}
-use Rattle.brc_model.specs.declared.state.VarState.TheVariants.{Empty}
-use Rattle.brc_model.specs.VarStates.{var_of, is_owned, applies, rising, lowest, after, target, entry}
+use Rattle.brc_model.specs.declared.state.VarState.TheVariants.{Empty, Owned}
+use Rattle.brc_model.specs.VarStates.{var_of, is_owned, put, applies, rising, lowest, after, target, entry_of}
 use Rattle.brc_model.specs.Tables.{Reaches, AreTrueWhereReached}
-use Rattle.brc_model.specs.Threads.{code_of, row_of, entry_variables}
-use Rattle.brc_model.proofs.Basics.Lists.{some_is, get_or-replicate_default}
+use Rattle.brc_model.specs.Threads.{function_of, function_at, row_of, entry_variables}
+use Rattle.brc_model.proofs.Basics.Lists.{some_is}
+use Rattle.brc_model.proofs.Dispatch.Calls.{passed_each}
+use Rattle.brc_model.proofs.Dispatch.Grounded.{owned_low, owned_var}
 use Rattle.brc_model.proofs.Dispatch.Passing.{AreMet, are_met, PassesOn, passes_on}
 use Rattle.brc_table.specs.Hands.{HandState}
-use Rattle.brc_work.specs.Calls.{Leads, GoesTo, GoesOn, HasReturned, ends_call}
-use Rattle.brc_work.specs.Fits.{Base, outermost, owns, lists, SlotFits, OfRoot, IsReady, Fits}
+use Rattle.brc_work.specs.Calls.{Begins, GoesTo, GoesOn, HasReturned, Returns, stays_in_call}
+use Rattle.brc_work.specs.Fits.{Base, outermost, owns, lists, over_variables, SlotFits, OfRoot, IsReady, Fits}
 use Rattle.brc_heap.proofs.Keeping.{keeps_first}
 use Rattle.brc_work.proofs.CallsBelow.{keeps_later}
 use Rattle.brc_work.proofs.Conditions.{kept, none_is}
+use Rattle.brc_work.proofs.StolenSums.{Counts, owns_counts, lists_counts, put_sum}
 use Rattle.brc_work.proofs.Locking.{no_lock}
 use Rattle.brc_work.proofs.Owning.{sum_none, owns_no, lists_no, entry_owned, entry_listed}
 
@@ -46,17 +53,17 @@ lowest_none i s met =
     ∙ find_skip (applies i s) LockedChanged (drop 9 rising) met.unlocked)))))))
 
 -- The instruction at a point that paths reach, and its conditions.
-pub passes_at : (code : List Instr) (at : ℕ) (s : State) → IsAcceptableCode code → (reaches : Reaches code at s)
-    → PassesOn code reaches.exits at s
-passes_at code at s accepted reaches = passes_on code reaches.exits at s accepted reaches.reaches
+pub passes_at : (f : Function) (at : ℕ) (s : State) → IsAcceptableFunction f → (reaches : Reaches f at s)
+    → PassesOn f reaches.exits at s
+passes_at f at s accepted reaches = passes_on f reaches.exits at s accepted reaches.reaches
 
 -- The call goes on by the instruction's exit.
-pub goes_to : (base : Base) (code : List Instr) (at next : ℕ) (s : State) (i : Instr) (exit : Exit)
-    (rows : List (Option ℕ)) (hand : HandState) → IsAcceptableCode code → (reaches : Reaches code at s)
-    → slice_get code at ≡ Some i → target i exit at ≡ Some next → Fits base (after i exit s) rows hand
-    → GoesTo base code next rows hand
-goes_to base code at next s i exit rows hand accepted reaches found leads fits =
-    let passes = passes_at code at s accepted reaches in
+pub goes_to : (base : Base) (f : Function) (at next : ℕ) (s : State) (i : Instr) (exit : Exit)
+    (rows : List (Option ℕ)) (hand : HandState) → IsAcceptableFunction f → (reaches : Reaches f at s)
+    → slice_get f.code at ≡ Some i → target i exit at ≡ Some next → Fits base (after i exit s) rows hand
+    → GoesTo base f next rows hand
+goes_to base f at next s i exit rows hand accepted reaches found leads fits =
+    let passes = passes_at f at s accepted reaches in
     let same : passes.here ≡ i = some_is passes.here i (sym passes.found ∙ found) in
     record {
       state = after i exit s;
@@ -87,21 +94,52 @@ ends base s rows hand fits none unlocked =
           omega (arith, fits.few, none_listed);
     }
 
+-- With the reference that it returns.
+pub ends_with : (base : Base) (s : State) (rows : List (Option ℕ)) (hand : HandState) (from row : ℕ)
+    → Fits base s rows hand → lowest (Ret from) s ≡ None → row_of rows from ≡ Some row → Returns base row hand
+ends_with base s rows hand from row fits passes names =
+    let met = are_met (Ret from) s passes in
+    let owned : is_owned (var_of s from) ≡ true =
+    owned_var (var_of s from) (kept _ met.not_empty) (kept _ met.owned) in
+    let unlocked = none_is s.locked (kept _ met.no_lock_left) in
+    let lock = no_lock base s rows hand fits unlocked in
+    let low = owned_low s from fits.some_vars owned in
+    let sums : (f : VarState → Option ℕ → ℕ) → Counts f
+    → over_variables f s.vars rows ≡ f (Owned kinds.Any) (Some row) = λ f counts.
+    let one = put_sum f counts s rows from (record { vars = fits.some_vars; named = fits.some_rows }) low in
+    let none = sum_none f counts.bare (put s from Empty).vars (slice_set rows from None) (kept _ met.none_left) in
+    let same : f (var_of s from) (row_of rows from) ≡ f (Owned kinds.Any) (Some row) =
+    sym (counts.alike kinds.Any (var_of s from) (row_of rows from) owned) ∙ ap (f (Owned kinds.Any)) names in
+    omega (arith, one, none, same) in
+    record {
+      follows = fits.follows;
+      rests = fits.rests;
+      unlocked = lock.0;
+      slots = lock.1;
+      held = λ y counted.
+          let all = sums (owns y) (owns_counts y) in
+          let had = fits.held y counted in
+          omega (arith, all, had);
+      few =
+          let all = sums (lists base.first.view.layout) (lists_counts base.first.view.layout) in
+          let had = fits.few in
+          omega (arith, all, had);
+    }
+
 -- ---- its beginning
 
 first_slot : (hand : HandState) → IsReady hand → (i : ℕ)
-    → SlotFits (outermost hand).held hand.view (var_of entry i) (row_of entry_variables i)
-first_slot hand ready zero = record {
-  names = record { object = root_row; is = refl; knows = OfRoot refl refl };
-  lent = λ counted. ready.root;
-}
-first_slot hand ready (suc i) =
-    subst (λ (slot : VarState). SlotFits (outermost hand).held hand.view slot (row_of entry_variables (suc i)))
-    (sym (get_or-replicate_default 15 i Empty)) tt
+    → SlotFits (outermost hand).held hand.view (var_of (entry_of []) i) (row_of entry_variables i)
+first_slot hand ready i =
+    passed_each (SlotFits (outermost hand).held hand.view)
+    (record {
+      names = record { object = root_row; is = refl; knows = OfRoot refl refl };
+      lent = λ counted. ready.root;
+    }) tt [] [] tt i
 
-pub begins : (hand : HandState) → IsReady hand → hand.view.layout.immortal_lists ≡ 0
-    → Fits (outermost hand) entry entry_variables hand
-begins hand ready plain = record {
+begins_first : (hand : HandState) → IsReady hand → hand.view.layout.immortal_lists ≡ 0
+    → Fits (outermost hand) (entry_of []) entry_variables hand
+begins_first hand ready plain = record {
   ready = ready;
   room = omega (arith, ready.few);
   plain = plain;
@@ -115,11 +153,22 @@ begins hand ready plain = record {
   lock = (ready.unlocked, refl);
 }
 
-pub begins_at : (code : List Instr) → Reaches code 0 entry
-begins_at code = record { exits = []; reaches = refl }
+-- An outermost call is of a function without parameters.
+pub begins : (hand : HandState) (f : Function) (number : ℕ) → IsReady hand → hand.view.layout.immortal_lists ≡ 0
+    → f.parameters ≡ [] → number < function_limit → Begins (outermost hand) f number entry_variables hand
+begins hand f number ready plain none low = record {
+  fits = subst (λ (ps : List Parameter). Fits (outermost hand) (entry_of ps) entry_variables hand) (sym none)
+      (begins_first hand ready plain);
+  root = ready.root;
+  room = omega (arith, ready.few, low);
+}
 
--- An instruction that doesn't end the call leads on.
-pub leads_on : (i : Instr) (exit : Exit) (at : ℕ) → ends_call i ≡ false → (next : ℕ) × (target i exit at ≡ Some next)
+pub begins_at : (f : Function) → Reaches f 0 (entry_of f.parameters)
+begins_at f = record { exits = []; reaches = refl }
+
+-- An instruction that stays in its call leads on.
+pub leads_on : (i : Instr) (exit : Exit) (at : ℕ) → stays_in_call i ≡ true
+    → (next : ℕ) × (target i exit at ≡ Some next)
 leads_on (Num to value otherwise) Success at on = (at + 1, refl)
 leads_on (Num to value otherwise) FaultExit at on = (otherwise, refl)
 leads_on (ListObject to cells otherwise) Success at on = (at + 1, refl)
@@ -148,45 +197,32 @@ leads_on (Write file number otherwise) Success at on = (at + 1, refl)
 leads_on (Write file number otherwise) FaultExit at on = (otherwise, refl)
 leads_on (As from kind otherwise) Success at on = (at + 1, refl)
 leads_on (As from kind otherwise) FaultExit at on = (otherwise, refl)
-leads_on (Call to callee arguments otherwise) Success at on = (at + 1, refl)
-leads_on (Call to callee arguments otherwise) FaultExit at on = (otherwise, refl)
+leads_on (Call to callee arguments otherwise) exit at on = let wrong : false ≡ true = on in absurd cc
 leads_on (Goto to) exit at on = (to, refl)
 leads_on (Again to times) Success at on = (at + 1, refl)
 leads_on (Again to times) FaultExit at on = (to, refl)
-leads_on (Ret from) exit at on = let wrong : true ≡ false = on in absurd cc
-leads_on Fail exit at on = let wrong : true ≡ false = on in absurd cc
-
--- What a step of the call leads to.
-pub leads_by : (base : Base) (code : List Instr) (at : ℕ) (s : State) (i : Instr) (exit : Exit) (next : Option ℕ)
-    (rows : List (Option ℕ)) (hand : HandState) → IsAcceptableCode code → Reaches code at s → slice_get code at ≡ Some i
-    → ends_call i ≡ false → next ≡ target i exit at → Fits base (after i exit s) rows hand
-    → Leads base code next rows hand
-leads_by base code at s i exit next rows hand accepted reaches found on is fits =
-    let leads = leads_on i exit at on in
-    subst (λ (o : Option ℕ). Leads base code o rows hand) (sym (is ∙ leads.1))
-    (goes_to base code at leads.0 s i exit rows hand accepted reaches found leads.1 fits)
+leads_on (Ret from) exit at on = let wrong : false ≡ true = on in absurd cc
+leads_on Fail exit at on = let wrong : false ≡ true = on in absurd cc
 
 -- The instruction at a point that paths reach breaks no condition.
-pub passes_none : (code : List Instr) (at : ℕ) (s : State) (i : Instr) → IsAcceptableCode code → Reaches code at s
-    → slice_get code at ≡ Some i → lowest i s ≡ None
-passes_none code at s i accepted reaches found =
-    let passes = passes_at code at s accepted reaches in
+pub passes_none : (f : Function) (at : ℕ) (s : State) (i : Instr) → IsAcceptableFunction f → Reaches f at s
+    → slice_get f.code at ≡ Some i → lowest i s ≡ None
+passes_none f at s i accepted reaches found =
+    let passes = passes_at f at s accepted reaches in
     let same : passes.here ≡ i = some_is passes.here i (sym passes.found ∙ found) in
     subst (λ (j : Instr). lowest j s ≡ None) same (lowest_none passes.here s passes.met)
 
--- An instruction that ends the call leads to no point.
-pub leads_nowhere : (i : Instr) (exit : Exit) (at : ℕ) → ends_call i ≡ true → target i exit at ≡ None
-leads_nowhere (Ret from) exit at ends = refl
-leads_nowhere Fail exit at ends = refl
-leads_nowhere _ exit at ends = absurd (let wrong : false ≡ true = ends in cc)
+-- An instruction that neither calls a function nor ends the call stays in it.
+pub stays_by : (i : Instr) → ((from : ℕ) → i ≡ Ret from → ⊥) → (i ≡ Fail → ⊥)
+    → ((to callee : ℕ) (arguments : List Argument) (otherwise : ℕ) → i ≡ Call to callee arguments otherwise → ⊥)
+    → stays_in_call i ≡ true
+stays_by (Call to callee arguments otherwise) no_ret no_fail no_call =
+    absurd (no_call to callee arguments otherwise refl)
+stays_by (Ret from) no_ret no_fail no_call = absurd (no_ret from refl)
+stays_by Fail no_ret no_fail no_call = absurd (no_fail refl)
+stays_by _ no_ret no_fail no_call = refl
 
--- `fail` is the one that returns nothing.
-pub is_fail : (i : Instr) → ends_call i ≡ true → ((from : ℕ) → i ≡ Ret from → ⊥) → i ≡ Fail
-is_fail (Ret from) ends other = absurd (other from refl)
-is_fail Fail ends other = refl
-is_fail _ ends other = absurd (let wrong : false ≡ true = ends in cc)
-
--- It leaves nothing behind.
+-- A call that returns nothing leaves nothing behind.
 pub fails : (base : Base) (s : State) (rows : List (Option ℕ)) (hand : HandState) → Fits base s rows hand
     → lowest Fail s ≡ None → HasReturned base hand
 fails base s rows hand fits passes =
@@ -196,23 +232,24 @@ fails base s rows hand fits passes =
 -- ---- the next point
 
 -- A step of the call leads on to the next point.
-pub goes_there : (base : Base) (code : List Instr) (at next : ℕ) (o : Option ℕ) (rows after_rows : List (Option ℕ))
-    (hand after_hand : HandState) → GoesTo base code at rows hand → GoesOn code at rows hand o after_rows after_hand
-    → o ≡ Some next → GoesTo base code next after_rows after_hand
-goes_there base code at next o rows after_rows hand after_hand goes steps is =
-    subst (λ (p : Option ℕ). Leads base code p after_rows after_hand) is
-    (steps base goes.state goes.fits goes.reaches)
+pub goes_there : (base : Base) (f : Function) (at next : ℕ) (i : Instr) (rows after_rows : List (Option ℕ))
+    (hand after_hand : HandState) → IsAcceptableFunction f → slice_get f.code at ≡ Some i
+    → GoesTo base f at rows hand → GoesOn i at rows hand next after_rows after_hand
+    → GoesTo base f next after_rows after_hand
+goes_there base f at next i rows after_rows hand after_hand accepted found goes steps =
+    goes_to base f at next goes.state i steps.0 after_rows after_hand accepted goes.reaches found steps.1
+    (steps.2 base goes.state goes.fits (passes_none f at goes.state i accepted goes.reaches found))
 
 -- ---- a point's state
 
 -- A table that is true where paths reach gives a point that they reach their state.
 pub state_known : (m : Module) (states : ℕ → ℕ → Option State) (function at : ℕ) (s : State)
     → AreTrueWhereReached m states → function < length m.functions
-    → Reaches (code_of (slice_get m.functions function)) at s → states function at ≡ Some s
+    → Reaches (function_at m.functions function) at s → states function at ≡ Some s
 state_known m states function at s truth low reaches =
     elim (slice_get_cases m.functions function).1 [
       | inl found ↦
           truth function at found.0 s found.2
-          (subst (λ (o : Option Function). Reaches (code_of o) at s) found.2 reaches)
+          (subst (λ (o : Option Function). Reaches (function_of o) at s) found.2 reaches)
       | inr past ↦ absurd (omega (arith, past.0, low))
     ]

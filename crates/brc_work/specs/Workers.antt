@@ -1,40 +1,46 @@
 -- What workers on threads of their own do with their hands.
-use Rattle.std.specs.Prelude.{◌≡◌, ℕ, Bool, true, List, [], ◌++◌, slice_get}
+use Rattle.std.specs.Prelude.{◌≡◌, ℕ, ◌*◌, ◌<◌, Bool, true, List, [], ◌++◌, length}
 use Rattle.std.proofs.Props.{props}
 use Rattle.brc_host.specs.HostCalls.{HostCall}
 use Rattle.brc_host.specs.declared.counts.HostCounts.{HostCounts}
-use Rattle.brc_lang.specs.declared.module.Instr.{Instr}
 use Rattle.brc_lang.specs.declared.module.Module.{Module}
-use Rattle.brc_model.specs.Threads.{code_of}
+use Rattle.brc_model.specs.Bounded.{call_limit}
+use Rattle.brc_model.specs.Threads.{function_at}
 use Rattle.brc_model.specs.declared.actor.Status.TheVariants.{Gone}
 use Rattle.brc_table.specs.Hands.{TableState, HandState, IsOf}
 use Rattle.brc_table.specs.Views.{worker_view}
 use Rattle.brc_table.specs.declared.view.View.{View}
 use Rattle.brc_queue.specs.Scans.{HasLeft}
-use Rattle.brc_work.specs.Runs.{RanBy, greatest_bound}
+use Rattle.brc_work.specs.Runs.{RanBy}
 use Rattle.brc_work.specs.Totals.{Asked, no_totals, totals_of, is_done}
+use Rattle.brc_work.specs.Traces.{Program, program_of}
 use Rattle.brc_work.specs.declared.ran.Ran.{Ran}
 
 -- ---- what a worker has to do
 
--- The worker of the thread makes this many calls of the code over the heap.
+-- The worker of the thread makes this many calls of the program's function over the heap.
 pub record Job : Type 0 where
   pub heap : TableState
-  pub code : List Instr
+  pub program : Program
   pub times : ℕ
   -- how many instructions it may begin in all its calls
   pub steps : ℕ
   pub thread : ℕ
 
--- the job with the code of the module's function of this number
+-- the job with the module's function of this number
 abbrev pub job : TableState → Module → ℕ → ℕ → ℕ → ℕ → Job
 job heap m function times steps thread = record {
   heap = heap;
-  code = code_of (slice_get m.functions function);
+  program = program_of m function;
   times = times;
   steps = steps;
   thread = thread;
 }
+
+-- A worker may call the function of this number from outside: it is there, and has no parameters.
+pub record MayBeCalled (m : Module) (function : ℕ) : Type 0 where
+  pub there : function < length m.functions
+  pub bare : (function_at m.functions function).parameters ≡ []
 
 -- ---- hands
 
@@ -44,15 +50,15 @@ pub record IsFresh (heap : TableState) (thread : ℕ) (hand : HandState) : Type 
   pub view_is : hand.view ≡ worker_view heap.layout thread
   pub no_slot : hand.slots ≡ []
 
--- The hand has made its calls of the code, or has stopped; then it has left, and has done nothing else. Its host was
--- asked for these calls.
-pub record CallsAndLeaves (code : List Instr) (times steps : ℕ) (done : Bool) (calls : List HostCall) (v u : View)
+-- The hand has made its calls of the function, or has stopped; then it has left, and has done nothing else. Its host
+-- was asked for these calls.
+pub record CallsAndLeaves (program : Program) (times steps : ℕ) (done : Bool) (calls : List HostCall) (v u : View)
     : Type 0 where
   pub called : View
   pub within : List HostCall
   pub closes : List HostCall
   pub calls_are : calls ≡ within ++ closes
-  pub ran : RanBy code times steps done within v called
+  pub ran : RanBy program times steps done within v called
   pub leaves : HasLeft closes called u
 
 -- The hand is the worker's, its thread is gone, and it has taken no slot.
@@ -74,10 +80,10 @@ pub record HasGone {S : Type 0} (answers : S → HostCall → S → Type 0) (cou
   pub first : S
   pub later : S
   pub asked : Asked answers counts first later no_totals (totals_of ran)
-      (λ calls. CallsAndLeaves j.code j.times j.steps (is_done ran) calls (worker_view j.heap.layout j.thread)
+      (λ calls. CallsAndLeaves j.program j.times j.steps (is_done ran) calls (worker_view j.heap.layout j.thread)
       hand.view)
-  -- the greatest bound stops no worker
-  pub unbounded : j.steps ≡ greatest_bound → is_done ran ≡ true
+  -- a bound above the limit of all its calls stops no worker
+  pub unbounded : j.times * call_limit j.program.functions j.program.first < j.steps → is_done ran ≡ true
 
 -- A worker's thread leaves a hand that is gone. If the worker began, the hand has done its job.
 abbrev pub Ends : {S : Type 0} → (S → HostCall → S → Type 0) → (S → HostCounts) → Job → HandState → Ran → Bool → Type 0
@@ -85,6 +91,9 @@ Ends answers counts j hand ran called =
     IsGone j hand × (called ≡ true → HasGone answers counts j hand ran)
 
 -- ---- a fact that a struct can keep
+
+pub called-prop : (m : Module) (function : ℕ) → IsProp (MayBeCalled m function)
+called-prop m function = Prim.hlevel props
 
 pub fresh-prop : (heap : TableState) (thread : ℕ) (hand : HandState) → IsProp (IsFresh heap thread hand)
 fresh-prop heap thread hand = Prim.hlevel props

@@ -6,6 +6,7 @@
 
 mod births;
 mod calls;
+mod end;
 mod error;
 mod gate;
 mod host_calls;

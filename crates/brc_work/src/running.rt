@@ -1,12 +1,14 @@
 //! A worker's calls, one after the other.
 
-ghost use Rattle.std.specs.Prelude.{◌≡◌, ℕ, ◌<◌, ◌+◌, true, length, slice_get};
-ghost use Rattle.brc_model.specs.Threads.{code_of};
+ghost use Rattle.std.specs.Prelude.{◌≡◌, ℕ, ◌<◌, ◌+◌, ◌*◌, true, [], length};
+ghost use Rattle.brc_model.specs.Bounded.{call_limit};
+ghost use Rattle.brc_model.specs.Threads.{function_at};
 ghost use Rattle.brc_table.specs.Hands.{IsOf};
 ghost use Rattle.brc_work.specs.Calls.{HasCalled};
 ghost use Rattle.brc_work.specs.Fits.{IsReady};
-ghost use Rattle.brc_work.specs.Runs.{RanBy, LooksAndCalls, greatest_bound};
+ghost use Rattle.brc_work.specs.Runs.{RanBy, LooksAndCalls};
 ghost use Rattle.brc_work.specs.Totals.{Asked, no_totals, totals_of, is_done};
+ghost use Rattle.brc_work.specs.Traces.{program_of};
 
 use crate::gate::Gate;
 use crate::ran::Ran;
@@ -18,14 +20,14 @@ use brc_host::Host;
 use std::sync::Wait;
 
 impl<'h, T: Drop> Worker<'h, T> {
-    /// Makes the calls of the accepted module's function with this number, `times` of them, and begins at most `steps`
-    /// instructions in all of them together. Before each call it looks through the hand's queue. Returns whether it has
-    /// made all calls, and what it has counted.
+    /// Makes the calls of the accepted module's function with this number, which has no parameters: `times` of them,
+    /// and begins at most `steps` instructions in all of them together, those of the calls that they make too. Before
+    /// each call it looks through the hand's queue. Returns whether it has made all calls, and what it has counted.
     ///
     /// The run stops where `steps` instructions have begun, and an instruction or a call is left to begin: it unlocks
-    /// what is locked, gives up the references of the variables that own one, by rising number, and finalises what
-    /// dies. `gate` hears of each call that begins, and of its end unless the run stops in it. With `u64::MAX` steps no
-    /// run stops.
+    /// what is locked, gives up the references of the variables that own one, those of the innermost call first, by
+    /// rising number, and finalises what dies. `gate` hears of each call that begins, and of its end unless the run
+    /// stops in it. No run stops that may begin more instructions than its calls can.
     ///
     /// The host is asked for what the instructions say, and for the closes of what dies, and for nothing else.
     ///
@@ -45,13 +47,15 @@ impl<'h, T: Drop> Worker<'h, T> {
         requires of { IsOf self.now hand.old }
         requires ready { IsReady hand.old }
         requires function { function < length checked.now.module.functions }
+        requires parameters { (function_at checked.now.module.functions function).parameters ≡ [] }
         ensures of { IsOf self.now hand.new }
         ensures called { HasCalled hand.old hand.new }
         ensures created { (totals_of result).created + hand.old.view.actor.used ≡ hand.new.view.actor.used }
         ensures asked { Asked H.answers H.counts host.old host.new no_totals (totals_of result)
-            (λ calls. RanBy (code_of (slice_get checked.now.module.functions function)) times steps (is_done result)
-            calls hand.old.view hand.new.view) }
-        ensures unbounded { steps ≡ greatest_bound → is_done result ≡ true }
+            (λ calls. RanBy (program_of checked.now.module function) times steps (is_done result) calls hand.old.view
+            hand.new.view) }
+        ensures unbounded { times * call_limit checked.now.module.functions function < steps
+            → is_done result ≡ true }
     {
         checked.states_are_true();
         let used = hand.used();
@@ -91,11 +95,12 @@ impl<'h, T: Drop> Worker<'h, T> {
         requires of { IsOf self.now hand.old }
         requires ready { IsReady hand.old }
         requires function { function < length checked.now.module.functions }
+        requires parameters { (function_at checked.now.module.functions function).parameters ≡ [] }
         ensures of { IsOf self.now hand.new }
         ensures called { HasCalled hand.old hand.new }
         ensures asked { Asked H.answers H.counts host.old host.new totals.old totals.new
-            (λ calls. RanBy (code_of (slice_get checked.now.module.functions function)) times steps result calls
-            hand.old.view hand.new.view) }
+            (λ calls. RanBy (program_of checked.now.module function) times steps result calls hand.old.view
+            hand.new.view) }
     {
         let mut left = steps;
         for call in 0..times {
@@ -124,17 +129,18 @@ impl<'h, T: Drop> Worker<'h, T> {
         totals: &mut Totals,
     ) -> bool
         requires function { function < length checked.now.module.functions }
+        requires parameters { (function_at checked.now.module.functions function).parameters ≡ [] }
         requires some { 0 < left.old }
         requires of { IsOf self.now hand.old }
         requires ready { IsReady hand.old }
         ensures of { IsOf self.now hand.new }
         ensures called { HasCalled hand.old hand.new }
         ensures asked { Asked H.answers H.counts host.old host.new totals.old totals.new
-            (λ calls. LooksAndCalls (code_of (slice_get checked.now.module.functions function)) left.old left.new
-            result calls hand.old.view hand.new.view) }
+            (λ calls. LooksAndCalls (program_of checked.now.module function) left.old left.new result calls
+            hand.old.view hand.new.view) }
     {
         let failed = self.queue.merge_pending(rt, hand, host);
         totals.count_close_faults(failed);
-        self.call(rt, checked, function, left, hand, host, totals)
+        self.call_from_outside(rt, checked, function, left, hand, host, totals)
     }
 }

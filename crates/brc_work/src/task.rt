@@ -3,9 +3,10 @@
 ghost use Rattle.std.specs.Prelude.{◌≡◌, ◌<◌, [], length};
 ghost use Rattle.brc_queue.specs.Scans.{HasLeft};
 ghost use Rattle.brc_model.specs.declared.actor.Status.TheVariants.{Gone};
+ghost use Rattle.brc_model.specs.Threads.{function_at};
 ghost use Rattle.brc_work.specs.Totals.{Asked, no_totals};
 ghost use Rattle.brc_table.specs.Hands.{IsOf};
-ghost use Rattle.brc_work.specs.Workers.{IsFresh, HasGone, Ends, job, fresh-prop};
+ghost use Rattle.brc_work.specs.Workers.{IsFresh, MayBeCalled, HasGone, Ends, job, fresh-prop, called-prop};
 
 use crate::gate::Gate;
 use crate::ran::Ran;
@@ -33,7 +34,7 @@ pub(crate) struct Task<'a, T: Drop, H, G> {
     pub(crate) hand: Hand<T>,
     pub(crate) host: &'a mut H,
     pub(crate) gate: &'a G,
-    ghost known: { function < length checked.now.module.functions },
+    ghost known: { MayBeCalled checked.now.module function } by { called-prop checked.now.module function },
     ghost fresh: { IsFresh heap.now thread hand } by { fresh-prop heap.now thread hand },
 }
 
@@ -117,6 +118,7 @@ fn calls_and_leaves<R: Wait, T: Drop, H: Host<Res = T>, G: Gate>(
 ) -> Ran
     requires fresh { IsFresh heap.now hand.old.view.thread hand.old }
     requires function { function < length checked.now.module.functions }
+    requires parameters { (function_at checked.now.module.functions function).parameters ≡ [] }
     ensures gone { HasGone H.answers H.counts
         (job heap.now checked.now.module function times steps hand.old.view.thread) hand.new result }
 {

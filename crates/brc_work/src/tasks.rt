@@ -1,6 +1,7 @@
 //! The tasks of workers, each of which has a hand of its own.
 
 ghost use Rattle.std.specs.Prelude.{◌≡◌, ℕ, ◌+◌, ◌<◌, ◌≤◌, true, [], length, vec_len, vec_capacity, slice_index_or};
+ghost use Rattle.brc_model.specs.Threads.{function_at};
 ghost use Rattle.brc_table.specs.Hands.{IsOf};
 ghost use Rattle.brc_table.specs.Views.{is_given};
 ghost use Rattle.brc_work.specs.Mains.{MayFanOut, KeepsMain};
@@ -29,6 +30,7 @@ pub(crate) fn tasks_of<'w, T: Drop, H: Host<Res = T>, G: Gate>(
     requires may { MayFanOut main.old.view }
     requires enough { length hosts.old ≤ heap.now.layout.workers }
     requires function { function < length checked.now.module.functions }
+    requires parameters { (function_at checked.now.module.functions function).parameters ≡ [] }
     requires none { tasks.items ≡ [] }
     requires room { length hosts.old ≤ vec_capacity tasks }
     ensures of { IsOf heap.now main.new }

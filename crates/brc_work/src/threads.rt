@@ -1,6 +1,7 @@
 //! Workers on threads of their own.
 
 ghost use Rattle.std.specs.Prelude.{◌≡◌, ℕ, ◌+◌, ◌<◌, ◌≤◌, [], length, vec_len, vec_capacity, slice_index_or, IfOk, IfErr, OnErr};
+ghost use Rattle.brc_model.specs.Threads.{function_at};
 ghost use Rattle.brc_table.specs.Hands.{IsOf};
 ghost use Rattle.brc_work.specs.Mains.{MayFanOut, KeepsMain, HasJoinedAll};
 ghost use Rattle.brc_work.specs.Workers.{HasGone, Ends, Job, job};
@@ -26,9 +27,10 @@ use std::thread::{PromisedHandle, Threads};
 /// couldn't be started.
 type Refl<T, H> = Result<PromisedHandle<Remains<T>, WorkerPromise<T, H>>, Remains<T>>;
 
-/// Lets a worker for each host call the accepted module's function with this number, `times` times, each in a thread of
-/// its own; each begins at most `steps` instructions, and stops where it has begun as many, as `Worker::run` does.
-/// Returns what the workers leave, in their order: each one's hand, which is gone, and how its run has ended.
+/// Lets a worker for each host call the accepted module's function with this number, which has no parameters, `times`
+/// times, each in a thread of its own; each begins at most `steps` instructions, and stops where it has begun as many,
+/// as `Worker::run` does. Returns what the workers leave, in their order: each one's hand, which is gone, and how its
+/// run has ended.
 ///
 /// Main gives out the hands of workers 1, 2, .., and holds afterwards what it held before. When the call returns, all
 /// workers have left.
@@ -60,6 +62,7 @@ pub fn fan_out<
     requires may { MayFanOut main.old.view }
     requires enough { length hosts.old ≤ heap.now.layout.workers }
     requires function { function < length checked.now.module.functions }
+    requires parameters { (function_at checked.now.module.functions function).parameters ≡ [] }
     ensures of { IsOf heap.now main.new }
     ensures kept { KeepsMain main.old.view main.new.view }
     ensures carried { main.new.carried ≡ main.old.carried }
@@ -139,7 +142,14 @@ fn run_all<'w, R: Threads + Wait + Sync, T: Send + Drop, H: Host<Res = T> + Send
                     thread: task.thread,
                     host: PhantomData,
                 };
-                let begun = match scope.spawn_with(promise, move || task.work(rt, shared)) {
+                let begun = match scope.spawn_with(
+                    promise,
+                    move || -> Remains<T>
+                        ensures { Ends H.answers H.counts (job task.entry.heap.now task.entry.checked.now.module
+                            task.entry.function task.entry.times task.entry.steps task.entry.thread) result.hand
+                            result.ran result.called }
+                    { task.work(rt, shared) },
+                ) {
                     Ok(started) => Ok(started),
                     Err(refused) => {
                         shared.store(true, Ordering::SeqCst);

@@ -1,6 +1,5 @@
 -- A step of the code does the thread's action, if the thread isn't gone.
 use Rattle.std.proofs.Common.{◌≡◌, ◌≢◌, ℕ, ◌≤◌, arith, Bool, List, [], ◌∷◌, Some, refl, sym, ap, ◌∙◌, subst}
-use Rattle.std.specs.Prelude.{slice_get}
 use Rattle.brc_lang.specs.declared.module.Function.{Function}
 use Rattle.brc_model.specs.declared.actor.Status.{Status}
 use Rattle.brc_model.specs.declared.actor.Status.TheVariants.{Running, Leaving, Gone}
@@ -8,10 +7,11 @@ use Rattle.brc_model.specs.declared.address.Address.{Address}
 use Rattle.brc_model.specs.declared.duty.Duty.{Duty}
 use Rattle.brc_model.specs.declared.duty.Duty.TheVariants.{CellLoad}
 use Rattle.brc_model.specs.Duties.{address_of}
-use Rattle.brc_model.specs.Actions.{StepActor, Action, Skip, Stuck, Silent, Calls, Does, always, agenda_action, status_action, dispatch}
+use Rattle.brc_model.specs.Actions.{StepActor, Action, Skip, Stuck, Silent, Calls, Does, always}
+use Rattle.brc_model.specs.Dispatch.{agenda_action, status_action, dispatch}
 use Rattle.brc_model.specs.Limits.{total_limit}
 use Rattle.brc_model.specs.StepMachine.{at_place}
-use Rattle.brc_model.specs.Threads.{code_of}
+use Rattle.brc_model.specs.Threads.{function_in}
 use Rattle.brc_model.specs.Within.{Suits}
 use Rattle.brc_world.proofs.Starting.{duty_counted, call_counted, uncounted, duty_of, answer_of, IsStep, agenda_stuck, agenda_moved, agenda_called, start_does}
 use Rattle.brc_world.specs.declared.did.Did.{Did}
@@ -19,7 +19,7 @@ use Rattle.brc_world.specs.declared.did.Did.TheVariants as answers
 use Rattle.brc_world.specs.declared.dispatch.Start.{Start}
 use Rattle.brc_world.specs.declared.dispatch.Start.TheVariants as starts
 use Rattle.brc_world.specs.declared.thread.Thread.{Thread}
-use Rattle.brc_world.specs.Actors.{actor_of, context_in, found_by, words_after, actor_after, CanDo, CanAct}
+use Rattle.brc_world.specs.Actors.{actor_of, context_in, found_by, words_after, actor_after, CanDo, CanAct, OpensFew}
 use Rattle.brc_world.specs.declared.host_call.HostCall.{HostCall}
 use Rattle.brc_world.specs.declared.question.Question.{Question}
 use Rattle.brc_world.specs.declared.question.Question.TheVariants as questions
@@ -44,6 +44,25 @@ pub first_action : (functions : List Function) (layout : Layout) (t : ℕ) (a : 
 first_action functions layout t a d rest alive first =
     sym (alive_action functions layout t a a.actor.status alive) ∙ ap (agenda_action functions layout t a) first
 
+-- An action for which the thread has room opens few calls.
+pub opens_few : (layout : Layout) (t n : ℕ) (memory : Address → ℕ) (a : StepActor) (x : Action)
+    → CanAct layout t n memory a x → OpensFew x
+opens_few layout t n memory a Skip can = tt
+opens_few layout t n memory a Stuck can = tt
+opens_few layout t n memory a (Silent moves place) can = can
+opens_few layout t n memory a (Calls row place) can = tt
+opens_few layout t n memory a (Does d rest place) can = tt
+
+-- So does what a thread does next that isn't gone.
+pub agenda_few : (functions : List Function) (layout : Layout) (t n : ℕ) (memory : Address → ℕ) (a : StepActor)
+    (agenda : List Duty) → a.actor.status ≢ Gone → a.actor.agenda ≡ agenda
+    → CanAct layout t n memory a (status_action functions layout t a a.actor.status)
+    → OpensFew (agenda_action functions layout t a agenda)
+agenda_few functions layout t n memory a agenda alive is can =
+    opens_few layout t n memory a (agenda_action functions layout t a agenda)
+    (subst (CanAct layout t n memory a)
+    (sym (alive_action functions layout t a a.actor.status alive) ∙ ap (agenda_action functions layout t a) is) can)
+
 -- thread a's step has started with its action, and the thread is now b
 pub record HasStarted (functions : List Function) (layout : Layout) (t : ℕ) (a : StepActor) (b : Thread)
     (start : Start) : Type 0 where
@@ -55,7 +74,8 @@ pub record HasStarted (functions : List Function) (layout : Layout) (t : ℕ) (a
 -- A thread that has no duty left starts its step with what it dispatches.
 pub dispatched : (functions : List Function) (layout : Layout) (t : ℕ) (a b : Thread) (start : Start)
     → a.status ≢ Gone → a.agenda.items ≡ []
-    → HasDispatched a (dispatch layout t a.used (code_of (slice_get functions a.function)) (actor_of a).place) start b
+    → HasDispatched a (dispatch layout t a.used (function_in functions a.function (actor_of a).place).code
+    (actor_of a).place) start b
     → HasStarted functions layout t (actor_of a) b start
 dispatched functions layout t a b start alive empty has = record {
   alive = alive;
@@ -164,29 +184,31 @@ module _ (functions : List Function) (layout : Layout) (t : ℕ) (memory : Addre
 -- ---- after the duty
 
 same_place : (start : Start) (exit : Exit) (found : ℕ) (b after : Thread)
-    → after.mode ≡ b.mode → after.left ≡ b.left → after.turns ≡ b.turns → after.at ≡ b.at
+    → after.mode ≡ b.mode → after.left ≡ b.left → after.turns ≡ b.turns → after.outer ≡ b.outer → after.at ≡ b.at
     → after.variables ≡ b.variables
     → place_after start exit found after ≡ place_after start exit found b
-same_place starts.Stuck exit found b after mode left turns at variables = rw (mode, left, turns, at, variables) refl
-same_place starts.Moved exit found b after mode left turns at variables = rw (mode, left, turns, at, variables) refl
-same_place (starts.Calling call) exit found b after mode left turns at variables =
-    rw (left, turns, at, variables) refl
-same_place (starts.Doing d) exit found b after mode left turns at variables =
-    rw (mode, left, turns, at, variables) refl
-same_place (starts.Asking d question) exit found b after mode left turns at variables =
-    rw (left, turns, at, variables) refl
-same_place (starts.Locking row left next) exit found b after mode calls turns at variables =
-    rw (mode, calls, turns, at, variables) refl
+same_place starts.Stuck exit found b after mode left turns outer at variables =
+    rw (mode, left, turns, outer, at, variables) refl
+same_place starts.Moved exit found b after mode left turns outer at variables =
+    rw (mode, left, turns, outer, at, variables) refl
+same_place (starts.Calling call) exit found b after mode left turns outer at variables =
+    rw (left, turns, outer, at, variables) refl
+same_place (starts.Doing d) exit found b after mode left turns outer at variables =
+    rw (mode, left, turns, outer, at, variables) refl
+same_place (starts.Asking d question) exit found b after mode left turns outer at variables =
+    rw (left, turns, outer, at, variables) refl
+same_place (starts.Locking row left next) exit found b after mode calls turns outer at variables =
+    rw (mode, calls, turns, outer, at, variables) refl
 
 -- A thread that has done its duty goes on where it would have gone before, since a duty changes none of what that
 -- depends on.
 pub goes_on : (start : Start) (exit : Exit) (found : ℕ) (b after : Thread) (done : StepActor) → actor_of after ≡ done
-    → after.mode ≡ b.mode → after.left ≡ b.left → after.turns ≡ b.turns → after.at ≡ b.at
+    → after.mode ≡ b.mode → after.left ≡ b.left → after.turns ≡ b.turns → after.outer ≡ b.outer → after.at ≡ b.at
     → after.variables ≡ b.variables
     → answered start exit found after ≡ at_place done (place_after start exit found b)
-goes_on start exit found b after done is mode left turns at variables =
+goes_on start exit found b after done is mode left turns outer at variables =
     ap (λ (a : StepActor). at_place a (place_after start exit found after)) is
-    ∙ ap (at_place done) (same_place start exit found b after mode left turns at variables)
+    ∙ ap (at_place done) (same_place start exit found b after mode left turns outer at variables)
 
 -- ---- questions
 

@@ -1,6 +1,7 @@
 -- A step's answer says whether the world changed.
 use Rattle.std.proofs.Common.{◌≡◌, ◌≢◌, ℕ, Bool, true, false, List, [], ◌∷◌, Some, refl, ap, ◌∙◌}
 use Rattle.std.specs.Prelude.{if◌then◌else◌, Option, slice_get}
+use Rattle.brc_lang.specs.declared.module.Function.{Function}
 use Rattle.brc_model.specs.AbstractState.{Move}
 use Rattle.brc_model.specs.declared.actor.Place.{Place}
 use Rattle.brc_model.specs.declared.actor.Status.{Status}
@@ -11,7 +12,8 @@ use Rattle.brc_model.specs.declared.state.Exit.{Exit}
 use Rattle.brc_model.specs.declared.thread.Choice.TheVariants.{Claim, Stop}
 use Rattle.brc_model.specs.Safety.{has_gone}
 use Rattle.brc_model.specs.declared.state.State.{State}
-use Rattle.brc_model.specs.Actions.{StepActor, Action, Skip, Stuck, Silent, Calls, Does, status_action, may_stop, stop_action}
+use Rattle.brc_model.specs.Actions.{StepActor, Action, Skip, Stuck, Silent, Calls, Does, stop_action}
+use Rattle.brc_model.specs.Dispatch.{status_action, may_stop}
 use Rattle.brc_model.specs.World.{World, step}
 use Rattle.brc_world.specs.declared.did.Did.TheVariants as answers
 use Rattle.brc_world.specs.Actors.{memory_by, actor_by, faults_by, waits, answer_by, finds_mark, did_claim, action_stopped, is_silent, silently, did_stop}
@@ -118,10 +120,10 @@ silent_answers w t a (Calls row place) found here quiet is moves = absurd quiet
 silent_answers w t a (Does d rest place) found here quiet is moves = absurd quiet
 
 -- A stop that is silent is that of a thread that may stop.
-silent_may : (states : ℕ → ℕ → Option State) (a : StepActor) → is_silent (action_stopped states a) ≡ true
-    → may_stop a ≡ true
-silent_may states a silent =
-    elim (may_stop a) as (λ b. is_silent (if b then stop_action (states a.function) a.place else Skip) ≡ true
+silent_may : (functions : List Function) (states : ℕ → ℕ → Option State) (a : StepActor)
+    → is_silent (action_stopped functions states a) ≡ true → may_stop a ≡ true
+silent_may functions states a silent =
+    elim (may_stop a) as (λ b. is_silent (if b then stop_action functions states a.function a.place else Skip) ≡ true
     → b ≡ true) [
       | true ↦ λ e. refl
       | false ↦ λ e. absurd cc
@@ -130,11 +132,13 @@ silent_may states a silent =
 -- The answer of a stop says whether the stop changed the world.
 pub stop_answers : (w : World) (t : ℕ) (a : StepActor) (s : Status) → slice_get w.actors t ≡ Some a
     → a.actor.status ≡ s → (may_stop a ≡ true → step w t Stop ≢ w)
-    → IsAnswer w t (step w t Stop) (did_stop w.states a s)
+    → IsAnswer w t (step w t Stop) (did_stop w.functions w.states a s)
 stop_answers w t a Gone found is moves = gone_is w t a Gone found is
 stop_answers w t a Running found is moves =
-    silent_answers w t a (action_stopped w.states a) found (gone_is w t a Running found is) (stop_quiet w.states a)
-    (stop_is w t a found) (λ silent. moves (silent_may w.states a silent))
+    silent_answers w t a (action_stopped w.functions w.states a) found (gone_is w t a Running found is)
+    (stop_quiet w.functions w.states a)
+    (stop_is w t a found) (λ silent. moves (silent_may w.functions w.states a silent))
 stop_answers w t a Leaving found is moves =
-    silent_answers w t a (action_stopped w.states a) found (gone_is w t a Leaving found is) (stop_quiet w.states a)
-    (stop_is w t a found) (λ silent. moves (silent_may w.states a silent))
+    silent_answers w t a (action_stopped w.functions w.states a) found (gone_is w t a Leaving found is)
+    (stop_quiet w.functions w.states a)
+    (stop_is w t a found) (λ silent. moves (silent_may w.functions w.states a silent))

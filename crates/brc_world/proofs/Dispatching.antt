@@ -1,10 +1,12 @@
 -- The next action of a thread that isn't gone is never `Skip`: the thread takes a step, or is stuck.
 use Rattle.std.proofs.Common.{ℕ, zero, suc, Bool, true, false, cond, List, [], ◌∷◌, Option, None, Some}
-use Rattle.std.specs.Prelude.{slice_get}
+use Rattle.std.specs.Prelude.{is_some, slice_get}
+use Rattle.std.specs.List.{list_all}
 use Rattle.brc_lang.specs.declared.module.Instr.{Instr}
 use Rattle.brc_lang.specs.declared.module.Instr.TheVariants.{Num, List as ListObject, NoneObject, Newref, Move as MoveReference, Drop, Lock, Unlock, Borrow, Fetch, Set, Put, Open, Connect, Read, Write, Goto, Again, Ret, Fail, As, Call}
 use Rattle.brc_lang.specs.declared.module.Function.{Function}
-use Rattle.brc_model.specs.Threads.{code_of, row_of, entry_variables}
+use Rattle.brc_model.specs.declared.actor.OpenCall.{OpenCall}
+use Rattle.brc_model.specs.Threads.{function_in, row_of, entry_variables}
 use Rattle.brc_model.specs.declared.duty.Duty.{Duty}
 use Rattle.brc_model.specs.declared.actor.Context.{Context}
 use Rattle.brc_model.specs.declared.actor.Place.{Place}
@@ -15,7 +17,8 @@ use Rattle.brc_model.specs.declared.state.Exit.TheVariants.{Success, Fault}
 use Rattle.brc_model.specs.Machine.{has_room}
 use Rattle.brc_model.proofs.Dispatch.Decided.{give_up_decides}
 use Rattle.brc_model.specs.declared.layout.Layout.{Layout}
-use Rattle.brc_model.specs.Actions.{StepActor, Action, Skip, with_row, first_context, dispatch_instruction, dispatch_inside, dispatch, agenda_action}
+use Rattle.brc_model.specs.Actions.{StepActor, Action, Skip, with_row, first_context, argument_rows, ret_action, fail_action, dispatch_instruction, dispatch_inside}
+use Rattle.brc_model.specs.Dispatch.{dispatch, agenda_action}
 
 -- the action isn't `Skip`
 abbrev pub TakesStep : Action → Type 0
@@ -29,6 +32,14 @@ row_steps (Some row) work each = each row
 either_steps : (b : Bool) (one two : Action) → TakesStep one → TakesStep two → TakesStep (cond b one two)
 either_steps true one two first second = first
 either_steps false one two first second = second
+
+ret_steps : (t left from row : ℕ) (outer : List OpenCall) → TakesStep (ret_action t left from row outer)
+ret_steps t left from row [] = tt
+ret_steps t left from row (o ∷ outer) = tt
+
+fail_steps : (left : ℕ) (outer : List OpenCall) → TakesStep (fail_action left outer)
+fail_steps left [] = tt
+fail_steps left (o ∷ outer) = tt
 
 instruction_steps : (layout : Layout) (t used : ℕ) (before : Place) (context : Context) (at : ℕ)
     (variables : List (Option ℕ))
@@ -68,12 +79,13 @@ instruction_steps layout t used before context at variables (Some (Write file nu
     row_steps (row_of variables number) _ (λ row. tt)
 instruction_steps layout t used before context at variables (Some (As from kind otherwise)) =
     row_steps (row_of variables from) _ (λ row. tt)
-instruction_steps layout t used before context at variables (Some (Call to callee arguments otherwise)) = tt
+instruction_steps layout t used before context at variables (Some (Call to callee arguments otherwise)) =
+    either_steps (list_all is_some (argument_rows variables arguments)) _ _ tt tt
 instruction_steps layout t used before context at variables (Some (Goto to)) = tt
 instruction_steps layout t used before context at variables (Some (Again to times)) = tt
 instruction_steps layout t used before context at variables (Some (Ret from)) =
-    row_steps (row_of variables from) _ (λ row. tt)
-instruction_steps layout t used before context at variables (Some Fail) = tt
+    row_steps (row_of variables from) _ (λ row. ret_steps t context.left from row context.outer)
+instruction_steps layout t used before context at variables (Some Fail) = fail_steps context.left context.outer
 
 inside_steps : (layout : Layout) (t used : ℕ) (context : Context) (at : ℕ) (variables : List (Option ℕ))
     (stage : Stage) (i : Option Instr)
@@ -126,5 +138,5 @@ dispatch_steps layout t used code (Inside context at variables stage) =
 pub agenda_steps : (functions : List Function) (layout : Layout) (t : ℕ) (a : StepActor) (agenda : List Duty)
     → TakesStep (agenda_action functions layout t a agenda)
 agenda_steps functions layout t a [] =
-    dispatch_steps layout t a.actor.used (code_of (slice_get functions a.function)) a.place
+    dispatch_steps layout t a.actor.used (function_in functions a.function a.place).code a.place
 agenda_steps functions layout t a (d ∷ rest) = tt

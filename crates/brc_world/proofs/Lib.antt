@@ -1,6 +1,9 @@
+pub mod Around
+pub mod Arguments
 pub mod Stopping
 pub mod Calling
 pub mod Storing
+pub mod Giving
 pub mod Dispatching
 pub mod Starting
 pub mod Acting

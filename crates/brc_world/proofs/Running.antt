@@ -11,7 +11,8 @@ use Rattle.brc_model.specs.declared.actor.Status.TheVariants.{Running, Leaving, 
 use Rattle.brc_model.specs.declared.thread.Choice.{Choice}
 use Rattle.brc_model.specs.declared.thread.Choice.TheVariants as choices
 use Rattle.brc_model.specs.Safety.{has_gone}
-use Rattle.brc_model.specs.Actions.{StepActor, is_idle, may_claim}
+use Rattle.brc_model.specs.Actions.{StepActor}
+use Rattle.brc_model.specs.Dispatch.{is_idle, may_claim}
 use Rattle.brc_model.specs.Machine.{is_running}
 use Rattle.brc_model.specs.StepMachine.{StepMachine, next_machine, machine_after}
 use Rattle.brc_model.specs.World.{World, world_of, step}

@@ -1,12 +1,21 @@
 -- The words and the thread after a step of the code are those of the model's world after its step.
-use Rattle.std.proofs.Common.{◌≡◌, ◌≢◌, ℕ, Bool, true, false, cond, List, [], Option, Some, inl, inr, refl, sym, ap, ◌∙◌}
-use Rattle.std.specs.Prelude.{◌==◌, not, slice_get, slice_set}
+use Rattle.std.proofs.Common.{◌≡◌, ◌≢◌, ℕ, ◌<◌, Bool, true, false, cond, List, [], ◌∷◌, length, Option, Some, inl, inr, refl, sym, ap, ◌∙◌, arith, get_or-set_same}
+use Rattle.std.specs.Prelude.{◌==◌, not, is_some, slice_get, slice_set}
 use Rattle.std.proofs.lemmas.Bool.{cases_Bool, and_parts, eqb-true}
 use Rattle.std.proofs.lemmas.Bool.Decides.{eqb_tells}
-use Rattle.std.proofs.lemmas.List.{set-get_or, nil_from_length}
-use Rattle.std.proofs.lemmas.Option.{get_or_from_slice_get}
+use Rattle.std.proofs.lemmas.List.{set-get_or, nil_from_length, length-set}
+use Rattle.std.proofs.lemmas.Option.{get_or_from_slice_get, slice_get-get_or, slice_get_within}
+use Rattle.brc_lang.specs.declared.module.Function.{Function}
 use Rattle.brc_lang.specs.declared.module.Module.{Module}
+use Rattle.brc_lang.specs.Limits.{depth_limit}
+use Rattle.brc_model.specs.AbstractState.{Move}
+use Rattle.brc_model.specs.Threads.{outer_of}
+use Rattle.brc_model.specs.declared.actor.Context.{Context}
+use Rattle.brc_model.specs.declared.actor.OpenCall.{OpenCall}
 use Rattle.brc_model.specs.declared.actor.Place.{Place}
+use Rattle.brc_model.specs.declared.actor.Place.TheVariants.{Idle, InCall, Inside, Stopping, Exiting}
+use Rattle.brc_model.specs.StopLaws.{EachGivesUp, GivesUpOwned}
+use Rattle.brc_world.specs.OpenCalls.{AreKnown}
 use Rattle.brc_model.specs.declared.address.Address.{Address}
 use Rattle.brc_model.specs.declared.duty.Duty.{Duty}
 use Rattle.brc_model.specs.declared.duty.Duty.TheVariants.{ClaimMark}
@@ -15,13 +24,14 @@ use Rattle.brc_model.specs.declared.thread.Choice.TheVariants.{Ok, Claim, Fault,
 use Rattle.brc_model.specs.World.{IsReachable, World, world_of, machine_of, step}
 use Rattle.brc_model.specs.declared.state.Exit.{Exit}
 use Rattle.brc_model.specs.declared.state.Exit.TheVariants as exits
-use Rattle.brc_model.specs.Actions.{StepActor, Action, Skip, Stuck, Silent, Calls, Does, always, may_claim, may_stop, stop_action, status_action, exit_of, action_of}
+use Rattle.brc_model.specs.Actions.{StepActor, Action, Skip, Stuck, Silent, Calls, Does, always, stop_action}
+use Rattle.brc_model.specs.Dispatch.{is_before_instruction, may_claim, may_stop, status_action, exit_of, action_of}
 use Rattle.brc_model.specs.Machine.{mark_of}
-use Rattle.brc_model.specs.StepMachine.{of_thread, machine_by}
+use Rattle.brc_model.specs.StepMachine.{of_thread, at_place, machine_by}
 use Rattle.brc_model.specs.Within.{IsWithin, StepsWithin}
 use Rattle.brc_world.specs.declared.faults.Faults.{Faults}
 use Rattle.brc_world.specs.Worlds.{choice_of}
-use Rattle.brc_world.specs.Actors.{memory_by, actor_by, faults_by, finds_mark, memory_claimed, actor_claimed, CanDo, CanAct, CanClaim, action_stopped, silently}
+use Rattle.brc_world.specs.Actors.{memory_by, actor_by, faults_by, finds_mark, memory_claimed, actor_claimed, CanDo, CanAct, CanClaim, CanStop, action_stopped, silently}
 use Rattle.brc_model.specs.declared.layout.Layout.{Layout}
 use Rattle.brc_model.specs.Layout.{row_count}
 use Rattle.brc_model.specs.declared.state.State.{State}
@@ -194,17 +204,45 @@ stopped_as w t a (Calls row place) quiet = absurd quiet
 stopped_as w t a (Does d rest place) quiet = absurd quiet
 
 -- A stop makes no host call and does no duty.
-pub stop_quiet : (states : ℕ → ℕ → Option State) (a : StepActor) → IsQuiet (action_stopped states a)
-stop_quiet states a =
-    either IsQuiet (may_stop a) (stop_action (states a.function) a.place) Skip
-    (λ may. stop_decides IsQuiet (states a.function) a.place tt tt (λ lock calls. tt) tt) tt
+pub stop_quiet : (functions : List Function) (states : ℕ → ℕ → Option State) (a : StepActor)
+    → IsQuiet (action_stopped functions states a)
+stop_quiet functions states a =
+    either IsQuiet (may_stop a) (stop_action functions states a.function a.place) Skip
+    (λ may. stop_decides IsQuiet functions states a.function a.place tt tt (λ lock calls. tt) tt) tt
+
+known_by : (functions : List Function) (states : ℕ → ℕ → Option State) (first : ℕ) (outer : List OpenCall)
+    → EachGivesUp functions states first outer → AreKnown functions states first outer
+known_by functions states first [] gives = tt
+known_by functions states first (o ∷ outer) gives =
+    (ap (λ (s : Option State). is_some s) gives.0.is_state, known_by functions states first outer gives.1)
+
+known_at : (functions : List Function) (states : ℕ → ℕ → Option State) (first : ℕ) (place : Place)
+    → is_before_instruction place ≡ true
+    → ((at : ℕ) (context : Context) (variables : List (Option ℕ)) → place ≡ InCall context at variables
+    → EachGivesUp functions states first context.outer)
+    → AreKnown functions states first (outer_of place)
+known_at functions states first (Idle left) before gives = tt
+known_at functions states first (InCall context at variables) before gives =
+    known_by functions states first context.outer (gives at context variables refl)
+known_at functions states first (Inside context at variables stage) before gives = absurd cc
+known_at functions states first (Stopping lock calls) before gives = tt
+known_at functions states first Exiting before gives = tt
+
+-- A thread that may stop in a call gives up what each open call owns, so the states say in which state each waits.
+pub can_stop : (w : World) (t : ℕ) (a : StepActor)
+    → ((at : ℕ) (context : Context) (variables : List (Option ℕ)) → may_stop a ≡ true
+    → a.place ≡ InCall context at variables → GivesUpOwned w t at a context variables)
+    → CanStop w.functions w.states a
+can_stop w t a gives may =
+    known_at w.functions w.states a.function a.place (and_parts _ _ (and_parts _ _ may).0).0
+    (λ at context variables is. (gives at context variables may is).outer)
 
 -- The world after a stop has its words, and the thread that `silently` gives.
 pub stop_is : (w : World) (t : ℕ) (a : StepActor) → slice_get w.actors t ≡ Some a
-    → step w t Stop ≡ with_words w t w.memory (silently a (action_stopped w.states a)) (faults_of w)
+    → step w t Stop ≡ with_words w t w.memory (silently a (action_stopped w.functions w.states a)) (faults_of w)
 stop_is w t a found =
-    ap (after w t Stop) found ∙ action_as w t a exits.Success (action_stopped w.states a) found
-    ∙ stopped_as w t a (action_stopped w.states a) (stop_quiet w.states a)
+    ap (after w t Stop) found ∙ action_as w t a exits.Success (action_stopped w.functions w.states a) found
+    ∙ stopped_as w t a (action_stopped w.functions w.states a) (stop_quiet w.functions w.states a)
 
 -- ---- steps within bounds
 
@@ -213,21 +251,46 @@ pub able : (w : World) (t : ℕ) (a : StepActor) (d : Duty) → IsWithin w t a.a
     → CanDo w.layout t (row_count w.layout) w.memory a d
 able w t a d within = record { there = within.there; suits = within.suits; uses = within.used }
 
--- The thread can do its action, if each duty that the action may be is within all bounds.
+-- In the world after the thread's step by each choice it has few calls open.
+abbrev pub StepsOpenFew : World → ℕ → Type 0
+StepsOpenFew w t = (choice : Choice) (b : StepActor) → slice_get (step w t choice).actors t ≡ Some b
+    → length (outer_of b.place) < depth_limit
+
+stored_there : (actors : List StepActor) (t : ℕ) (b : StepActor) → t < length actors
+    → slice_get (slice_set actors t b) t ≡ Some b
+stored_there actors t b within =
+    slice_get-get_or (slice_set actors t b) t b (omega (arith, within, length-set actors t b))
+    ∙ ap Some (get_or-set_same actors t b b within)
+
+-- So a silent step opens few calls.
+few_by : (w : World) (t : ℕ) (a : StepActor) (choice : Choice) (moves : List Move) (place : Place)
+    → slice_get w.actors t ≡ Some a → action_of w.functions w.states w.layout t a choice ≡ Silent moves place
+    → StepsOpenFew w t → length (outer_of place) < depth_limit
+few_by w t a choice moves place found is few =
+    few choice (at_place a place)
+    (ap (λ (v : World). slice_get v.actors t)
+    (ap (after w t choice) found
+    ∙ ap (λ (x : Action). world_of (machine_by (machine_of w) t a (exit_of choice) x)) is)
+    ∙ stored_there w.actors t (at_place a place) (slice_get_within w.actors t a found))
+
+-- The thread can do its action, if each duty that the action may be is within all bounds, and it opens few calls.
 pub can_act : (w : World) (t : ℕ) (a : StepActor) (x : Action)
     → ((d : Duty) (rest : List Duty) (place : ℕ → Place) → x ≡ Does d rest place → IsWithin w t a.actor d)
+    → ((moves : List Move) (place : Place) → x ≡ Silent moves place → length (outer_of place) < depth_limit)
     → CanAct w.layout t (row_count w.layout) w.memory a x
-can_act w t a Skip within = tt
-can_act w t a Stuck within = tt
-can_act w t a (Silent moves place) within = tt
-can_act w t a (Calls row place) within = tt
-can_act w t a (Does d rest place) within = able w t a d (within d rest place refl)
+can_act w t a Skip within few = tt
+can_act w t a Stuck within few = tt
+can_act w t a (Silent moves place) within few = few moves place refl
+can_act w t a (Calls row place) within few = tt
+can_act w t a (Does d rest place) within few = able w t a d (within d rest place refl)
 
--- The thread can take its next step, if its steps are within all bounds.
-pub can_go_on : (w : World) (t : ℕ) (a : StepActor) → StepsWithin w t a
-    → CanAct w.layout t (row_count w.layout) w.memory a
-    (status_action w.functions w.layout t a a.actor.status)
-can_go_on w t a steps = can_act w t a (status_action w.functions w.layout t a a.actor.status) (steps Ok)
+-- The thread can take its step by the choice, if its steps are within all bounds.
+pub can_step : (w : World) (t : ℕ) (a : StepActor) (choice : Choice) → slice_get w.actors t ≡ Some a
+    → StepsWithin w t a → StepsOpenFew w t
+    → CanAct w.layout t (row_count w.layout) w.memory a (action_of w.functions w.states w.layout t a choice)
+can_step w t a choice found steps few =
+    can_act w t a (action_of w.functions w.states w.layout t a choice) (steps choice)
+    (λ moves place is. few_by w t a choice moves place found is few)
 
 -- The thread can claim a row, if its steps are within all bounds.
 pub can_claim : (w : World) (t : ℕ) (a : StepActor) (row : ℕ) → StepsWithin w t a

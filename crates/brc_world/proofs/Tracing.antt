@@ -3,7 +3,8 @@ use Rattle.std.proofs.Common.{◌≡◌, ℕ, Bool, true, false, cond, List, [],
 use Rattle.std.specs.Prelude.{◌==◌, slice_get}
 use Rattle.std.proofs.Common.{append_assoc}
 use Rattle.brc_model.specs.declared.thread.Choice.{Choice}
-use Rattle.brc_model.specs.Actions.{StepActor, Action, Skip, Stuck, Silent, Calls, Does, action_of}
+use Rattle.brc_model.specs.Actions.{StepActor, Action, Skip, Stuck, Silent, Calls, Does}
+use Rattle.brc_model.specs.Dispatch.{action_of}
 use Rattle.brc_model.specs.Duties.{address_of}
 use Rattle.brc_model.specs.StepMachine.{StepMachine, of_thread, next_machine}
 use Rattle.brc_model.specs.declared.event.WordEvent.{WordEvent}

@@ -9,7 +9,8 @@ use Rattle.brc_model.specs.declared.duty.Duty.{Duty}
 use Rattle.brc_model.specs.declared.duty.Duty.TheVariants.{Settle, Scan, TakeFound, LockGate}
 use Rattle.brc_model.specs.declared.layout.Layout.{Layout}
 use Rattle.brc_model.specs.declared.state.Exit.{Exit}
-use Rattle.brc_model.specs.Actions.{StepActor, Action, Does, always, agenda_action, status_action}
+use Rattle.brc_model.specs.Actions.{StepActor, Action, Does, always}
+use Rattle.brc_model.specs.Dispatch.{agenda_action, status_action}
 use Rattle.brc_model.specs.Duties.{ready}
 use Rattle.brc_model.specs.World.{World, step, finds_locked, waits_for_lock}
 use Rattle.brc_world.specs.Actors.{actor_by, waits}

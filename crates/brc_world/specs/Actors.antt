@@ -1,5 +1,5 @@
 -- The model's view of a thread, and what a step changes in the words and in its thread, by the thread's action.
-use Rattle.std.specs.Prelude.{◌≡◌, ℕ, ◌≤◌, Bool, true, false, ◌==◌, ◌&&◌, not, if◌then◌else◌, List, [], ◌∷◌, reverse, Option}
+use Rattle.std.specs.Prelude.{◌≡◌, ℕ, ◌≤◌, ◌<◌, Bool, true, false, ◌==◌, ◌&&◌, not, if◌then◌else◌, List, [], ◌∷◌, length, map, reverse, Option}
 use Rattle.brc_word.specs.declared.values.TheConstants.{UNSET}
 use Rattle.brc_model.specs.declared.actor.Status.{Status}
 use Rattle.brc_model.specs.declared.actor.Status.TheVariants.{Running, Leaving, Gone}
@@ -14,7 +14,12 @@ use Rattle.brc_model.specs.Within.{IsThere, Suits}
 use Rattle.brc_model.specs.Machine as model
 use Rattle.brc_model.specs.declared.state.Exit.{Exit}
 use Rattle.brc_model.specs.declared.state.State.{State}
-use Rattle.brc_model.specs.Actions.{StepActor, Action, Skip, Stuck, Silent, Calls, Does, may_claim, may_stop, stop_action}
+use Rattle.brc_lang.specs.declared.module.Function.{Function}
+use Rattle.brc_lang.specs.Limits.{depth_limit}
+use Rattle.brc_model.specs.Threads.{outer_of}
+use Rattle.brc_world.specs.OpenCalls.{rows_of, AreKnown}
+use Rattle.brc_model.specs.Actions.{StepActor, Action, Skip, Stuck, Silent, Calls, Does, stop_action}
+use Rattle.brc_model.specs.Dispatch.{may_claim, may_stop}
 use Rattle.brc_model.specs.StepMachine.{at_place, step_actor, counted, closes}
 use Rattle.brc_model.specs.World.{finds_locked}
 use Rattle.brc_world.specs.declared.did.Did.{Did}
@@ -25,17 +30,17 @@ use Rattle.brc_world.specs.declared.thread.Mode.TheVariants as modes
 use Rattle.brc_world.specs.declared.thread.Thread.{Thread}
 use Rattle.brc_model.specs.declared.layout.Layout.{Layout}
 
--- the context of a call of the thread after which `left` calls remain
+-- the context of the thread's innermost call, where `left` calls remain after the one from outside
 abbrev pub context_in : ℕ → Thread → Context
-context_in left t = record { left = left; turns = t.turns; outer = [] }
+context_in left t = record { left = left; turns = t.turns; outer = t.outer }
 
--- The model's place of a thread. Only a call has an instruction, and counts of its instructions `again`; once the
--- thread has stopped, its variables name what it has still to give up.
+-- The model's place of a thread. Only a call has an instruction, counts of its instructions `again`, and calls open
+-- around it; once the thread has stopped, the variables of its calls name what it has still to give up.
 abbrev pub place_of : Mode → Context → ℕ → List (Option ℕ) → Place
 place_of modes.Idle context at variables = Idle context.left
 place_of modes.InCall context at variables = InCall context at variables
 place_of (modes.Inside stage) context at variables = Inside context at variables stage
-place_of (modes.Stopping lock) context at variables = Stopping lock (variables ∷ [])
+place_of (modes.Stopping lock) context at variables = Stopping lock (variables ∷ map rows_of context.outer)
 place_of modes.Exiting context at variables = Exiting
 
 -- the model's thread; the first duty of its agenda is the last one of the code's vector
@@ -139,11 +144,16 @@ pub record CanDo (layout : Layout) (t n : ℕ) (memory : Address → ℕ) (a : S
   pub suits : Suits t (model.is_running a.actor.status) n d (found_by layout t memory a d)
   pub uses : model.used_by a.actor.used d ≤ n
 
--- the thread can do its action's duty, if the action has one
+-- A silent action leaves fewer calls open around the innermost one than the greatest depth of a function.
+abbrev pub OpensFew : Action → Type 0
+OpensFew (Silent moves place) = length (outer_of place) < depth_limit
+OpensFew _ = Unit {0}
+
+-- the thread can do its action's duty, if the action has one, and has room for the call that the action opens
 abbrev pub CanAct : Layout → ℕ → ℕ → (Address → ℕ) → StepActor → Action → Type 0
 CanAct layout t n memory a Skip = Unit {0}
 CanAct layout t n memory a Stuck = Unit {0}
-CanAct layout t n memory a (Silent moves place) = Unit {0}
+CanAct layout t n memory a (Silent moves place) = OpensFew (Silent moves place)
 CanAct layout t n memory a (Calls row place) = Unit {0}
 CanAct layout t n memory a (Does d rest place) = CanDo layout t n memory a d
 
@@ -176,13 +186,18 @@ CanClaim layout t n memory a row = may_claim layout t a row ≡ true → CanDo l
 -- ---- a stop
 
 -- the thread's action at a stop
-abbrev pub action_stopped : (ℕ → ℕ → Option State) → StepActor → Action
-action_stopped states a = if may_stop a then stop_action (states a.function) a.place else Skip
+abbrev pub action_stopped : List Function → (ℕ → ℕ → Option State) → StepActor → Action
+action_stopped functions states a =
+    if may_stop a then stop_action functions states a.function a.place else Skip
 
 -- Says whether the action changes the thread: a stop that acts is silent.
 abbrev pub is_silent : Action → Bool
 is_silent (Silent moves place) = true
 is_silent _ = false
+
+-- These states say in which state each open call of the thread waits, if the thread may stop.
+abbrev pub CanStop : List Function → (ℕ → ℕ → Option State) → StepActor → Type 0
+CanStop functions states a = may_stop a ≡ true → AreKnown functions states a.function (outer_of a.place)
 
 -- the thread after the stop
 abbrev pub silently : StepActor → Action → StepActor
@@ -190,7 +205,9 @@ silently a (Silent moves place) = at_place a place
 silently a _ = a
 
 -- the answer of the stop
-abbrev pub did_stop : (ℕ → ℕ → Option State) → StepActor → Status → Did
-did_stop states a Gone = answers.Gone
-did_stop states a Running = if is_silent (action_stopped states a) then answers.Moved else answers.Same
-did_stop states a Leaving = if is_silent (action_stopped states a) then answers.Moved else answers.Same
+abbrev pub did_stop : List Function → (ℕ → ℕ → Option State) → StepActor → Status → Did
+did_stop functions states a Gone = answers.Gone
+did_stop functions states a Running =
+    if is_silent (action_stopped functions states a) then answers.Moved else answers.Same
+did_stop functions states a Leaving =
+    if is_silent (action_stopped functions states a) then answers.Moved else answers.Same

@@ -1,5 +1,5 @@
 pub mod Storage
-pub mod Modes
+pub mod OpenCalls
 pub mod Actors
 pub mod Questions
 pub mod Starts

@@ -11,7 +11,9 @@ use Rattle.brc_model.specs.declared.duty.Duty.TheVariants.{BirthLocal, Leave, Sc
 use Rattle.brc_model.specs.declared.layout.Layout.{Layout}
 use Rattle.brc_model.specs.declared.thread.Choice.{Choice}
 use Rattle.brc_model.specs.declared.thread.Choice.TheVariants.{Ok, Fault, Claim, Stop}
-use Rattle.brc_model.specs.Actions.{StepActor, Action, Skip, Stuck, Silent, Calls, Does, exit_of, action_of}
+use Rattle.brc_model.specs.Threads.{number_in}
+use Rattle.brc_model.specs.Actions.{StepActor, Action, Skip, Stuck, Silent, Calls, Does}
+use Rattle.brc_model.specs.Dispatch.{exit_of, action_of}
 use Rattle.brc_model.specs.Duties.{address_of, new_word}
 use Rattle.brc_model.specs.Kinds.{kind_of_word}
 use Rattle.brc_model.specs.Machine.{is_running}
@@ -92,7 +94,7 @@ sight_of layout a choice event born = record {
   layout = layout;
   begins = begins_at a choice;
   event = event;
-  function = a.function;
+  function = number_in a.function a.place;
   running = is_running a.actor.status;
   head = a.actor.head;
   exit = exit_of choice;

@@ -1,5 +1,5 @@
 -- The start of a step, by the thread's action: what the thread does, and where it then is.
-use Rattle.std.specs.Prelude.{◌≡◌, ℕ, ◌+◌, ◌<◌, ◌≤◌, ◌^◌, ◌==◌, Bool, true, false, if◌then◌else◌, List, [], ◌∷◌, Option, None, Some, slice_get, vec_len, vec_capacity}
+use Rattle.std.specs.Prelude.{◌≡◌, ℕ, ◌+◌, ◌<◌, ◌≤◌, ◌^◌, ◌==◌, Bool, true, false, if◌then◌else◌, List, [], ◌∷◌, Option, None, Some, vec_len, vec_capacity}
 use Rattle.brc_lang.specs.declared.module.Function.{Function}
 use Rattle.brc_lang.specs.declared.module.Instr.{Instr}
 use Rattle.brc_lang.specs.declared.module.Instr.TheVariants.{Borrow, Fetch, Set, Put}
@@ -13,10 +13,11 @@ use Rattle.brc_model.specs.declared.duty.Duty.TheVariants.{ReleaseLoad, Settle, 
 use Rattle.brc_model.specs.declared.duty.Holding.TheVariants.{AsCaller}
 use Rattle.brc_model.specs.declared.layout.Layout.{Layout}
 use Rattle.brc_model.specs.declared.state.Exit.{Exit}
-use Rattle.brc_model.specs.Actions.{StepActor, Action, Skip, Stuck, Silent, Calls, Does, always, stopping, give_up, dispatch_instruction, dispatch_inside, dispatch}
+use Rattle.brc_model.specs.Actions.{StepActor, Action, Skip, Stuck, Silent, Calls, Does, always, stopping, give_up, dispatch_instruction, dispatch_inside}
+use Rattle.brc_model.specs.Dispatch.{dispatch}
 use Rattle.brc_model.specs.Layout.{root_row}
 use Rattle.brc_model.specs.StepMachine.{at_place}
-use Rattle.brc_model.specs.Threads.{code_of}
+use Rattle.brc_model.specs.Threads.{function_in}
 use Rattle.brc_world.specs.declared.dispatch.Start.{Start}
 use Rattle.brc_world.specs.declared.dispatch.Start.TheVariants as starts
 use Rattle.brc_world.specs.declared.thread.Thread.{Thread}
@@ -30,13 +31,13 @@ use Rattle.brc_world.specs.Questions.{IsAbout, place_answered, place_called}
 abbrev pub exit_action : ℕ → Action
 exit_action used = Does (ReleaseLoad root_row AsCaller) (Settle ∷ Leave 0 used ∷ []) (always Exiting)
 
--- the action of a thread that has stopped, by the row that it has still to unlock and by its variables
-abbrev pub stopped_action : Option ℕ → List (Option ℕ) → Action
-stopped_action (Some row) variables = Does (UnlockGate row) [] (always (stopping None (variables ∷ [])))
-stopped_action None variables = give_up (variables ∷ [])
+-- the action of a thread that has stopped, by the row that it has still to unlock and by what its calls hold
+abbrev pub stopped_action : Option ℕ → List (List (Option ℕ)) → Action
+stopped_action (Some row) calls = Does (UnlockGate row) [] (always (stopping None calls))
+stopped_action None calls = give_up calls
 
--- the thread's action at the instruction `i`, which is the one with its number, in a call after which `left` calls
--- remain
+-- the thread's action at the instruction `i`, which is the one with its number, where `left` calls remain after the one
+-- from outside
 abbrev pub action_at : Layout → ℕ → ℕ → Option Instr → Thread → Action
 action_at layout t left i a =
     dispatch_instruction layout t a.used (place_of a.mode (context_in a.left a) a.at a.variables) (context_in left a)
@@ -85,7 +86,7 @@ start_by (Does d rest place) = starts.Doing d
 -- Returns the start of the thread's step: the first duty of its agenda, or what it dispatches.
 abbrev pub first_start : List Function → Layout → ℕ → StepActor → List Duty → Start
 first_start functions layout t a [] =
-    start_by (dispatch layout t a.actor.used (code_of (slice_get functions a.function)) a.place)
+    start_by (dispatch layout t a.actor.used (function_in functions a.function a.place).code a.place)
 first_start functions layout t a (d ∷ rest) = starts.Doing d
 
 -- the start without what it asks of the host or of the word found

@@ -1,22 +1,28 @@
 //! The two steps that a thread takes only where a schedule names them: a claim and a stop.
 
-ghost use Rattle.std.specs.Prelude.{◌≡◌, ◌≤◌, true, length, OnOk, OnErr, IfOk, IfErr};
+ghost use Rattle.std.specs.Prelude.{◌≡◌, ◌≤◌, true, length, map, OnOk, OnErr, IfOk, IfErr};
 ghost use Rattle.brc_model.specs.declared.actor.Status.TheVariants.{Gone};
 ghost use Rattle.brc_model.specs.Machine.{is_running};
-ghost use Rattle.brc_model.specs.Actions.{may_claim};
+ghost use Rattle.brc_model.specs.Actions.{given_up, waiting_state};
+ghost use Rattle.brc_model.specs.Dispatch.{may_claim};
 ghost use Rattle.brc_model.specs.Limits.{worker_limit, total_limit};
 ghost use Rattle.brc_world.specs.Storage.{word_in, AreOf};
-ghost use Rattle.brc_world.specs.Actors.{actor_of, finds_mark, memory_claimed, actor_claimed, did_claim, CanClaim, action_stopped, is_silent, silently, did_stop};
+ghost use Rattle.brc_world.specs.Actors.{actor_of, finds_mark, memory_claimed, actor_claimed, did_claim, CanClaim, action_stopped, is_silent, silently, did_stop, CanStop};
+ghost use Rattle.brc_world.specs.OpenCalls.{open_of, rows_of, AreKnown};
 ghost use Rattle.brc_check.specs.Tables.{states_of};
 
 use crate::did::Did;
+use crate::dispatch::code_of;
 use crate::doing::do_duty;
 use crate::memory::Memory;
 use crate::no_memory::NoMemory;
-use crate::thread::{Mode, ROOM, Thread, owned_rows};
-use brc_check::Checked;
+use crate::open_call::OpenCall;
+use crate::open_calls::OpenCalls;
+use crate::thread::{Mode, ROOM, Thread};
+use crate::variables::owned_rows;
+use brc_check::{Checked, apply};
 use brc_effect::Blocks;
-use brc_model::{Duty, Status};
+use brc_model::{Duty, Exit, State, Status};
 use brc_word::mark_at;
 use brc_word::values::UNSET;
 
@@ -95,28 +101,31 @@ pub fn may_claim(blocks: Blocks, number: u8, thread: &Thread, row: u32) -> bool
 /// instruction. At a point that no path of its function reaches it can't stop, because nobody knows what it holds
 /// there.
 pub fn stops(checked: &Checked, thread: &Thread) -> bool
-    ensures { result ≡ is_silent (action_stopped (states_of checked.now.module checked.now.table)
-        (actor_of thread.now)) }
+    ensures { result ≡ is_silent (action_stopped checked.now.module.functions
+        (states_of checked.now.module checked.now.table) (actor_of thread.now)) }
 {
     if !is_running(thread.status) || !thread.agenda.is_empty() {
         return false;
     }
     match thread.mode {
         Mode::Idle => thread.left != 0,
-        Mode::InCall => checked.entry(thread.function, thread.at).is_some(),
+        Mode::InCall => checked.entry(thread.running(), thread.at).is_some(),
         Mode::Inside(_) | Mode::Stopping { .. } | Mode::Exiting => false,
     }
 }
 
 /// Stops the thread, if it is between two instructions, and returns what the step did. What the module's table says is
 /// locked at its point it has then to unlock, and what the table says its variables own it has to give up; what they
-/// borrow isn't its own (`stop_releases_borrowed`). It takes no memory.
+/// borrow isn't its own (`stop_releases_borrowed`). The calls that are open around the innermost one give up what they
+/// own, too (`stop_of_the_innermost_alone`). It takes no memory.
 #[inline(never)]
 pub fn stop(checked: &Checked, thread: &mut Thread) -> Did
-    ensures did { result ≡ did_stop (states_of checked.now.module checked.now.table) (actor_of thread.old)
-        thread.old.status }
-    ensures actor { actor_of thread.new ≡ silently (actor_of thread.old)
-        (action_stopped (states_of checked.now.module checked.now.table) (actor_of thread.old)) }
+    requires { CanStop checked.now.module.functions (states_of checked.now.module checked.now.table)
+        (actor_of thread.old) }
+    ensures did { result ≡ did_stop checked.now.module.functions (states_of checked.now.module checked.now.table)
+        (actor_of thread.old) thread.old.status }
+    ensures actor { actor_of thread.new ≡ silently (actor_of thread.old) (action_stopped checked.now.module.functions
+        (states_of checked.now.module checked.now.table) (actor_of thread.old)) }
 {
     if let Status::Gone = thread.status {
         return Did::Gone;
@@ -126,19 +135,51 @@ pub fn stop(checked: &Checked, thread: &mut Thread) -> Did
     }
     match thread.mode {
         Mode::InCall => {
-            let entry = checked.entry(thread.function, thread.at);
+            let entry = checked.entry(thread.running(), thread.at);
             if let Some(state) = entry {
                 let locked = match state.locked {
                     Some(variable) => thread.row_of(variable),
                     None => None,
                 };
                 thread.variables = owned_rows(&state.vars, &thread.variables);
+                keep_owned(checked, thread.function, &mut thread.outer);
                 thread.stop(locked);
             }
         }
         _ => thread.rest(0),
     }
     Did::Moved
+}
+
+/// Leaves of the rows that the open calls name those that the calls own, where the thread calls `first` from outside.
+fn keep_owned(checked: &Checked, first: usize, outer: &mut OpenCalls)
+    requires { AreKnown checked.now.module.functions (states_of checked.now.module checked.now.table) first outer.old }
+    ensures { map rows_of outer.new ≡ given_up checked.now.module.functions
+        (states_of checked.now.module checked.now.table) first outer.old }
+{
+    let count = outer.calls.len();
+    let mut number = first;
+    for index in 0..count {
+        let call = outer.calls[index];
+        if let Some(state) = waiting_state(checked, number, &call) {
+            outer.calls[index].variables = owned_rows(&state.vars, &call.variables);
+        }
+        number = usize::from(call.callee);
+    }
+}
+
+/// Returns the state in which a call of the function waits for the one that it has made, by the module's table: what
+/// the fault exit of its instruction leaves. That is what it owns, because the result isn't there yet. It is `None` at
+/// a point that no path reaches.
+fn waiting_state(checked: &Checked, function: usize, call: &OpenCall) -> Option<State>
+    ensures { result ≡ waiting_state checked.now.module.functions (states_of checked.now.module checked.now.table)
+        function (open_of call.now) }
+{
+    let functions = checked.module().functions.as_slice();
+    let instr = code_of(functions, function).get(call.at)?;
+    let mut state = checked.entry(function, call.at)?;
+    apply(*instr, Exit::Fault, &mut state);
+    Some(state)
 }
 
 fn is_running(status: Status) -> bool

@@ -3,23 +3,24 @@
 ghost use Rattle.std.specs.Prelude.{◌≡◌, ℕ, ◌+◌, ◌≤◌, slice_get, Some};
 ghost use Rattle.std.specs.Prelude.{[], reverse, vec_len, vec_capacity};
 ghost use Rattle.brc_model.specs.declared.state.Exit.{Exit};
-ghost use Rattle.brc_model.specs.Threads.{code_of, entry_variables};
-ghost use Rattle.brc_model.specs.Actions.{agenda_action, dispatch};
-ghost use Rattle.brc_world.specs.Actors.{actor_of};
+ghost use Rattle.brc_model.specs.Threads.{function_at, function_in};
+ghost use Rattle.brc_model.specs.Dispatch.{agenda_action, dispatch};
+ghost use Rattle.brc_world.specs.Actors.{actor_of, OpensFew};
 ghost use Rattle.brc_world.specs.Starts.{first_start, exit_action, action_at, action_inside, unasking, answered, started, AsksWell, CanDispatch, HasDispatched};
 
 use crate::dispatch::birth::birth;
+use crate::dispatch::calls::{call, fail, return_object};
 use crate::dispatch::files::{ask_host, read, write};
 use crate::dispatch::inside::go_on_inside;
 use crate::dispatch::items::ask_for_cell;
 use crate::dispatch::kinds::ask_kind;
 use crate::dispatch::locks::{lock, unlock};
-use crate::dispatch::references::{give_up, hand_on, name_again, name_none, return_object};
+use crate::dispatch::references::{give_up, hand_on, name_again, name_none};
 use crate::dispatch::stops::go_on_stopping;
 use crate::dispatch::ways::{again, go};
 use crate::host_call::HostCall;
 use crate::question::Question;
-use crate::thread::{Mode, Thread, Variables};
+use crate::thread::{Mode, Thread};
 use brc_effect::rows::ROOT;
 use brc_lang::{Function, Instr};
 use brc_model::{Duty, Holding, Layout, Stage};
@@ -27,6 +28,7 @@ use brc_word::kind_word;
 use brc_word::values::{LIST, NUM};
 
 mod birth;
+mod calls;
 mod files;
 mod inside;
 mod items;
@@ -49,9 +51,9 @@ pub enum Start {
     Doing(Duty),
     /// The thread does this duty. The word found answers the question, and so decides where the thread goes on.
     Asking { duty: Duty, question: Question },
-    /// The thread locks the row's object. If it finds the gate free, it goes on at the instruction `next` of a call
-    /// after which `left` calls remain. Otherwise it stays where it was, and has begun neither the instruction nor, if
-    /// the instruction is the first one, the call.
+    /// The thread locks the row's object. If it finds the gate free, it goes on at the instruction `next`, where `left`
+    /// calls remain after the one from outside. Otherwise it stays where it was, and has begun neither the instruction
+    /// nor, if the instruction is the first one, the call.
     Locking { row: u32, left: u32, next: usize },
 }
 
@@ -59,6 +61,8 @@ pub enum Start {
 #[inline(always)]
 pub fn first_duty(functions: &[Function], layout: Layout, number: u8, thread: &mut Thread) -> Start
     requires room { vec_len thread.old.agenda + 8 ≤ vec_capacity thread.old.agenda }
+    requires few { OpensFew (agenda_action functions.now layout number (actor_of thread.old)
+        (reverse thread.old.agenda.items)) }
     ensures starts { unasking result ≡ first_start functions.now layout number (actor_of thread.old)
         (reverse thread.old.agenda.items) }
     ensures actor { (exit : Exit) (found : ℕ) → answered result exit found thread.new ≡ started (actor_of thread.old)
@@ -91,27 +95,32 @@ pub fn dispatch(
 )
     requires empty { thread.old.agenda.items ≡ [] }
     requires room { 8 ≤ vec_capacity thread.old.agenda }
-    ensures { HasDispatched thread.old (dispatch layout number thread.old.used (code_of (slice_get functions.now
-        thread.old.function)) (actor_of thread.old).place) start.new thread.new }
+    requires few { OpensFew (dispatch layout number thread.old.used (function_in functions.now thread.old.function
+        (actor_of thread.old).place).code (actor_of thread.old).place) }
+    ensures { HasDispatched thread.old (dispatch layout number thread.old.used (function_in functions.now
+        thread.old.function (actor_of thread.old).place).code (actor_of thread.old).place) start.new thread.new }
 {
     match thread.mode {
         Mode::Exiting => *start = Start::Stuck,
         Mode::Stopping { locked } => go_on_stopping(locked, thread, start),
         Mode::InCall => {
             let left = thread.left;
-            next_instruction(functions, layout, number, thread, left, start);
+            let code = code_of(functions, thread.running());
+            next_instruction(code, layout, number, thread, left, start);
         }
-        Mode::Inside(stage) => this_instruction(functions, layout, number, thread, stage, start),
+        Mode::Inside(stage) => {
+            let code = code_of(functions, thread.running());
+            this_instruction(code, layout, number, thread, stage, start);
+        }
         Mode::Idle => {
             if thread.left == 0 {
                 exit(thread, start);
                 return;
             }
-            thread.at = 0;
-            thread.variables = entry_variables();
-            thread.turns = [0; 256];
             let left = thread.left - 1;
-            next_instruction(functions, layout, number, thread, left, start);
+            let code = code_of(functions, thread.function);
+            thread.begin_call();
+            next_instruction(code, layout, number, thread, left, start);
         }
     }
 }
@@ -134,11 +143,11 @@ fn exit(thread: &mut Thread, start: &mut Start)
     });
 }
 
-/// Dispatches the instruction `thread.at` of a call after which `left` calls remain. Past the last instruction the
-/// thread is stuck.
+/// Dispatches the instruction `thread.at` of this code, where `left` calls remain after the one from outside. Past the
+/// last instruction the thread is stuck.
 #[inline(always)]
 fn next_instruction(
-    functions: &[Function],
+    code: &[Instr],
     layout: Layout,
     number: u8,
     thread: &mut Thread,
@@ -147,20 +156,20 @@ fn next_instruction(
 )
     requires empty { thread.old.agenda.items ≡ [] }
     requires room { 8 ≤ vec_capacity thread.old.agenda }
-    ensures { HasDispatched thread.old (action_at layout number left
-        (slice_get (code_of (slice_get functions.now thread.old.function)) thread.old.at) thread.old) start.new
-        thread.new }
+    requires few { OpensFew (action_at layout number left (slice_get code.now thread.old.at) thread.old) }
+    ensures { HasDispatched thread.old (action_at layout number left (slice_get code.now thread.old.at) thread.old)
+        start.new thread.new }
 {
-    match code_of(functions, thread.function).get(thread.at) {
+    match code.get(thread.at) {
         Some(instr) => begin(*instr, layout, number, thread, left, start),
         None => *start = Start::Stuck,
     }
 }
 
-/// Goes on inside the instruction `thread.at`, by how far the thread is in it.
+/// Goes on inside the instruction `thread.at` of this code, by how far the thread is in it.
 #[inline(always)]
 fn this_instruction(
-    functions: &[Function],
+    code: &[Instr],
     layout: Layout,
     number: u8,
     thread: &mut Thread,
@@ -169,11 +178,10 @@ fn this_instruction(
 )
     requires empty { thread.old.agenda.items ≡ [] }
     requires room { 8 ≤ vec_capacity thread.old.agenda }
-    ensures { HasDispatched thread.old (action_inside layout number stage
-        (slice_get (code_of (slice_get functions.now thread.old.function)) thread.old.at) thread.old) start.new
-        thread.new }
+    ensures { HasDispatched thread.old (action_inside layout number stage (slice_get code.now thread.old.at)
+        thread.old) start.new thread.new }
 {
-    match code_of(functions, thread.function).get(thread.at) {
+    match code.get(thread.at) {
         Some(instr) => go_on_inside(*instr, stage, layout, number, thread, start),
         None => *start = Start::Stuck,
     }
@@ -181,7 +189,7 @@ fn this_instruction(
 
 /// Returns the function's instructions, or none if there is no such function.
 pub fn code_of(functions: &[Function], function: usize) -> &[Instr]
-    ensures { result.now ≡ code_of (slice_get functions.now function) }
+    ensures { result.now ≡ (function_at functions.now function).code }
 {
     match functions.get(function) {
         Some(f) => f.code.as_slice(),
@@ -189,16 +197,7 @@ pub fn code_of(functions: &[Function], function: usize) -> &[Instr]
     }
 }
 
-/// Returns the variables at the start of a call: v0 names the root, and the others are empty.
-pub fn entry_variables() -> Variables
-    ensures { result ≡ entry_variables }
-{
-    let mut variables = [None; 16];
-    variables[0] = Some(ROOT);
-    variables
-}
-
-/// Begins the instruction, in a call after which `left` calls remain.
+/// Begins the instruction, where `left` calls remain after the one from outside.
 #[inline(always)]
 fn begin(
     instr: Instr,
@@ -208,7 +207,8 @@ fn begin(
     left: u32,
     start: &mut Start,
 )
-    requires { CanDispatch thread.old }
+    requires can { CanDispatch thread.old }
+    requires few { OpensFew (action_at layout number left (Some instr) thread.old) }
     ensures { HasDispatched thread.old (action_at layout number left (Some instr) thread.old) start.new thread.new }
 {
     match instr {
@@ -255,14 +255,17 @@ fn begin(
             kind,
             otherwise,
         } => ask_kind(from, kind, otherwise, thread, left, start),
-        // No call is run yet, and the checker refuses each.
-        Instr::Call { .. } => *start = Start::Stuck,
+        Instr::Call {
+            to,
+            callee,
+            arguments,
+            otherwise,
+        } => call(
+            to, callee, &arguments, otherwise, number, thread, left, start,
+        ),
         Instr::Goto { target } => go(target, thread, left, start),
         Instr::Again { target, times } => again(target, times, thread, left, start),
         Instr::Ret { from } => return_object(from, thread, left, start),
-        Instr::Fail => {
-            thread.rest(left);
-            *start = Start::Moved;
-        }
+        Instr::Fail => fail(thread, left, start),
     }
 }

@@ -6,7 +6,7 @@ ghost use Rattle.brc_word.specs.Words.{free_word};
 ghost use Rattle.brc_model.specs.declared.actor.Status.TheVariants.{Gone};
 ghost use Rattle.brc_model.specs.Duties.{address_of, new_word};
 ghost use Rattle.brc_model.specs.Machine.{is_running, used_by};
-ghost use Rattle.brc_model.specs.Actions.{status_action};
+ghost use Rattle.brc_model.specs.Dispatch.{status_action};
 ghost use Rattle.brc_model.specs.Limits.{worker_limit, total_limit};
 ghost use Rattle.brc_model.specs.StepMachine.{at_place};
 ghost use Rattle.brc_model.specs.Within.{IsThere, Suits};
@@ -58,6 +58,7 @@ pub fn do_duty(
     ensures point { thread.new.at ≡ thread.old.at }
     ensures variables { thread.new.variables ≡ thread.old.variables }
     ensures turns { thread.new.turns ≡ thread.old.turns }
+    ensures outer { thread.new.outer ≡ thread.old.outer }
     ensures mode { thread.new.mode ≡ thread.old.mode }
 {
     match duty {
@@ -128,6 +129,7 @@ fn do_known_duty(
     ensures point { thread.new.at ≡ thread.old.at }
     ensures variables { thread.new.variables ≡ thread.old.variables }
     ensures turns { thread.new.turns ≡ thread.old.turns }
+    ensures outer { thread.new.outer ≡ thread.old.outer }
     ensures mode { thread.new.mode ≡ thread.old.mode }
 {
     // A copy: behind a reference the compiler would read and test the duty again after each store.

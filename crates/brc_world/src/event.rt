@@ -37,7 +37,7 @@ pub enum ExitPart {
 /// A part of a thread's work, of one step or more.
 #[derive(Clone, Copy, Debug, PartialEq, Eq)]
 pub enum Part {
-    /// The instruction with this number, from 0, of the function that the thread calls.
+    /// The instruction with this number, from 0, of the function that the thread's innermost call runs.
     Instruction { at: usize },
     /// The claim of the row, and the merge to which it leads.
     Claim { row: u32 },
@@ -56,7 +56,7 @@ pub struct Sight {
     /// step goes on with the part that the last of the thread's sights named.
     pub begins: Option<Part>,
     pub event: Event,
-    /// The number of the function that the thread calls.
+    /// The number of the function that the thread's innermost call runs, or outside its calls of the one that it calls.
     pub function: usize,
     /// Whether the thread runs, as the step begins: it has neither announced its exit nor gone.
     pub running: bool,

@@ -3,6 +3,7 @@ ghost use Rattle.brc_model.specs.StepMachine.{main_actor, worker_actor};
 ghost use Rattle.brc_world.specs.Actors.{actor_of};
 
 use crate::no_memory::NoMemory;
+use crate::open_calls::OpenCalls;
 use crate::thread::{Mode, ROOM, Thread};
 use brc_effect::rows::FRONT_ROWS;
 use brc_model::{Call, Status};
@@ -21,6 +22,7 @@ pub fn first_threads(alloc: Global, calls: &[Call]) -> Result<Vec<Thread>, NoMem
         at: 0,
         variables: [None; 16],
         turns: [0; 256],
+        outer: OpenCalls::new(alloc)?,
         status: Status::Running,
         agenda: Vec::with_capacity(alloc, ROOM)?,
         head: 0,
@@ -36,6 +38,7 @@ pub fn first_threads(alloc: Global, calls: &[Call]) -> Result<Vec<Thread>, NoMem
             at: 0,
             variables: [None; 16],
             turns: [0; 256],
+            outer: OpenCalls::new(alloc)?,
             status: Status::Running,
             agenda: Vec::with_capacity(alloc, ROOM)?,
             head: 0,

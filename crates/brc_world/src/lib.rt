@@ -14,12 +14,15 @@ mod host_call;
 mod laws;
 mod memory;
 mod no_memory;
+mod open_call;
+mod open_calls;
 mod peek;
 mod question;
 mod run;
 mod scratch;
 mod tally;
 mod thread;
+mod variables;
 mod world;
 
 pub use brc_model::{Call, Choice};

@@ -2,8 +2,9 @@
 
 ghost use Rattle.std.specs.Prelude.{◌≡◌, ◌<◌, ◌≤◌, length, reverse, IfOk, None};
 ghost use Rattle.std.specs.List.{list_any};
-ghost use Rattle.brc_model.specs.Actions.{action_of, status_action};
+ghost use Rattle.brc_model.specs.Dispatch.{action_of, status_action};
 ghost use Rattle.brc_model.specs.Duties.{address_of};
+ghost use Rattle.brc_model.specs.Threads.{number_in};
 ghost use Rattle.brc_model.specs.Limits.{worker_limit, total_limit};
 ghost use Rattle.brc_model.specs.Within.{IsThere};
 ghost use Rattle.brc_world.specs.Actors.{actor_of, CanDo, CanAct};
@@ -195,11 +196,22 @@ fn sight_of(
         layout,
         begins: begins_at(thread, choice),
         event,
-        function: thread.function,
+        function: number_in(thread),
         running: matches!(thread.status, Status::Running),
         head: thread.head,
         exit: exit_of(choice),
         born,
+    }
+}
+
+/// Returns the number of the function that the innermost call of the thread runs or, outside its calls, of the one that
+/// it calls.
+fn number_in(thread: &Thread) -> usize
+    ensures { result ≡ number_in thread.now.function (actor_of thread.now).place }
+{
+    match thread.mode {
+        Mode::InCall | Mode::Inside(_) => thread.running(),
+        Mode::Idle | Mode::Stopping { .. } | Mode::Exiting => thread.function,
     }
 }
 

@@ -4,6 +4,7 @@ ghost use Rattle.std.specs.Prelude.{◌≡◌, ◌+◌, ◌≤◌, vec_len, vec_
 ghost use Rattle.brc_world.specs.Actors.{actor_of};
 
 use crate::no_memory::NoMemory;
+use crate::open_calls::OpenCalls;
 use crate::thread::{Mode, ROOM, Thread};
 use brc_model::Status;
 use std::alloc::Global;
@@ -26,6 +27,7 @@ impl Scratch {
                 at: 0,
                 variables: [None; 16],
                 turns: [0; 256],
+                outer: OpenCalls::new(alloc)?,
                 status: Status::Running,
                 agenda: Vec::with_capacity(alloc, ROOM)?,
                 head: 0,
@@ -45,6 +47,7 @@ pub fn copy_thread(thread: &Thread, copy: &mut Thread) -> Result<(), NoMemory>
     copy.agenda.clear();
     copy.agenda.extend_from_slice(thread.agenda.as_slice())?;
     copy.agenda.reserve(ROOM)?;
+    copy.outer.copy_from(&thread.outer)?;
     copy.function = thread.function;
     copy.mode = thread.mode;
     copy.left = thread.left;

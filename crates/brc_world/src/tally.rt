@@ -10,13 +10,23 @@ use brc_lang::Kind;
 use brc_model::Status;
 
 /// Returns the number of threads that aren't gone.
+#[tactic(auto, using(crate::proofs::Tallying::counted_more, crate::proofs::Tallying::counted_all))]
 pub fn running_in(threads: &[Thread]) -> usize
     ensures { result ≡ count_by (λ thread. still_runs (actor_of thread)) threads.now }
 {
-    threads
-        .iter()
-        .filter(|thread| !matches!(thread.status, Status::Gone))
-        .count()
+    let mut running = 0;
+    for thread in threads {
+        if still_runs(thread) {
+            running += 1;
+        }
+    }
+    running
+}
+
+fn still_runs(thread: &Thread) -> bool
+    ensures { result ≡ still_runs (actor_of thread.now) }
+{
+    !matches!(thread.status, Status::Gone)
 }
 
 /// Returns the kind that has this number in a kind word, or `Any` if no kind has it.

@@ -1,25 +1,20 @@
 //! A thread of the step world.
 
-ghost use Rattle.std.specs.Prelude.{◌≡◌, ◌<◌, ◌≤◌, true, is_some, slice_index_or, slice_set, vec_capacity};
-ghost use Rattle.std.specs.List.{list_any};
+ghost use Rattle.std.specs.Prelude.{◌≡◌, ◌≤◌, ◌∷◌, [], replicate, slice_index_or, slice_set, length, MatchOption};
+ghost use Rattle.std.specs.Prelude.{vec_capacity};
+ghost use Rattle.brc_model.specs.declared.duty.Holding.TheVariants.{ByVariable};
 ghost use Rattle.brc_model.specs.Limits.{total_limit};
-ghost use Rattle.brc_lang.specs.Limits.{variable_count};
-ghost use Rattle.brc_model.specs.VarStates.{is_owned};
-ghost use Rattle.brc_model.specs.Threads.{row_of};
-ghost use Rattle.brc_model.specs.Actions.{owned_rows, first_named};
-ghost use Rattle.brc_world.specs.Modes.{mode_stopped};
+ghost use Rattle.brc_model.specs.Threads.{entry_variables, number_under, row_of};
 ghost use Rattle.brc_effect.specs.Effects.{status_after, used_after, locked_after, lent_after};
+ghost use Rattle.brc_world.specs.OpenCalls.{open_of, all_rows, mode_stopped, holds_rows};
 
+use crate::open_call::{OpenCall, Turns};
+use crate::open_calls::OpenCalls;
+use crate::variables::{Variables, entry_variables, names_some, row_of};
 use brc_effect::Change;
 use brc_lang::Variable;
-use brc_model::{Duty, Stage, Status, VarState};
+use brc_model::{Duty, Holding, Stage, Status};
 use std::fmt;
-
-/// The row that each variable names, or `None` for an empty variable.
-pub type Variables = [Option<u32>; Variable::COUNT];
-
-/// How often each instruction `again` of the function, by its point, has gone back in the call.
-pub type Turns = [u16; 256];
 
 /// The room for duties that each thread's agenda has from the start: four when a step starts, and four when its duty is
 /// done. So a step that begins an instruction is never refused memory.
@@ -34,7 +29,7 @@ pub enum Mode {
     InCall,
     /// Inside an instruction that takes several steps, after its first step.
     Inside(Stage),
-    /// It has stopped, and has still to unlock the row, or to give up what its variables name.
+    /// It has stopped, and has still to unlock the row, or to give up what the variables of its calls name.
     Stopping { locked: Option<u32> },
     /// Its exit has begun.
     Exiting,
@@ -43,10 +38,10 @@ pub enum Mode {
 /// A thread: where it is in its calls, and the duties that it still has to do.
 #[derive(Drop)]
 pub struct Thread {
-    /// The number of the function that it calls.
+    /// The number of the function that it calls from outside.
     pub function: usize,
     pub mode: Mode,
-    /// The number of calls that it still has to make, without the current one.
+    /// The number of calls from outside that it still has to make, without the current one.
     pub left: u32,
     /// In a call, the number of the next instruction, or of the one that the thread is inside of.
     pub at: usize,
@@ -55,6 +50,8 @@ pub struct Thread {
     /// In a call, how often each instruction `again` has gone back. It is reset with the call, and with nothing else
     /// (`turns_kept_between_calls`, `turns_reset_inside`).
     pub turns: Turns,
+    /// In a call, the calls that are open around it.
+    pub outer: OpenCalls,
     pub status: Status,
     /// The duties to do. The last is done next: a step takes it from the end, and adds there the duties that follow it.
     pub agenda: Vec<Duty>,
@@ -75,7 +72,7 @@ impl Thread {
     pub fn row_of(&self, variable: Variable) -> Option<u32>
         ensures { result ≡ row_of self.now.variables variable }
     {
-        self.variables[usize::from(variable.number())]
+        row_of(&self.variables, variable)
     }
 
     /// Makes the variable name the row, or empties it.
@@ -83,6 +80,25 @@ impl Thread {
         ensures { self.new ≡ record self.old { variables = slice_set self.old.variables variable row } }
     {
         self.variables[usize::from(variable.number())] = row;
+    }
+
+    /// Returns the holding by the variable of the innermost call.
+    #[inline(always)]
+    pub fn holding(&self, variable: Variable) -> Holding
+        ensures { result ≡ ByVariable (length self.now.outer) variable }
+    {
+        Holding::ByVariable {
+            depth: self.outer.depth(),
+            variable,
+        }
+    }
+
+    /// Returns the number of the function that the innermost call runs, if the thread is in a call.
+    #[inline(always)]
+    pub fn running(&self) -> usize
+        ensures { result ≡ number_under self.now.function self.now.outer }
+    {
+        self.outer.running(self.function)
     }
 
     /// Returns how often the instruction `again` that the thread is at has gone back in the call.
@@ -113,6 +129,41 @@ impl Thread {
         self.at = at;
     }
 
+    /// Puts the thread at the beginning of a call from outside, but for its mode.
+    #[inline(always)]
+    pub fn begin_call(&mut self)
+        ensures { self.new ≡ record self.old {
+          at = 0;
+          variables = entry_variables;
+          turns = replicate 256 0;
+          outer = [];
+        } }
+    {
+        self.at = 0;
+        self.variables = entry_variables();
+        self.turns = [0; 256];
+        self.outer.clear();
+    }
+
+    /// Ends the innermost call, if it was made by another one: the thread is in that one again, with its variables and
+    /// its turns. Returns what the call waited with, or `None`, with nothing changed, if the call was made from
+    /// outside.
+    pub fn go_back(&mut self) -> Option<OpenCall>
+        ensures { MatchOption result ((self.old.outer ≡ []) × (self.new ≡ self.old)) (λ call.
+            (self.old.outer ≡ open_of call ∷ self.new.outer) × (self.new ≡ record self.old {
+              variables = call.variables;
+              turns = call.turns;
+              outer = self.new.outer;
+            })) }
+    {
+        let call = self.outer.close()?;
+        let variables = call.variables;
+        let turns = call.turns;
+        self.variables = variables;
+        self.turns = turns;
+        Some(call)
+    }
+
     /// Makes the change that a duty's effect names.
     #[inline(always)]
     pub fn change(&mut self, change: Change)
@@ -127,6 +178,7 @@ impl Thread {
         ensures point { self.new.at ≡ self.old.at }
         ensures variables { self.new.variables ≡ self.old.variables }
         ensures turns { self.new.turns ≡ self.old.turns }
+        ensures outer { self.new.outer ≡ self.old.outer }
         ensures agenda { self.new.agenda ≡ self.old.agenda }
         ensures head { self.new.head ≡ self.old.head }
     {
@@ -140,11 +192,14 @@ impl Thread {
     }
 
     /// Puts a thread that has stopped where it is then: it has this row to unlock, if there is one, and the references
-    /// of all its variables to give up. With nothing to do it is done with its calls. It makes no further one.
+    /// of all variables of its calls to give up. With nothing to do it is done with its calls. It makes no further one.
     pub fn stop(&mut self, locked: Option<u32>)
-        ensures { self.new ≡ record self.old { mode = mode_stopped locked self.old.variables; left = 0 } }
+        ensures { self.new ≡ record self.old {
+          mode = mode_stopped locked (all_rows self.old.variables self.old.outer);
+          left = 0;
+        } }
     {
-        self.mode = if locked.is_some() || names_some(&self.variables) {
+        self.mode = if locked.is_some() || self.holds_some() {
             Mode::Stopping { locked }
         } else {
             Mode::Idle
@@ -152,7 +207,14 @@ impl Thread {
         self.left = 0;
     }
 
-    /// Ends the call, with `left` calls still to make.
+    /// Returns whether some variable of a call of the thread names a row.
+    pub fn holds_some(&self) -> bool
+        ensures { result ≡ holds_rows self.now.variables self.now.outer }
+    {
+        names_some(&self.variables) || self.outer.hold_some()
+    }
+
+    /// Ends the call from outside, with `left` calls still to make.
     pub fn rest(&mut self, left: u32)
         ensures { self.new ≡ record self.old { mode = Mode.Idle; left = left } }
     {
@@ -161,47 +223,9 @@ impl Thread {
     }
 }
 
-/// Returns whether some variable names a row.
-pub fn names_some(variables: &Variables) -> bool
-    ensures { result ≡ list_any is_some variables.now }
-{
-    variables.iter().any(|row| row.is_some())
-}
-
-/// Returns the first variable that names a row, by its number, or the number of variables if none does.
-pub fn first_named(variables: &Variables) -> usize
-    ensures first { result ≡ first_named variables.now }
-    ensures low { list_any is_some variables.now ≡ true → result < variable_count }
-{
-    for variable in 0..Variable::COUNT {
-        if variables[variable].is_some() {
-            return variable;
-        }
-    }
-    Variable::COUNT
-}
-
-fn is_owned(var: VarState) -> bool
-    ensures { result ≡ is_owned var }
-{
-    matches!(var, VarState::Owned(_))
-}
-
-/// Returns the variables without those whose slots own no reference.
-pub fn owned_rows(vars: &[VarState; Variable::COUNT], variables: &Variables) -> Variables
-    ensures { result ≡ owned_rows vars.now variables.now }
-{
-    let mut owned = *variables;
-    for variable in 0..Variable::COUNT {
-        if !is_owned(vars[variable]) {
-            owned[variable] = None;
-        }
-    }
-    owned
-}
-
-/// Writes the fields that are part of the world. An instruction, variables and counts of the instructions `again` are
-/// part of it only while the thread is in a call. Of the counts it writes those that aren't 0, each behind its point.
+/// Writes the fields that are part of the world. An instruction, variables, counts of the instructions `again` and open
+/// calls are part of it only while the thread is in a call. Of the counts it writes those that aren't 0, each behind
+/// its point.
 impl fmt::Debug for Thread {
     fn fmt<W: fmt::Write>(&self, f: &mut fmt::Formatter<W>) -> fmt::Result {
         let Thread {
@@ -221,7 +245,7 @@ impl fmt::Debug for Thread {
             "{function} {mode:?} {left} {status:?} {agenda:?} {head} {used} {locked:?} {lent:?}"
         )?;
         match mode {
-            Mode::Stopping { .. } => write!(f, " {:?}", self.variables),
+            Mode::Stopping { .. } => write!(f, " {:?}{:?}", self.variables, self.outer),
             Mode::InCall | Mode::Inside(_) => {
                 write!(f, " {} {:?}", self.at, self.variables)?;
                 for (at, turns) in self.turns.iter().enumerate() {
@@ -229,7 +253,7 @@ impl fmt::Debug for Thread {
                         write!(f, " {at}:{turns}")?;
                     }
                 }
-                Ok(())
+                write!(f, "{:?}", self.outer)
             }
             Mode::Idle | Mode::Exiting => Ok(()),
         }

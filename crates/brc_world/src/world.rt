@@ -2,7 +2,7 @@ ghost use Rattle.std.specs.Prelude.{◌≡◌, ◌≢◌, ◌<◌, ◌≤◌, no
 ghost use Rattle.std.specs.List.{All};
 ghost use Rattle.brc_model.specs.declared.thread.Choice.TheVariants.{Claim as claims, Stop as stops};
 ghost use Rattle.brc_model.specs.Safety.{AreCalls};
-ghost use Rattle.brc_model.specs.Actions.{exit_of};
+ghost use Rattle.brc_model.specs.Dispatch.{exit_of};
 ghost use Rattle.brc_model.specs.Limits.{row_limit};
 ghost use Rattle.brc_model.specs.World.{first_world, step};
 ghost use Rattle.brc_check.specs.Tables.{states_of};
@@ -31,8 +31,8 @@ use brc_effect::Blocks;
 use brc_effect::rows::{TEXT_CELLS, is_immortal_row};
 use brc_lang::Sequence;
 use brc_model::{
-    Address, Call, Choice, Exit, Layout, Status, steps_are_within, steps_move, worlds_are_small,
-    worlds_lead_on,
+    Address, Call, Choice, Exit, Layout, Status, steps_are_within, steps_move,
+    stops_give_up_what_is_owned, worlds_are_small, worlds_lead_on,
 };
 use brc_report::{Left, Tally};
 use brc_word::{is_closed, kind_number};
@@ -231,6 +231,7 @@ impl<'a> World<'a> {
         ensures { IfOk result (λ sight. sight ≡ sight_at (model_of self.now) thread choice) }
     {
         worlds_are_small();
+        worlds_lead_on();
         steps_are_within();
         peek(
             self.accepted,
@@ -316,6 +317,7 @@ impl<'a> World<'a> {
         worlds_are_small();
         worlds_lead_on();
         steps_move();
+        stops_give_up_what_is_owned();
         stop(self.accepted, &mut self.threads[thread])
     }
 }

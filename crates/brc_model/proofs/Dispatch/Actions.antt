@@ -1,8 +1,7 @@
 -- What a thread does at an event with any choice fits the thread: its next step, a claim, or a stop.
-use Rattle.std.proofs.Common.{◌≡◌, ℕ, true, List, [], ◌∷◌, Option, Some, refl, sym, ap, ◌∙◌, subst, arith, suc, None}
-use Rattle.std.specs.Prelude.{slice_get, map}
+use Rattle.std.proofs.Common.{◌≡◌, ℕ, true, List, [], ◌∷◌, Option, Some, refl, sym, ap, ◌∙◌, subst, arith, suc}
+use Rattle.std.specs.Prelude.{slice_get}
 use Rattle.brc_lang.specs.declared.module.Module.{Module}
-use Rattle.brc_model.specs.Threads.{code_of}
 use Rattle.brc_model.specs.declared.duty.Duty.{Duty}
 use Rattle.brc_model.specs.declared.duty.Duty.TheVariants.{ClaimMark}
 use Rattle.brc_model.specs.declared.actor.Status.{Status}
@@ -10,11 +9,10 @@ use Rattle.brc_model.specs.declared.actor.Place.{Place}
 use Rattle.brc_model.specs.declared.actor.Place.TheVariants.{Idle, InCall}
 use Rattle.brc_model.specs.declared.thread.Choice.{Choice}
 use Rattle.brc_model.specs.declared.thread.Choice.TheVariants.{Ok, Fault, Claim, Stop}
-use Rattle.brc_model.specs.Actions.{StepActor, Skip, may_claim, action_of, is_before_instruction, may_stop, stop_action, stop_in_call, stopping, row_locked, owned_rows, none_of}
+use Rattle.brc_model.specs.Actions.{StepActor, Skip, stop_action, stop_in_call, stopping, row_locked, owned_rows, given_up}
+use Rattle.brc_model.specs.Dispatch.{may_claim, action_of, is_before_instruction, may_stop}
 use Rattle.brc_model.specs.StepMachine.{StepMachine, counting}
-use Rattle.brc_model.proofs.Basics.Lists.{either, none_some}
-use Rattle.brc_lang.specs.declared.module.Instr.{Instr}
-use Rattle.brc_lang.specs.declared.module.Function.{Function}
+use Rattle.brc_model.proofs.Basics.Lists.{either}
 use Rattle.brc_model.proofs.Frame.Aside.{HoldsAlone, alone_holds}
 use Rattle.brc_model.specs.Accounts.{HoldsAt}
 use Rattle.brc_model.specs.OpenWork.{exits}
@@ -32,17 +30,17 @@ use Rattle.brc_model.proofs.Limits.Ranges.{row_small}
 use Rattle.brc_model.proofs.Dispatch.Claims.{claimer, stopper}
 use Rattle.brc_model.proofs.Dispatch.Decided.{stopping_decides}
 use Rattle.brc_model.proofs.Dispatch.TakingStops.{stop_taken}
-use Rattle.brc_model.proofs.Dispatch.Passing.{passes_on}
-use Rattle.brc_model.specs.Tables.{AreTrueWhereReached, Reaches}
 use Rattle.brc_model.specs.declared.state.State.{State}
 pub use Rattle.brc_model.proofs.Dispatch.ActionsFit.{SilentFits, CallFits, DutyFits, ActionFits}
 use Rattle.brc_model.proofs.Dispatch.ActionsFit.{silent_fits, status_fits}
+use Rattle.brc_model.proofs.Dispatch.Programs.{number_of, program_of}
+use Rattle.brc_model.proofs.Dispatch.Grounded.{number_there}
 
 -- ---- a claim
 
 claim_fits : (p : Module) (n : ℕ) (m : StepMachine) (t : ℕ) (a : StepActor) (row : ℕ) → (whole : CodeInvariant p n m)
     → slice_get m.actors t ≡ Some a → may_claim m.layout t a row ≡ true
-    → DutyFits p whole.accounts n m t a (ClaimMark row) [] a.place
+    → DutyFits whole.accounts n m t a (ClaimMark row) [] a.place
 claim_fits p n m t a row whole found may =
     let c = whole.accounts in
     let core = whole.kept.core in
@@ -52,7 +50,7 @@ claim_fits p n m t a row whole found may =
     record { core = core; found = there; agenda = claims.agenda; running = claims.running } in
     let sits : Sits (counting m) t a.actor (ClaimMark row ∷ []) (c t) =
     claim_sits row at (whole.coded t a found).alone
-    (idle_unlocked (code_of (slice_get p.functions a.function)) claims.left a.place a.actor.locked (c t)
+    (idle_unlocked (program_of m.functions m.states a) claims.left a.place a.actor.locked (c t)
     (whole.coded t a found).says claims.idle) claims.block in
     record {
       account = c t;
@@ -70,42 +68,34 @@ claim_fits p n m t a row whole found may =
 
 -- ---- a stop
 
--- The table has the state of a point that a path of an accepted module's function reaches.
-pub state_there : (p : Module) (states : ℕ → ℕ → Option State) (function at : ℕ) (s : State) (i : Instr)
-    (o : Option Function)
-    → AreTrueWhereReached p states → slice_get p.functions function ≡ o → slice_get (code_of o) at ≡ Some i
-    → Reaches (code_of o) at s → states function at ≡ Some s
-state_there p states function at s i None true_states found is reached = absurd (none_some i is)
-state_there p states function at s i (Some f) true_states found is reached =
-    true_states function at f s found reached
-
 stop_at : (p : Module) (n : ℕ) (m : StepMachine) (t : ℕ) (a : StepActor) (place : Place) → (whole : CodeInvariant p n m)
     → slice_get m.actors t ≡ Some a → AtRest whole.accounts n (counting m) t a.actor → a.place ≡ place
     → is_before_instruction place ≡ true
-    → PlaceFits (code_of (slice_get p.functions a.function)) m.abstract.references t [] a.actor.locked place
-    → a.actor.lent ≡ lent_at (code_of (slice_get p.functions a.function)) place
-    → ActionFits p whole.accounts n m t a (stop_action (m.states a.function) place)
+    → PlaceFits (program_of m.functions m.states a) m.abstract.references t [] a.actor.locked place
+    → a.actor.lent ≡ lent_at (program_of m.functions m.states a) place
+    → ActionFits whole.accounts n m t a (stop_action m.functions m.states a.function place)
 stop_at p n m t a (Idle (suc left)) whole found at is before fits lent =
     silent_fits p n m t a [] (Idle 0) whole found at
-    (record { moves_fit = Stays; placed = fits; stays = idle_stays 0 }) lent
+    (record { moves_fit = Stays; placed = (fits.0, fits.1, tt); stays = idle_stays 0 }) lent
 stop_at p n m t a (InCall context at variables) whole found rest is before fits lent =
-    let code = code_of (slice_get p.functions a.function) in
+    let program = program_of m.functions m.states a in
     let s = fits.0 in
-    let on = passes_on code fits.1.exits at s (whole.coded t a found).accepted fits.1.arrived in
-    let known : m.states a.function at ≡ Some s =
-    state_there p m.states a.function at s on.here (slice_get p.functions a.function) whole.states_true refl on.found
+    let number = number_of program context.outer in
+    let known : m.states number at ≡ Some s =
+    whole.sound.states_true number at s (number_there program context.outer fits.1.is_call.open_calls)
     (record { exits = fits.1.exits; reaches = fits.1.arrived }) in
     let lock = row_locked s.locked variables in
-    let calls = owned_rows s.vars variables ∷ map none_of context.outer in
-    subst (λ (o : Option State). ActionFits p whole.accounts n m t a (stop_in_call context variables o)) (sym known)
+    let outer = given_up m.functions m.states a.function context.outer in
+    let calls = owned_rows s.vars variables ∷ outer in
+    subst (λ (o : Option State). ActionFits whole.accounts n m t a (stop_in_call outer variables o)) (sym known)
     (silent_fits p n m t a [] (stopping lock calls) whole found rest
-    (stop_taken code (scene_of (counting m) t a.actor) context at variables s fits.1 fits.2 fits.3)
-    (stopping_decides (λ (next : Place). a.actor.lent ≡ lent_at code next) lock calls lent lent))
+    (stop_taken program (scene_of (counting m) t a.actor) context at variables s fits.1 fits.2 fits.3)
+    (stopping_decides (λ (next : Place). a.actor.lent ≡ lent_at program next) lock calls lent lent))
 stop_at p n m t a _ whole found _ is before fits lent = cc
 
 stop_fits : (p : Module) (n : ℕ) (m : StepMachine) (t : ℕ) (a : StepActor) → (whole : CodeInvariant p n m)
     → slice_get m.actors t ≡ Some a → may_stop a ≡ true
-    → ActionFits p whole.accounts n m t a (stop_action (m.states a.function) a.place)
+    → ActionFits whole.accounts n m t a (stop_action m.functions m.states a.function a.place)
 stop_fits p n m t a whole found may =
     let c = whole.accounts in
     let stops = stopper a may in
@@ -118,7 +108,7 @@ stop_fits p n m t a whole found may =
     (subst (λ (l : List Duty). HoldsAt m.abstract.references t (c t) l a.actor.aside) stops.agenda
     (whole.kept.core.each t a.actor there).0.holds) in
     stop_at p n m t a a.place whole found at refl stops.before
-    (place_fits (code_of (slice_get p.functions a.function)) m.abstract.references t [] a.actor.locked a.place (c t)
+    (place_fits (program_of m.functions m.states a) m.abstract.references t [] a.actor.locked a.place (c t)
     own.says holds) own.lent
 
 -- ---- any event
@@ -126,12 +116,12 @@ stop_fits p n m t a whole found may =
 -- What a thread does at an event with any choice fits the thread.
 pub action_fits : (p : Module) (n : ℕ) (m : StepMachine) (t : ℕ) (a : StepActor) (choice : Choice)
     → (whole : CodeInvariant p n m)
-    → slice_get m.actors t ≡ Some a → ActionFits p whole.accounts n m t a
+    → slice_get m.actors t ≡ Some a → ActionFits whole.accounts n m t a
     (action_of m.functions m.states m.layout t a choice)
 action_fits p n m t a Ok whole found = status_fits p n m t a a.actor.status whole found refl
 action_fits p n m t a Fault whole found = status_fits p n m t a a.actor.status whole found refl
 action_fits p n m t a Stop whole found =
-    either (ActionFits p whole.accounts n m t a) (may_stop a) _ Skip (stop_fits p n m t a whole found) tt
+    either (ActionFits whole.accounts n m t a) (may_stop a) _ Skip (stop_fits p n m t a whole found) tt
 action_fits p n m t a (Claim row) whole found =
-    either (ActionFits p whole.accounts n m t a) (may_claim m.layout t a row) _ Skip
+    either (ActionFits whole.accounts n m t a) (may_claim m.layout t a row) _ Skip
     (claim_fits p n m t a row whole found) tt

@@ -6,7 +6,6 @@ use Rattle.std.specs.Prelude.{◌==◌, slice_get, sum_by}
 use Rattle.std.proofs.lemmas.Option.{slice_get_within}
 use Rattle.brc_lang.specs.declared.module.Module.{Module}
 use Rattle.brc_model.specs.AbstractState.{Move}
-use Rattle.brc_model.specs.Threads.{code_of}
 use Rattle.brc_model.specs.declared.duty.Duty.{Duty}
 use Rattle.brc_model.specs.declared.duty.Duty.TheVariants.{LendSlot}
 use Rattle.brc_model.specs.declared.actor.Status.{Status}
@@ -16,17 +15,15 @@ use Rattle.brc_model.specs.declared.actor.Place.TheVariants.{Idle, InCall, Insid
 use Rattle.brc_model.specs.declared.actor.Actor.{Actor}
 use Rattle.brc_model.specs.Machine.{Machine, with_actor, locked_by, lent_by}
 use Rattle.brc_model.specs.declared.state.Exit.{Exit}
-use Rattle.brc_model.specs.Actions.{StepActor, Action, Skip, Stuck, Silent, Calls, Does, agenda_action, status_action, dispatch}
+use Rattle.brc_model.specs.Actions.{StepActor, Action, Skip, Stuck, Silent, Calls, Does}
+use Rattle.brc_model.specs.Dispatch.{agenda_action, status_action}
 use Rattle.brc_model.specs.StepMachine.{StepMachine, counting}
 use Rattle.brc_model.proofs.Basics.Lists.{slice_get-set_same, set_found, none_some}
 use Rattle.brc_model.specs.References.{held, one_if, reference_of}
-use Rattle.brc_model.specs.KnownKinds.{KnowsKinds, kind_words}
-use Rattle.brc_model.specs.Items.{KnowsItems}
+use Rattle.brc_model.specs.KnownKinds.{kind_words}
 use Rattle.brc_model.specs.Gates.{LocksFit}
 use Rattle.brc_model.specs.declared.duty.Holding.{Holding}
 use Rattle.brc_model.specs.AbstractState.{Reference}
-use Rattle.brc_lang.specs.declared.module.Instr.{Instr}
-use Rattle.brc_lang.specs.declared.module.Function.{Function}
 use Rattle.brc_model.specs.Limits.{text_cells}
 use Rattle.brc_model.proofs.Frame.Aside.{HoldsAlone}
 use Rattle.brc_model.proofs.Dispatch.Holds.{of_variables, of_inside, holds_variables, holds_inside, call_of}
@@ -40,7 +37,6 @@ use Rattle.brc_model.specs.OpenWork.{exits, is_about}
 use Rattle.brc_model.specs.Invariant.{CoreInvariant, Invariant}
 use Rattle.brc_model.proofs.Dispatch.Coded.{PlaceSays, PlaceFits, in_flight, is_departing, stays_elsewhere, placed_by, says_bounded}
 use Rattle.brc_model.proofs.Dispatch.AtOnce.{at_once, plain_locked, plain_lent}
-use Rattle.brc_model.proofs.Dispatch.Rooms.{awaits_birth}
 use Rattle.brc_model.proofs.Dispatch.Lending.{lent_at, FollowsLent, dispatch_lent, FindsFull}
 use Rattle.brc_model.proofs.Keeping.SilentSteps.{SilentSits}
 use Rattle.brc_model.proofs.Dispatch.TakingUp.{scene_of, holds_plain, Backs, ByOwn, ByList, MayBegin, Gives, Takes, Bears, Asks, Locks, Unlocks, Loads, Swaps, MayFollow, Nothing, Settles, Exits, SilentTaken, IsTaken, Lends, Returns}
@@ -61,52 +57,53 @@ use Rattle.brc_model.proofs.Frame.Alive.{backed_referenced}
 use Rattle.brc_model.proofs.Limits.Ranges.{row_small, settle_small, leave_small, referenced_small}
 use Rattle.brc_model.specs.declared.layout.Layout.{Layout}
 use Rattle.brc_model.specs.Layout.{row_at}
+use Rattle.brc_model.proofs.Dispatch.Programs.{Program, code_in, program_of}
 
 -- A silent step of a thread at rest, with the thread's account afterwards.
-pub record SilentFits (p : Module) (c : Accounts) (n : ℕ) (m : StepMachine) (t : ℕ) (a : StepActor) (moves : List Move)
+pub record SilentFits (c : Accounts) (n : ℕ) (m : StepMachine) (t : ℕ) (a : StepActor) (moves : List Move)
     (place : Place) : Type 0 where
   pub at : AtRest c n (counting m) t a.actor
   pub account : Account
-  pub says : PlaceSays (code_of (slice_get p.functions a.function)) place a.actor.locked account
+  pub says : PlaceSays (program_of m.functions m.states a) place a.actor.locked account
   pub departs : exits a.actor.status [] ≡ is_departing place
-  pub lent : a.actor.lent ≡ lent_at (code_of (slice_get p.functions a.function)) place
+  pub lent : a.actor.lent ≡ lent_at (program_of m.functions m.states a) place
   pub sits : SilentSits (counting m) t a.actor moves account
 
 -- A call of the host by a thread at rest uses the resource that the thread has lent, and is silent.
-pub record CallFits (p : Module) (c : Accounts) (n : ℕ) (m : StepMachine) (t : ℕ) (a : StepActor) (row : Option ℕ)
+pub record CallFits (c : Accounts) (n : ℕ) (m : StepMachine) (t : ℕ) (a : StepActor) (row : Option ℕ)
     (place : Exit → Place) : Type 0 where
   pub uses : a.actor.lent ≡ row
-  pub silent : (exit : Exit) → SilentFits p c n m t a [] (place exit)
+  pub silent : (exit : Exit) → SilentFits c n m t a [] (place exit)
 
 -- A duty that the thread does, with the thread's account from then on. `doing` says it of the thread with the duty in
 -- its agenda. The duties are as small as those that the thread had.
-pub record DutyFits (p : Module) (c : Accounts) (n : ℕ) (m : StepMachine) (t : ℕ) (a : StepActor) (d : Duty)
+pub record DutyFits (c : Accounts) (n : ℕ) (m : StepMachine) (t : ℕ) (a : StepActor) (d : Duty)
     (rest : List Duty) (place : Place) : Type 0 where
   pub account : Account
-  pub says : PlaceSays (code_of (slice_get p.functions a.function)) place
+  pub says : PlaceSays (program_of m.functions m.states a) place
       (locked_by a.actor.locked d (found_by (counting m) t a.actor d)) account
   pub departs : exits a.actor.status (d ∷ rest) ≡ is_departing place
   pub lent : lent_by a.actor.lent d (found_by (counting m) t a.actor d)
-      ≡ lent_at (code_of (slice_get p.functions a.function)) place
+      ≡ lent_at (program_of m.functions m.states a) place
   pub doing : Doing (with_account c t account) n (with_actor (counting m) t (sitting a.actor (d ∷ rest))) t
       (sitting a.actor (d ∷ rest)) d rest
   pub small : HasFewCells (counting m) → AreSmall m.layout a.actor.agenda
       → AreSmall m.layout (d ∷ rest)
   pub plain : sum_by at_once rest ≡ 0
 
-abbrev pub ActionFits : Module → Accounts → ℕ → StepMachine → ℕ → StepActor → Action → Type 0
-ActionFits p c n m t a Skip = Unit {0}
-ActionFits p c n m t a Stuck = ⊥
-ActionFits p c n m t a (Silent moves place) = SilentFits p c n m t a moves place
-ActionFits p c n m t a (Calls row place) = CallFits p c n m t a row place
-ActionFits p c n m t a (Does d rest place) =
-    DutyFits p c n m t a d rest (place (found_by (counting m) t a.actor d))
+abbrev pub ActionFits : Accounts → ℕ → StepMachine → ℕ → StepActor → Action → Type 0
+ActionFits c n m t a Skip = Unit {0}
+ActionFits c n m t a Stuck = ⊥
+ActionFits c n m t a (Silent moves place) = SilentFits c n m t a moves place
+ActionFits c n m t a (Calls row place) = CallFits c n m t a row place
+ActionFits c n m t a (Does d rest place) =
+    DutyFits c n m t a d rest (place (found_by (counting m) t a.actor d))
 
 -- ---- the duty is in the agenda
 
 duty_fits : (p : Module) (n : ℕ) (m : StepMachine) (t : ℕ) (a : StepActor) (d : Duty) (rest : List Duty)
     → (whole : CodeInvariant p n m) → slice_get m.actors t ≡ Some a → a.actor.status ≢ Gone → a.actor.agenda ≡ d ∷ rest
-    → DutyFits p whole.accounts n m t a d rest a.place
+    → DutyFits whole.accounts n m t a d rest a.place
 duty_fits p n m t a d rest whole found alive is =
     let there = its_found m t a found in
     let now : sitting a.actor (d ∷ rest) ≡ a.actor = ap (sitting a.actor) (sym is) in
@@ -121,7 +118,7 @@ duty_fits p n m t a d rest whole found alive is =
     let unlent = plain_lent a.actor.lent d (found_by (counting m) t a.actor d) first in
     record {
       account = c t;
-      says = subst (λ (w : Option ℕ). PlaceSays (code_of (slice_get p.functions a.function)) a.place w (c t))
+      says = subst (λ (w : Option ℕ). PlaceSays (program_of m.functions m.states a) a.place w (c t))
           (sym unlocked)
           own.says;
       departs = ap (exits a.actor.status) (sym is) ∙ (whole.coded t a found).departs;
@@ -184,35 +181,35 @@ follows_small layout t used place rest (Settles stays) = (settle_small layout, t
 follows_small layout t used place rest (Exits leaves) = (settle_small layout, (leave_small layout 0 used, tt))
 
 -- A silent step leaves the thread what it has locked.
-place_held : (code : List Instr) (bag : List Reference) (t x : ℕ) (locked : Option ℕ) (place : Place)
-    → PlaceFits code bag t [] locked place → locked ≡ Some x → (by : Holding) × (0 < held (reference_of t by x) bag)
-place_held code bag t x locked (Idle left) fits is = absurd (none_some x (sym fits.0 ∙ is))
-place_held code bag t x locked (InCall context at variables) fits is =
+place_held : (program : Program) (bag : List Reference) (t x : ℕ) (locked : Option ℕ) (place : Place)
+    → PlaceFits program bag t [] locked place → locked ≡ Some x → (by : Holding) × (0 < held (reference_of t by x) bag)
+place_held program bag t x locked (Idle left) fits is = absurd (none_some x (sym fits.0 ∙ is))
+place_held program bag t x locked (InCall context at variables) fits is =
     let lock =
-    guards_held bag t (call_of code context) fits.0 variables fits.0.locked locked x fits.2 is fits.1.grounded
-    (holds_variables bag t (call_of code context) fits.0 variables
-    (holds_plain bag t (of_variables (call_of code context) fits.0 variables) fits.3)) in
+    guards_held bag t (call_of program context) fits.0 variables fits.0.locked locked x fits.2 is fits.1.grounded
+    (holds_variables bag t (call_of program context) fits.0 variables
+    (holds_plain bag t (of_variables (call_of program context) fits.0 variables) fits.3)) in
     (lock.by, lock.held_so)
-place_held code bag t x locked (Inside context at variables stage) fits is =
-    let flight = in_flight (slice_get code at) stage variables in
+place_held program bag t x locked (Inside context at variables stage) fits is =
+    let flight = in_flight (slice_get (code_in program context) at) stage variables in
     let lock =
-    guards_held bag t (call_of code context) fits.0 variables fits.0.locked locked x fits.2 is fits.1.grounded
-    (holds_inside bag t (call_of code context) flight fits.0 variables
-    (holds_plain bag t (of_inside (call_of code context) flight fits.0 variables) fits.3)) in
+    guards_held bag t (call_of program context) fits.0 variables fits.0.locked locked x fits.2 is fits.1.grounded
+    (holds_inside bag t (call_of program context) flight fits.0 variables
+    (holds_plain bag t (of_inside (call_of program context) flight fits.0 variables) fits.3)) in
     (lock.by, lock.held_so)
-place_held code bag t x locked (Stopping lock calls) fits is =
+place_held program bag t x locked (Stopping lock calls) fits is =
     let holds = fits.1.lock_held x (sym fits.0 ∙ is) in
     let one = ap one_if holds.1 in
     (holds.0, omega (arith, fits.3.each holds.0 x, one))
-place_held code bag t x locked Exiting fits is = absurd (none_some x (sym fits.0 ∙ is))
+place_held program bag t x locked Exiting fits is = absurd (none_some x (sym fits.0 ∙ is))
 
 module _ {p : Accounts} {n : ℕ} {m : Machine} {t : ℕ} {a : Actor} where
-  silent_locks : (bag : List Reference) (code : List Instr) (place : Place) (account : Account) → AtRest p n m t a
-      → a.aside ≡ [] → PlaceFits code bag t [] a.locked place → HoldsAlone bag t account []
+  silent_locks : (bag : List Reference) (program : Program) (place : Place) (account : Account) → AtRest p n m t a
+      → a.aside ≡ [] → PlaceFits program bag t [] a.locked place → HoldsAlone bag t account []
       → LocksFit account m t (sitting a [])
-  silent_locks bag code place account at alone fits holds x is =
+  silent_locks bag program place account at alone fits holds x is =
       let old = (at.core.each t a at.found).0.locks x is in
-      let has = place_held code bag t x a.locked place fits is in
+      let has = place_held program bag t x a.locked place fits is in
       let none : sum_by (λ d. one_if (lacks d has.0 x)) a.aside ≡ 0 =
       ap (sum_by (λ d. one_if (lacks d has.0 x))) alone in
       record {
@@ -225,14 +222,14 @@ module _ {p : Accounts} {n : ℕ} {m : Machine} {t : ℕ} {a : Actor} where
 pub silent_fits : (p : Module) (n : ℕ) (m : StepMachine) (t : ℕ) (a : StepActor) (moves : List Move) (place : Place)
     → (whole : CodeInvariant p n m) → slice_get m.actors t ≡ Some a
     → AtRest whole.accounts n (counting m) t a.actor
-    → SilentTaken (code_of (slice_get p.functions a.function)) (scene_of (counting m) t a.actor) moves place
-    → a.actor.lent ≡ lent_at (code_of (slice_get p.functions a.function)) place
-    → SilentFits p whole.accounts n m t a moves place
+    → SilentTaken (program_of m.functions m.states a) (scene_of (counting m) t a.actor) moves place
+    → a.actor.lent ≡ lent_at (program_of m.functions m.states a) place
+    → SilentFits whole.accounts n m t a moves place
 silent_fits p n m t a moves place whole found at taken lent =
-    let code = code_of (slice_get p.functions a.function) in
+    let program = program_of m.functions m.states a in
     let bag = bag_after m.abstract.references moves in
     let own = whole.coded t a found in
-    let placed = placed_by code bag t [] a.actor.locked place taken.placed in
+    let placed = placed_by program bag t [] a.actor.locked place taken.placed in
     record {
       at = at;
       account = placed.account;
@@ -243,8 +240,8 @@ silent_fits p n m t a moves place whole found at taken lent =
         alone = own.alone;
         moves_fit = taken.moves_fit;
         holds = placed.holds;
-        bounded = says_bounded m.layout code place a.actor.locked placed.account placed.says;
-        locks = silent_locks bag code place placed.account at own.alone taken.placed placed.holds;
+        bounded = says_bounded m.layout program place a.actor.locked placed.account placed.says;
+        locks = silent_locks bag program place placed.account at own.alone taken.placed placed.holds;
       };
     }
 
@@ -260,9 +257,9 @@ finds_full c n m t a _ rest doing = tt
 
 taken_fits : (p : Module) (n : ℕ) (m : StepMachine) (t : ℕ) (a : StepActor) (x : Action) → (whole : CodeInvariant p n m)
     → slice_get m.actors t ≡ Some a → AtRest whole.accounts n (counting m) t a.actor
-    → IsTaken (code_of (slice_get p.functions a.function)) (scene_of (counting m) t a.actor) x
-    → FollowsLent (code_of (slice_get p.functions a.function)) a.actor.lent x
-    → ActionFits p whole.accounts n m t a x
+    → IsTaken (program_of m.functions m.states a) (scene_of (counting m) t a.actor) x
+    → FollowsLent (program_of m.functions m.states a) a.actor.lent x
+    → ActionFits whole.accounts n m t a x
 taken_fits p n m t a Skip whole found at taken lent = absurd taken
 taken_fits p n m t a Stuck whole found at taken lent = absurd taken
 taken_fits p n m t a (Silent moves place) whole found at taken lent =
@@ -277,7 +274,8 @@ taken_fits p n m t a (Does d rest place) whole found at taken lent =
     let there = place word in
     let begun = taken word in
     let own = whole.coded t a found in
-    let here = taken_sits p c n (counting m) t a word there d rest at own.alone begun in
+    let here = taken_sits (program_of m.functions m.states a) c n (counting m) t a word there d rest at own.alone
+    begun in
     let doing =
     sits_down d rest here.account whole.kept at here.sits
     (starts_settled (scene_of (counting m) t a.actor) a.actor.head there d rest begun.starts begun.follows) in
@@ -297,23 +295,19 @@ taken_fits p n m t a (Does d rest place) whole found at taken lent =
 -- What a thread sees of kinds is what the invariant says of them.
 sees_kinds : (p : Module) (n : ℕ) (m : StepMachine) (t : ℕ) (a : StepActor) → (whole : CodeInvariant p n m)
     → slice_get m.actors t ≡ Some a
-    → SeesKinds (code_of (slice_get p.functions a.function)) (scene_of (counting m) t a.actor) a.place
+    → SeesKinds (program_of m.functions m.states a) (scene_of (counting m) t a.actor) a.place
 sees_kinds p n m t a whole found = record {
   begins = entry_true (kind_words m) whole.kinds.named;
-  knows = subst (λ (f : List Function). KnowsKinds (code_of (slice_get f a.function)) (kind_words m) a.place)
-      whole.functions (whole.kinds.known t a found);
-  items = subst (λ (f : List Function). KnowsItems (code_of (slice_get f a.function)) m.memory a.actor.locked a.place)
-      whole.functions (whole.items t a found);
+  knows = whole.kinds.known t a found;
+  items = whole.items t a found;
   counted = λ x can. lockable_counted m.layout (kind_words m) x whole.kinds.named whole.mortal can;
   lent = (whole.coded t a found).lent;
-  room = λ awaits. (whole.rooms t a found
-      (ap (λ (f : List Function). awaits_birth (code_of (slice_get f a.function)) a.place)
-      whole.functions ∙ awaits)).room;
+  room = λ awaits. (whole.rooms t a found awaits).room;
 }
 
 agenda_fits : (p : Module) (n : ℕ) (m : StepMachine) (t : ℕ) (a : StepActor) (agenda : List Duty)
     → (whole : CodeInvariant p n m) → slice_get m.actors t ≡ Some a → a.actor.status ≢ Gone → a.actor.agenda ≡ agenda
-    → ActionFits p whole.accounts n m t a (agenda_action m.functions m.layout t a agenda)
+    → ActionFits whole.accounts n m t a (agenda_action m.functions m.layout t a agenda)
 agenda_fits p n m t a [] whole found alive is =
     let c = whole.accounts in
     let there = its_found m t a found in
@@ -321,16 +315,15 @@ agenda_fits p n m t a [] whole found alive is =
     let at : AtRest c n (counting m) t a.actor =
     record { core = whole.kept.core; found = there; agenda = is; running = at_rest } in
     taken_fits p n m t a (agenda_action m.functions m.layout t a []) whole found at
-    (dispatch_fits p c n m t a at whole.functions (whole.coded t a found) (sees_kinds p n m t a whole found))
-    (subst (λ (f : List Function). FollowsLent (code_of (slice_get p.functions a.function)) a.actor.lent
-    (dispatch m.layout t a.actor.used (code_of (slice_get f a.function)) a.place)) (sym whole.functions)
-    (dispatch_lent (code_of (slice_get p.functions a.function)) m.layout t a.actor.used a.place a.actor.lent
-    (whole.coded t a found).lent))
+    (dispatch_fits (program_of m.functions m.states a) c n m t a at whole.sound (whole.coded t a found)
+    (sees_kinds p n m t a whole found))
+    (dispatch_lent (program_of m.functions m.states a) m.layout t a.actor.used a.place a.actor.lent
+    (whole.coded t a found).lent)
 agenda_fits p n m t a (d ∷ rest) whole found alive is = duty_fits p n m t a d rest whole found alive is
 
 pub status_fits : (p : Module) (n : ℕ) (m : StepMachine) (t : ℕ) (a : StepActor) (status : Status)
     → (whole : CodeInvariant p n m) → slice_get m.actors t ≡ Some a → a.actor.status ≡ status
-    → ActionFits p whole.accounts n m t a (status_action m.functions m.layout t a status)
+    → ActionFits whole.accounts n m t a (status_action m.functions m.layout t a status)
 status_fits p n m t a Gone whole found is = tt
 status_fits p n m t a Running whole found is =
     agenda_fits p n m t a a.actor.agenda whole found (λ e. let wrong : Running ≡ Gone = sym is ∙ e in absurd cc) refl

@@ -6,7 +6,8 @@ use Rattle.std.proofs.lemmas.List.{nil_from_length}
 use Rattle.brc_model.specs.declared.actor.Status.TheVariants.{Running, Gone}
 use Rattle.brc_model.specs.declared.actor.Place.{Place}
 use Rattle.brc_model.specs.declared.actor.Place.TheVariants.{Idle}
-use Rattle.brc_model.specs.Actions.{StepActor, is_idle, may_claim, is_before_instruction, may_stop}
+use Rattle.brc_model.specs.Actions.{StepActor}
+use Rattle.brc_model.specs.Dispatch.{is_idle, may_claim, is_before_instruction, may_stop}
 use Rattle.brc_model.proofs.Stepping.Retains.{running_is}
 use Rattle.brc_model.specs.declared.layout.Layout.{Layout}
 use Rattle.brc_model.specs.Layout.{block_of, index_of}

@@ -1,6 +1,6 @@
 -- The account of a thread of accepted code is the one that its place gives, and its place says whether its exit is
 -- under way. The step world has this layer of the invariant on top of what holds of any thread.
-use Rattle.std.proofs.Common.{◌≡◌, ◌≢◌, ℕ, ◌<◌, ◌≤◌, inl, inr, Bool, true, false, List, [], Option, length, refl, sym, ap, subst, arith, None, Some, ◌∙◌}
+use Rattle.std.proofs.Common.{◌≡◌, ◌≢◌, ℕ, zero, suc, ◌<◌, ◌≤◌, inl, inr, Bool, true, false, List, [], Option, length, refl, sym, ap, subst, arith, None, Some, ◌∙◌}
 use Rattle.std.specs.Prelude.{◌==◌, ◌&&◌, ◌||◌, is_some, slice_get, sum_by}
 use Rattle.std.proofs.lemmas.Bool.{ne_eqb}
 use Rattle.std.proofs.lemmas.Bool.Decides.{eqb_tells}
@@ -9,13 +9,10 @@ use Rattle.brc_model.specs.declared.state.VarState.TheVariants.{Empty}
 use Rattle.brc_model.specs.VarStates.{var_of, is_owned, names}
 use Rattle.brc_model.specs.Threads.{row_of}
 use Rattle.brc_lang.specs.declared.module.Instr.{Instr}
-use Rattle.brc_lang.specs.declared.module.Module.{Module}
 use Rattle.brc_model.specs.declared.state.State.{State}
-use Rattle.brc_model.specs.Paths.{IsAcceptableCode}
 use Rattle.brc_model.specs.declared.duty.Holding.{Holding}
 use Rattle.brc_model.specs.declared.duty.Holding.TheVariants.{ByVariable, AsCaller}
 use Rattle.brc_model.specs.AbstractState.{Reference}
-use Rattle.brc_model.specs.Threads.{code_of}
 use Rattle.brc_model.specs.declared.duty.Duty.{Duty}
 use Rattle.brc_model.specs.declared.actor.Place.{Place}
 use Rattle.brc_model.specs.declared.actor.Place.TheVariants.{Idle, InCall, Inside, Stopping, Exiting}
@@ -27,16 +24,17 @@ use Rattle.brc_model.specs.References.{one_if}
 use Rattle.brc_model.specs.Accounts.{Account, HoldsNone, IsBounded, lacks_of, extra_of}
 use Rattle.brc_model.specs.OpenWork.{exits}
 use Rattle.brc_model.proofs.Dispatch.Stopped.{of_stopped, IsStopped, stopped_bounded}
-use Rattle.brc_model.proofs.Dispatch.Holds.{once_each, nothing, the_root, Activation, call_of, IsActivation, of_variables, of_inside, own_depth, other_depth}
+use Rattle.brc_model.proofs.Dispatch.Holds.{once_each, nothing, the_root, Activation, call_of, of_variables, of_inside, own_depth, other_depth}
 use Rattle.brc_model.proofs.Dispatch.AtOnce.{at_once}
 use Rattle.brc_model.proofs.Dispatch.Lending.{lent_at}
 use Rattle.brc_model.proofs.Dispatch.Guards.{LocksAgree}
-use Rattle.brc_model.proofs.Dispatch.Grounded.{IsInside, AreInstructions}
+use Rattle.brc_model.proofs.Dispatch.Grounded.{IsInside, IsActivation, IsCallable}
 use Rattle.brc_model.proofs.Frame.Aside.{HoldsAlone}
 use Rattle.brc_model.proofs.Basics.Bag.{one_if_low}
 use Rattle.brc_model.specs.declared.layout.Layout.{Layout}
 use Rattle.brc_model.specs.Layout.{root_row}
 use Rattle.brc_model.specs.Limits.{depth_limit}
+use Rattle.brc_model.proofs.Dispatch.Programs.{Program, code_in}
 
 -- Says whether a thread can be so far inside the instruction.
 abbrev pub has_stage : Option Instr → Stage → Bool
@@ -62,22 +60,34 @@ abbrev pub in_flight : Option Instr → Stage → List (Option ℕ) → Option �
 in_flight (Some (Put list index from otherwise)) Retained variables = row_of variables from
 in_flight i stage variables = None
 
+-- A thread that has calls left calls a function without parameters.
+abbrev pub HasCalls : Program → ℕ → Type 0
+HasCalls program zero = Unit {0}
+HasCalls program (suc left) = IsCallable program
+
+-- A thread whose function has no parameters may call it once more.
+pub has_calls : (program : Program) (left : ℕ) → IsCallable program → HasCalls program left
+has_calls program zero callable = tt
+has_calls program (suc left) callable = callable
+
 -- What the place says of the row that the thread has locked, and the account that it gives the thread, which the thread
 -- has once its agenda is done.
-abbrev pub PlaceSays : List Instr → Place → Option ℕ → Account → Type 0
-PlaceSays code (Idle left) locked account = (locked ≡ None) × (account ≡ once_each the_root)
-PlaceSays code (InCall context at variables) locked account =
-    (s : State) × IsInside (call_of code context) at variables s × LocksAgree s variables locked
-    × (account ≡ once_each (of_variables (call_of code context) s variables))
-PlaceSays code (Inside context at variables stage) locked account =
-    (s : State) × IsInside (call_of code context) at variables s × LocksAgree s variables locked
+abbrev pub PlaceSays : Program → Place → Option ℕ → Account → Type 0
+PlaceSays program (Idle left) locked account =
+    (locked ≡ None) × (account ≡ once_each the_root) × HasCalls program left
+PlaceSays program (InCall context at variables) locked account =
+    (s : State) × IsInside (call_of program context) at variables s × LocksAgree s variables locked
+    × (account ≡ once_each (of_variables (call_of program context) s variables))
+PlaceSays program (Inside context at variables stage) locked account =
+    (s : State) × IsInside (call_of program context) at variables s × LocksAgree s variables locked
     × (account
-    ≡ once_each (of_inside (call_of code context) (in_flight (slice_get code at) stage variables) s variables))
-    × (has_stage (slice_get code at) stage ≡ true)
-PlaceSays code (Stopping lock calls) locked account =
+    ≡ once_each (of_inside (call_of program context) (in_flight (slice_get (code_in program context) at) stage
+    variables) s variables))
+    × (has_stage (slice_get (code_in program context) at) stage ≡ true)
+PlaceSays program (Stopping lock calls) locked account =
     (locked ≡ lock) × IsStopped lock calls × ((is_some lock || holds_some calls) ≡ true)
     × (account ≡ once_each (of_stopped calls))
-PlaceSays code Exiting locked account = (locked ≡ None) × (account ≡ once_each nothing)
+PlaceSays program Exiting locked account = (locked ≡ None) × (account ≡ once_each nothing)
 
 -- Says whether the place is that of a thread whose exit is under way or done.
 abbrev pub is_departing : Place → Bool
@@ -95,17 +105,15 @@ pub stays_elsewhere : (place : Place) → place ≢ Exiting → is_departing pla
 stays_elsewhere Exiting stays = absurd (stays refl)
 stays_elsewhere _ stays = cc
 
-pub record InCode (p : Module) (a : StepActor) (account : Account) : Type 0 where
+pub record InCode (program : Program) (a : StepActor) (account : Account) : Type 0 where
   -- Code does one piece of work at a time.
   pub alone : a.actor.aside ≡ []
   -- A lock, an unlock, a swap of a cell, and lending or returning a resource are one step each, so no agenda has one.
   pub plain : sum_by at_once a.actor.agenda ≡ 0
-  pub accepted : IsAcceptableCode (code_of (slice_get p.functions a.function))
-  pub instructions : AreInstructions (code_of (slice_get p.functions a.function))
-  pub says : PlaceSays (code_of (slice_get p.functions a.function)) a.place a.actor.locked account
+  pub says : PlaceSays program a.place a.actor.locked account
   pub departs : exits a.actor.status a.actor.agenda ≡ is_departing a.place
   -- The place says what the thread has lent.
-  pub lent : a.actor.lent ≡ lent_at (code_of (slice_get p.functions a.function)) a.place
+  pub lent : a.actor.lent ≡ lent_at program a.place
 
 -- ---- what the thread holds
 
@@ -120,102 +128,106 @@ alone_with bag t account agenda lacks extra holds = record {
 
 -- The place is true of the thread's lock, and the bag has just the references that the place gives the thread, but for
 -- what the first duty makes or gives up.
-abbrev pub PlaceFits : List Instr → List Reference → ℕ → List Duty → Option ℕ → Place → Type 0
-PlaceFits code bag t agenda locked (Idle left) = (locked ≡ None) × HoldsAlone bag t (once_each the_root) agenda
-PlaceFits code bag t agenda locked (InCall context at variables) =
-    (s : State) × IsInside (call_of code context) at variables s × LocksAgree s variables locked
-    × HoldsAlone bag t (once_each (of_variables (call_of code context) s variables)) agenda
-PlaceFits code bag t agenda locked (Inside context at variables stage) =
-    (s : State) × IsInside (call_of code context) at variables s × LocksAgree s variables locked
+abbrev pub PlaceFits : Program → List Reference → ℕ → List Duty → Option ℕ → Place → Type 0
+PlaceFits program bag t agenda locked (Idle left) =
+    (locked ≡ None) × HoldsAlone bag t (once_each the_root) agenda × HasCalls program left
+PlaceFits program bag t agenda locked (InCall context at variables) =
+    (s : State) × IsInside (call_of program context) at variables s × LocksAgree s variables locked
+    × HoldsAlone bag t (once_each (of_variables (call_of program context) s variables)) agenda
+PlaceFits program bag t agenda locked (Inside context at variables stage) =
+    (s : State) × IsInside (call_of program context) at variables s × LocksAgree s variables locked
     × HoldsAlone bag t
-    (once_each (of_inside (call_of code context) (in_flight (slice_get code at) stage variables) s variables)) agenda
-    × (has_stage (slice_get code at) stage ≡ true)
-PlaceFits code bag t agenda locked (Stopping lock calls) =
+    (once_each (of_inside (call_of program context) (in_flight (slice_get (code_in program context) at) stage variables)
+    s variables)) agenda
+    × (has_stage (slice_get (code_in program context) at) stage ≡ true)
+PlaceFits program bag t agenda locked (Stopping lock calls) =
     (locked ≡ lock) × IsStopped lock calls × ((is_some lock || holds_some calls) ≡ true)
     × HoldsAlone bag t (once_each (of_stopped calls)) agenda
-PlaceFits code bag t agenda locked Exiting = (locked ≡ None) × HoldsAlone bag t (once_each nothing) agenda
+PlaceFits program bag t agenda locked Exiting = (locked ≡ None) × HoldsAlone bag t (once_each nothing) agenda
 
-pub place_fits : (code : List Instr) (bag : List Reference) (t : ℕ) (agenda : List Duty) (locked : Option ℕ)
+pub place_fits : (program : Program) (bag : List Reference) (t : ℕ) (agenda : List Duty) (locked : Option ℕ)
     (place : Place) (account : Account)
-    → PlaceSays code place locked account → HoldsAlone bag t account agenda
-    → PlaceFits code bag t agenda locked place
-place_fits code bag t agenda locked (Idle left) account says holds =
-    (says.0, subst (λ (c : Account). HoldsAlone bag t c agenda) says.1 holds)
-place_fits code bag t agenda locked (InCall context at variables) account says holds =
+    → PlaceSays program place locked account → HoldsAlone bag t account agenda
+    → PlaceFits program bag t agenda locked place
+place_fits program bag t agenda locked (Idle left) account says holds =
+    (says.0, subst (λ (c : Account). HoldsAlone bag t c agenda) says.1 holds, says.2)
+place_fits program bag t agenda locked (InCall context at variables) account says holds =
     (says.0, says.1, says.2, subst (λ (c : Account). HoldsAlone bag t c agenda) says.3 holds)
-place_fits code bag t agenda locked (Inside context at variables stage) account says holds =
+place_fits program bag t agenda locked (Inside context at variables stage) account says holds =
     (says.0, says.1, says.2, subst (λ (c : Account). HoldsAlone bag t c agenda) says.3 holds, says.4)
-place_fits code bag t agenda locked (Stopping lock calls) account says holds =
+place_fits program bag t agenda locked (Stopping lock calls) account says holds =
     (says.0, says.1, says.2, subst (λ (c : Account). HoldsAlone bag t c agenda) says.3 holds)
-place_fits code bag t agenda locked Exiting account says holds =
+place_fits program bag t agenda locked Exiting account says holds =
     (says.0, subst (λ (c : Account). HoldsAlone bag t c agenda) says.1 holds)
 
 -- The account that the place gives, with the bag that it fits.
-pub record Placed (code : List Instr) (bag : List Reference) (t : ℕ) (agenda : List Duty) (locked : Option ℕ)
+pub record Placed (program : Program) (bag : List Reference) (t : ℕ) (agenda : List Duty) (locked : Option ℕ)
     (place : Place) : Type 0 where
   pub account : Account
-  pub says : PlaceSays code place locked account
+  pub says : PlaceSays program place locked account
   pub holds : HoldsAlone bag t account agenda
 
-pub placed_by : (code : List Instr) (bag : List Reference) (t : ℕ) (agenda : List Duty) (locked : Option ℕ)
+pub placed_by : (program : Program) (bag : List Reference) (t : ℕ) (agenda : List Duty) (locked : Option ℕ)
     (place : Place)
-    → PlaceFits code bag t agenda locked place → Placed code bag t agenda locked place
-placed_by code bag t agenda locked (Idle left) fits =
-    record { account = once_each the_root; says = (fits.0, refl); holds = fits.1 }
-placed_by code bag t agenda locked (InCall context at variables) fits =
+    → PlaceFits program bag t agenda locked place → Placed program bag t agenda locked place
+placed_by program bag t agenda locked (Idle left) fits =
+    record { account = once_each the_root; says = (fits.0, refl, fits.2); holds = fits.1 }
+placed_by program bag t agenda locked (InCall context at variables) fits =
     record {
-      account = once_each (of_variables (call_of code context) fits.0 variables);
+      account = once_each (of_variables (call_of program context) fits.0 variables);
       says = (fits.0, fits.1, fits.2, refl);
       holds = fits.3;
     }
-placed_by code bag t agenda locked (Inside context at variables stage) fits =
+placed_by program bag t agenda locked (Inside context at variables stage) fits =
     record {
       account =
-          once_each (of_inside (call_of code context) (in_flight (slice_get code at) stage variables) fits.0 variables);
+          once_each (of_inside (call_of program context) (in_flight (slice_get (code_in program context) at) stage
+          variables) fits.0 variables);
       says = (fits.0, fits.1, fits.2, refl, fits.4);
       holds = fits.3;
     }
-placed_by code bag t agenda locked (Stopping lock calls) fits = record {
+placed_by program bag t agenda locked (Stopping lock calls) fits = record {
   account = once_each (of_stopped calls);
   says = (fits.0, fits.1, fits.2, refl);
   holds = fits.3;
 }
-placed_by code bag t agenda locked Exiting fits =
+placed_by program bag t agenda locked Exiting fits =
     record { account = once_each nothing; says = (fits.0, refl); holds = fits.1 }
 
 -- A place that fits a thread at rest fits it with a duty that neither makes nor gives up a reference.
-pub fits_with : (code : List Instr) (bag : List Reference) (t : ℕ) (agenda : List Duty) (locked : Option ℕ)
+pub fits_with : (program : Program) (bag : List Reference) (t : ℕ) (agenda : List Duty) (locked : Option ℕ)
     (place : Place)
     → ((k : Holding) (object : ℕ) → lacks_of agenda k object ≡ false)
     → ((k : Holding) (object : ℕ) → extra_of agenda k object ≡ false)
-    → PlaceFits code bag t [] locked place → PlaceFits code bag t agenda locked place
-fits_with code bag t agenda locked (Idle left) lacks extra fits =
-    (fits.0, alone_with bag t (once_each the_root) agenda lacks extra fits.1)
-fits_with code bag t agenda locked (InCall context at variables) lacks extra fits =
-    let holds = once_each (of_variables (call_of code context) fits.0 variables) in
+    → PlaceFits program bag t [] locked place → PlaceFits program bag t agenda locked place
+fits_with program bag t agenda locked (Idle left) lacks extra fits =
+    (fits.0, alone_with bag t (once_each the_root) agenda lacks extra fits.1, fits.2)
+fits_with program bag t agenda locked (InCall context at variables) lacks extra fits =
+    let holds = once_each (of_variables (call_of program context) fits.0 variables) in
     (fits.0, fits.1, fits.2, alone_with bag t holds agenda lacks extra fits.3)
-fits_with code bag t agenda locked (Inside context at variables stage) lacks extra fits =
+fits_with program bag t agenda locked (Inside context at variables stage) lacks extra fits =
     let holds =
-    once_each (of_inside (call_of code context) (in_flight (slice_get code at) stage variables) fits.0 variables) in
+    once_each (of_inside (call_of program context) (in_flight (slice_get (code_in program context) at) stage variables)
+    fits.0 variables) in
     (fits.0, fits.1, fits.2, alone_with bag t holds agenda lacks extra fits.3, fits.4)
-fits_with code bag t agenda locked (Stopping lock calls) lacks extra fits =
+fits_with program bag t agenda locked (Stopping lock calls) lacks extra fits =
     (fits.0, fits.1, fits.2, alone_with bag t (once_each (of_stopped calls)) agenda lacks extra fits.3)
-fits_with code bag t agenda locked Exiting lacks extra fits =
+fits_with program bag t agenda locked Exiting lacks extra fits =
     (fits.0, alone_with bag t (once_each nothing) agenda lacks extra fits.1)
 
 -- A thread whose exit is under way holds nothing.
-pub exited_none : (code : List Instr) (place : Place) (locked : Option ℕ) (account : Account)
-    → PlaceSays code place locked account
+pub exited_none : (program : Program) (place : Place) (locked : Option ℕ) (account : Account)
+    → PlaceSays program place locked account
     → place ≡ Exiting → HoldsNone account
-exited_none code Exiting locked account says e k object = ap (λ (c : Account). c k object) says.1
-exited_none code _ locked account says e k object = cc
+exited_none program Exiting locked account says e k object = ap (λ (c : Account). c k object) says.1
+exited_none program _ locked account says e k object = cc
 
 -- A thread outside its calls has locked nothing.
-pub idle_unlocked : (code : List Instr) (left : ℕ) (place : Place) (locked : Option ℕ) (account : Account)
-    → PlaceSays code place locked account → place ≡ Idle left → locked ≡ None
-idle_unlocked code left (Idle other) locked account says e = says.0
-idle_unlocked code left Exiting locked account says e = says.0
-idle_unlocked code left _ locked account says e = cc
+pub idle_unlocked : (program : Program) (left : ℕ) (place : Place) (locked : Option ℕ) (account : Account)
+    → PlaceSays program place locked account → place ≡ Idle left → locked ≡ None
+idle_unlocked program left (Idle other) locked account says e = says.0
+idle_unlocked program left Exiting locked account says e = says.0
+idle_unlocked program left _ locked account says e = cc
 
 -- ---- how much the thread holds
 
@@ -296,18 +308,18 @@ inside_bounded layout call flight s variables is vars = record {
   in_flight = λ object. one_if_low (names flight object);
 }
 
-pub says_bounded : (layout : Layout) (code : List Instr) (place : Place) (locked : Option ℕ) (account : Account)
-    → PlaceSays code place locked account → IsBounded layout account
-says_bounded layout code (Idle left) locked account says =
+pub says_bounded : (layout : Layout) (program : Program) (place : Place) (locked : Option ℕ) (account : Account)
+    → PlaceSays program place locked account → IsBounded layout account
+says_bounded layout program (Idle left) locked account says =
     subst (IsBounded layout) (sym says.1) (root_bounded layout)
-says_bounded layout code (InCall context at variables) locked account says =
-    subst (IsBounded layout) (sym says.3) (variables_bounded layout (call_of code context) says.0 variables
+says_bounded layout program (InCall context at variables) locked account says =
+    subst (IsBounded layout) (sym says.3) (variables_bounded layout (call_of program context) says.0 variables
     says.1.is_call says.1.vars)
-says_bounded layout code (Inside context at variables stage) locked account says =
-    let flight = in_flight (slice_get code at) stage variables in
+says_bounded layout program (Inside context at variables stage) locked account says =
+    let flight = in_flight (slice_get (code_in program context) at) stage variables in
     subst (IsBounded layout) (sym says.3)
-    (inside_bounded layout (call_of code context) flight says.0 variables says.1.is_call says.1.vars)
-says_bounded layout code (Stopping lock calls) locked account says =
+    (inside_bounded layout (call_of program context) flight says.0 variables says.1.is_call says.1.vars)
+says_bounded layout program (Stopping lock calls) locked account says =
     subst (IsBounded layout) (sym says.3) (stopped_bounded layout lock calls says.1)
-says_bounded layout code Exiting locked account says =
+says_bounded layout program Exiting locked account says =
     subst (IsBounded layout) (sym says.1) (nothing_bounded layout)

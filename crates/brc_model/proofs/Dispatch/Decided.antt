@@ -1,7 +1,7 @@
 -- The word that a duty finds, the exit of a host call, or what a thread holds where it stops may decide where the
 -- thread goes on: what holds of each place that it can be holds of the one that it is.
 use Rattle.std.proofs.Common.{ℕ, zero, suc, ◌<◌, cond, List, [], ◌∷◌, length, Option, None, Some}
-use Rattle.std.specs.Prelude.{◌||◌, nat_lt, is_some, map, slice_set}
+use Rattle.std.specs.Prelude.{◌||◌, nat_lt, is_some, slice_set}
 use Rattle.std.specs.List.{list_any}
 use Rattle.std.proofs.lemmas.Bool.{ltb-true}
 use Rattle.brc_model.specs.declared.state.Exit.{Exit}
@@ -12,9 +12,10 @@ use Rattle.brc_model.specs.declared.actor.Place.TheVariants.{Idle, InCall, Insid
 use Rattle.brc_model.specs.declared.duty.Holding.TheVariants.{ByVariable}
 use Rattle.brc_model.specs.declared.duty.Duty.TheVariants.{ReleaseLoad, Settle}
 use Rattle.brc_model.specs.Duties.{cells_of}
-use Rattle.brc_model.specs.Threads.{row_of}
-use Rattle.brc_model.specs.Actions.{Action, Skip, Stuck, Silent, Does, always, with_row, by_range, by_item, by_exit, owned_rows, row_locked, none_of, holds_some, stopping, first_named, give_up_first, give_up, stop_in_call, stop_action}
+use Rattle.brc_model.specs.Threads.{row_of, number_under}
+use Rattle.brc_model.specs.Actions.{Action, Skip, Stuck, Silent, Does, always, with_row, by_range, by_item, by_exit, owned_rows, row_locked, holds_some, stopping, first_named, give_up_first, give_up, stop_in_call, stop_action, given_up}
 use Rattle.brc_model.proofs.Basics.Lists.{either}
+use Rattle.brc_lang.specs.declared.module.Function.{Function}
 
 -- The list's kind word says whether the list has the cell.
 pub range_decides : (P : Place → Type 0) (inside outside : Place) (index found : ℕ)
@@ -41,18 +42,20 @@ stopping_decides P lock calls stops ends =
     either P (is_some lock || holds_some calls) (Stopping lock calls) (Idle 0) (λ some. stops) ends
 
 -- A stop leads there silently, from any place where it acts.
-pub stop_decides : (Q : Action → Type 0) (states : ℕ → Option State) (place : Place) → Q Skip → Q Stuck
+pub stop_decides : (Q : Action → Type 0) (functions : List Function) (states : ℕ → ℕ → Option State) (first : ℕ)
+    (place : Place) → Q Skip → Q Stuck
     → ((lock : Option ℕ) (calls : List (List (Option ℕ))) → Q (Silent [] (stopping lock calls)))
-    → Q (Silent [] (Idle 0)) → Q (stop_action states place)
-stop_decides Q states (Idle left) skips stuck stops ends = ends
-stop_decides Q states (InCall context at variables) skips stuck stops ends =
-    elim (states at) as (λ o. Q (stop_in_call context variables o)) [
+    → Q (Silent [] (Idle 0)) → Q (stop_action functions states first place)
+stop_decides Q functions states first (Idle left) skips stuck stops ends = ends
+stop_decides Q functions states first (InCall context at variables) skips stuck stops ends =
+    let outer = given_up functions states first context.outer in
+    elim (states (number_under first context.outer) at) as (λ o. Q (stop_in_call outer variables o)) [
       | None ↦ stuck
-      | Some s ↦ stops (row_locked s.locked variables) (owned_rows s.vars variables ∷ map none_of context.outer)
+      | Some s ↦ stops (row_locked s.locked variables) (owned_rows s.vars variables ∷ outer)
     ]
-stop_decides Q states (Inside context at variables stage) skips stuck stops ends = skips
-stop_decides Q states (Stopping lock calls) skips stuck stops ends = skips
-stop_decides Q states Exiting skips stuck stops ends = skips
+stop_decides Q functions states first (Inside context at variables stage) skips stuck stops ends = skips
+stop_decides Q functions states first (Stopping lock calls) skips stuck stops ends = skips
+stop_decides Q functions states first Exiting skips stuck stops ends = skips
 
 -- What a stopped thread gives up next: a reference of one of its calls.
 pub give_up_decides : (Q : Action → Type 0) → Q Stuck

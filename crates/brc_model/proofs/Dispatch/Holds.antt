@@ -1,25 +1,25 @@
 -- What a thread holds by its place, each reference once: in a call what the variables name that own a reference in the
 -- path's state, and beside it what the calls further out hold; the root as the caller that lends it.
-use Rattle.std.proofs.Common.{◌≡◌, ℕ, zero, suc, ◌<◌, Bool, true, false, List, Option, None, Some, cond, inl, inr, refl, sym, ap, ◌∙◌, subst, arith}
+use Rattle.std.proofs.Common.{◌≡◌, ℕ, ◌<◌, ◌≤◌, Bool, true, false, List, [], ◌∷◌, length, Option, None, Some, cond, inl, inr, refl, sym, ap, ◌∙◌, subst, arith}
 use Rattle.std.specs.Prelude.{◌==◌, ◌&&◌, if◌then◌else◌}
 use Rattle.std.specs.List.{list_any}
 use Rattle.std.proofs.lemmas.Bool.{eq-eqb, ne_eqb}
 use Rattle.std.proofs.lemmas.Bool.Decides.{eqb_tells}
-use Rattle.brc_lang.specs.declared.module.Instr.{Instr}
 use Rattle.brc_model.specs.declared.state.VarState.TheVariants.{Empty}
 use Rattle.brc_model.specs.declared.state.State.{State}
-use Rattle.brc_model.specs.VarStates.{var_of, is_owned, names, entry}
+use Rattle.brc_model.specs.VarStates.{var_of, is_owned, names}
 use Rattle.brc_model.specs.declared.actor.Context.{Context}
+use Rattle.brc_model.specs.declared.actor.OpenCall.{OpenCall}
 use Rattle.brc_model.specs.declared.duty.Holding.{Holding}
 use Rattle.brc_model.specs.declared.duty.Holding.TheVariants.{ByVariable, AsCaller, InFlight}
 use Rattle.brc_model.specs.AbstractState.{Reference}
-use Rattle.brc_model.specs.Actions.{depth_of}
-use Rattle.brc_model.specs.Threads.{row_of, entry_variables}
-use Rattle.brc_model.proofs.Basics.Lists.{none_at, get_or-replicate_default}
+use Rattle.brc_model.specs.Actions.{waiting_state}
+use Rattle.brc_model.specs.Threads.{row_of}
+use Rattle.brc_model.proofs.Basics.Lists.{none_at}
+use Rattle.brc_model.proofs.Dispatch.Programs.{Program, number_of}
 use Rattle.brc_model.specs.References.{held, one_if, reference_of}
 use Rattle.brc_model.specs.Accounts.{Account}
 use Rattle.brc_model.specs.Layout.{root_row}
-use Rattle.brc_model.specs.Limits.{depth_limit}
 
 abbrev pub nothing : Holding → ℕ → Bool
 nothing h object = false
@@ -35,32 +35,13 @@ once_each holds k object = one_if (holds k object)
 
 -- ---- a call
 
--- A call, as its own instructions see it: the code of its function, how many calls are open around it, and what the
--- thread holds outside it, by the variables of the calls further out and as the caller of the outermost.
+-- A call, as its own instructions see it: the program, the calls that are open around it, how many these are, and what
+-- the thread holds outside it, by the variables of the calls further out and as the caller of the outermost.
 pub record Activation : Type 0 where
-  pub code : List Instr
+  pub program : Program
+  pub outer : List OpenCall
   pub depth : ℕ
   pub outside : Holding → ℕ → Bool
-
--- The innermost call of a thread in the function with this code. No call further out holds anything, so outside it the
--- thread holds the root alone.
-abbrev pub call_of : List Instr → Context → Activation
-call_of code context = record { code = code; depth = depth_of context; outside = the_root }
-
--- Not by a variable of the call itself, but by one of a call further out, or as the caller.
-abbrev pub IsOuter : ℕ → Holding → Type 0
-IsOuter depth (ByVariable other v) = other < depth
-IsOuter depth AsCaller = Unit {0}
-IsOuter depth InFlight = ⊥
-
--- The call is one of few open ones. Outside it the thread holds references by the variables of calls further out.
-pub record IsActivation (call : Activation) : Type 0 where
-  pub shallow : call.depth < depth_limit
-  pub outer : (depth v object : ℕ) → call.outside (ByVariable depth v) object ≡ true → (depth < call.depth) × (v < 16)
-
-pub outermost : (code : List Instr) (context : Context) → depth_of context ≡ 0 → IsActivation (call_of code context)
-outermost code context none =
-    record { shallow = omega (arith, none); outer = λ depth v object held. absurd cc }
 
 -- The references of a thread in a call: what its owning variables name, and what the thread holds outside the call.
 abbrev pub of_variables : Activation → State → List (Option ℕ) → Holding → ℕ → Bool
@@ -69,6 +50,38 @@ of_variables call s variables (ByVariable depth v) object =
     else call.outside (ByVariable depth v) object
 of_variables call s variables AsCaller object = call.outside AsCaller object
 of_variables call s variables InFlight object = false
+
+-- The same of a call whose point may have no state: without one its variables hold nothing.
+abbrev pub of_state : Activation → Option State → List (Option ℕ) → Holding → ℕ → Bool
+of_state call None variables = call.outside
+of_state call (Some s) variables = of_variables call s variables
+
+-- What a thread holds outside a call with these calls open around it: by the variables of each what its state owns
+-- while it waits, and the root as the caller of the outermost.
+abbrev pub outer_holds : Program → List OpenCall → Holding → ℕ → Bool
+outer_holds program [] = the_root
+outer_holds program (o ∷ outer) =
+    of_state (record {
+      program = program;
+      outer = outer;
+      depth = length outer;
+      outside = outer_holds program outer;
+    }) (waiting_state program.functions program.states (number_of program outer) o) o.variables
+
+-- a call around which these calls are open
+abbrev pub activation : Program → List OpenCall → Activation
+activation program outer =
+    record { program = program; outer = outer; depth = length outer; outside = outer_holds program outer }
+
+-- the innermost call of a thread, in this context
+abbrev pub call_of : Program → Context → Activation
+call_of program context = activation program context.outer
+
+-- Not by a variable of the call itself, but by one of a call further out, or as the caller.
+abbrev pub IsOuter : ℕ → Holding → Type 0
+IsOuter depth (ByVariable other v) = other < depth
+IsOuter depth AsCaller = Unit {0}
+IsOuter depth InFlight = ⊥
 
 -- The references of a thread in a call that has one more in flight, or none: inside an instruction it may have made a
 -- reference for a cell.
@@ -116,12 +129,12 @@ by_depth call P own other depth v = elim (eqb_tells depth call.depth) [
   | inr apart ↦ other depth v apart.0
 ]
 
-outer_holds : (call : Activation) (s : State) (variables : List (Option ℕ)) (by : Holding) (object : ℕ)
+pub further_holds : (call : Activation) (s : State) (variables : List (Option ℕ)) (by : Holding) (object : ℕ)
     → IsOuter call.depth by → of_variables call s variables by object ≡ call.outside by object
-outer_holds call s variables (ByVariable depth v) object outer =
+further_holds call s variables (ByVariable depth v) object outer =
     other_depth call s variables depth v object (ne_eqb depth call.depth (λ e. absurd (omega (arith, e, outer))))
-outer_holds call s variables AsCaller object outer = refl
-outer_holds call s variables InFlight object outer = absurd outer
+further_holds call s variables AsCaller object outer = refl
+further_holds call s variables InFlight object outer = absurd outer
 
 -- ---- single references
 
@@ -138,7 +151,7 @@ pub holds_variables : (bag : List Reference) (t : ℕ) (call : Activation) (s : 
 holds_variables bag t call s rows holds = record {
   by_variable = λ v object.
       holds.each (ByVariable call.depth v) object ∙ ap one_if (own_depth call s rows v object);
-  outside = λ by object outer. holds.each by object ∙ ap one_if (outer_holds call s rows by object outer);
+  outside = λ by object outer. holds.each by object ∙ ap one_if (further_holds call s rows by object outer);
 }
 
 inside_outer : (call : Activation) (flight : Option ℕ) (s : State) (rows : List (Option ℕ)) (by : Holding)
@@ -156,7 +169,7 @@ holds_inside bag t call flight s rows holds = record {
       holds.each (ByVariable call.depth v) object ∙ ap one_if (own_depth call s rows v object);
   outside = λ by object outer.
       holds.each by object ∙ ap one_if (inside_outer call flight s rows by object outer)
-      ∙ ap one_if (outer_holds call s rows by object outer);
+      ∙ ap one_if (further_holds call s rows by object outer);
 }
 
 pub variable_has : (bag : List Reference) (t : ℕ) (call : Activation) (s : State) (rows : List (Option ℕ))
@@ -172,11 +185,7 @@ pub owned_has : (bag : List Reference) (t : ℕ) (call : Activation) (s : State)
 owned_has bag t call s rows from row owned is holds =
     variable_has bag t call s rows from row owned is (holds_variables bag t call s rows holds)
 
--- ---- the beginning and the end of a call
-
-entry_owns_none : (v : ℕ) → is_owned (var_of entry v) ≡ false
-entry_owns_none zero = refl
-entry_owns_none (suc v) = ap is_owned (get_or-replicate_default 15 v Empty)
+-- ---- the end of a call
 
 -- If no variable owns a reference, the thread holds what it holds outside the call.
 pub owning_none : (call : Activation) (s : State) (rows : List (Option ℕ))
@@ -194,28 +203,53 @@ owning_none call s rows none own flight (ByVariable depth v) object =
     (λ d w apart. other_depth call s rows d w object apart)
     depth v
 
--- At the beginning of an outermost call a thread holds the root alone.
-pub holds-entered : (bag : List Reference) (t : ℕ) (code : List Instr) (context : Context) → Holds bag t the_root
-    → Holds bag t (of_variables (call_of code context) entry entry_variables)
-holds-entered bag t code context holds =
-    let call = call_of code context in
-    record {
-      each = λ h object.
-          holds.each h object
-          ∙ ap one_if (sym (owning_none call entry entry_variables entry_owns_none (λ v o. refl) (λ o. refl) h object));
-    }
+-- Outside its calls a thread has nothing in flight.
+pub none_in_flight : (program : Program) (outer : List OpenCall) (object : ℕ)
+    → outer_holds program outer InFlight object ≡ false
+none_in_flight program [] object = refl
+none_in_flight program (o ∷ outer) object =
+    elim (waiting_state program.functions program.states (number_of program outer) o) as
+    (λ w. of_state (activation program outer) w o.variables InFlight object ≡ false) [
+      | None ↦ none_in_flight program outer object
+      | Some s ↦ refl
+    ]
 
--- If no variable owns a reference, the thread holds the root alone, as after a call.
-pub ended_says : (code : List Instr) (context : Context) (s : State) (variables : List (Option ℕ)) (k : Holding)
+-- However many calls are open, the thread holds the root as the caller of the outermost.
+pub as_caller : (program : Program) (outer : List OpenCall) (object : ℕ)
+    → outer_holds program outer AsCaller object ≡ (object == root_row)
+as_caller program [] object = refl
+as_caller program (o ∷ outer) object =
+    elim (waiting_state program.functions program.states (number_of program outer) o) as
+    (λ w. of_state (activation program outer) w o.variables AsCaller object ≡ (object == root_row)) [
+      | None ↦ as_caller program outer object
+      | Some s ↦ as_caller program outer object
+    ]
+
+-- By the variables of calls that are as deep as these are many the thread holds nothing outside them.
+pub none_as_deep : (program : Program) (outer : List OpenCall) (depth v object : ℕ) → length outer ≤ depth
+    → outer_holds program outer (ByVariable depth v) object ≡ false
+none_as_deep program [] depth v object deep = refl
+none_as_deep program (o ∷ outer) depth v object deep =
+    let further = none_as_deep program outer depth v object (omega (arith, deep)) in
+    elim (waiting_state program.functions program.states (number_of program outer) o) as
+    (λ w. of_state (activation program outer) w o.variables (ByVariable depth v) object ≡ false) [
+      | None ↦ further
+      | Some s ↦
+          other_depth (activation program outer) s o.variables depth v object
+          (ne_eqb depth (length outer) (λ e. absurd (omega (arith, e, deep)))) ∙ further
+    ]
+
+-- If no variable owns a reference, as at the end of a call, the thread holds what it holds outside the call.
+pub ended_says : (program : Program) (outer : List OpenCall) (s : State) (variables : List (Option ℕ)) (k : Holding)
     (object : ℕ) → list_any is_owned s.vars ≡ false
-    → of_variables (call_of code context) s variables k object ≡ the_root k object
-ended_says code context s variables k object none =
-    owning_none (call_of code context) s variables (λ v. none_at is_owned s.vars v Empty none refl) (λ v o. refl)
-    (λ o. refl) k object
+    → of_variables (activation program outer) s variables k object ≡ outer_holds program outer k object
+ended_says program outer s variables k object none =
+    owning_none (activation program outer) s variables (λ v. none_at is_owned s.vars v Empty none refl)
+    (λ v o. none_as_deep program outer (length outer) v o (omega arith)) (none_in_flight program outer) k object
 
-pub holds-ended : (bag : List Reference) (t : ℕ) (code : List Instr) (context : Context) (s : State)
+pub holds-ended : (bag : List Reference) (t : ℕ) (program : Program) (outer : List OpenCall) (s : State)
     (rows : List (Option ℕ)) → list_any is_owned s.vars ≡ false
-    → Holds bag t (of_variables (call_of code context) s rows) → Holds bag t the_root
-holds-ended bag t code context s rows none holds = record {
-  each = λ h object. holds.each h object ∙ ap one_if (ended_says code context s rows h object none);
+    → Holds bag t (of_variables (activation program outer) s rows) → Holds bag t (outer_holds program outer)
+holds-ended bag t program outer s rows none holds = record {
+  each = λ h object. holds.each h object ∙ ap one_if (ended_says program outer s rows h object none);
 }

@@ -1,6 +1,6 @@
 -- What the states and the rows of variables say of items: a variable that borrows from the locked list names an item of
 -- it.
-use Rattle.std.proofs.Common.{◌≡◌, ℕ, zero, suc, ◌<◌, true, false, List, inl, inr, length, Option, None, Some, sym, refl, ap, ◌∙◌, subst, arith}
+use Rattle.std.proofs.Common.{◌≡◌, ℕ, zero, suc, ◌<◌, true, false, List, [], inl, inr, length, Option, None, Some, sym, refl, ap, ◌∙◌, subst, arith}
 use Rattle.std.specs.Prelude.{slice_get, slice_set}
 use Rattle.std.proofs.lemmas.Bool.{false≢true}
 use Rattle.std.proofs.lemmas.Bool.Decides.{eqb_tells}
@@ -16,13 +16,14 @@ use Rattle.brc_model.specs.declared.address.Address.TheVariants.{KindOf, Cell}
 use Rattle.brc_model.specs.declared.state.VarState.{VarState}
 use Rattle.brc_model.specs.declared.state.VarState.TheVariants.{Empty}
 use Rattle.brc_model.specs.declared.state.State.{State}
-use Rattle.brc_model.specs.VarStates.{var_of, with_kind, put, without_item, without_items, entry}
-use Rattle.brc_model.specs.Threads.{row_of, entry_variables}
+use Rattle.brc_model.specs.VarStates.{var_of, with_kind, put, without_item, without_items, entry_of}
+use Rattle.brc_model.specs.Threads.{row_of, entry_variables, function_in}
 use Rattle.brc_model.specs.Duties.{cells_of}
 use Rattle.brc_model.specs.Items.{IsItem, borrows_item, HaveItems, HasCell, StageKnows, KnowsItems}
 use Rattle.brc_model.proofs.Basics.Lists.{none_some, get_or-replicate_default}
 use Rattle.brc_model.proofs.Dispatch.Grounded.{var_of-put_same, var_of-put_other, var_of-without, row_of-set_same, row_of-set_other}
 use Rattle.brc_model.proofs.Frame.Kinds.{StoredStay}
+use Rattle.brc_model.proofs.Dispatch.Programs.{Program, code_in}
 
 -- ---- what a step leaves
 
@@ -35,6 +36,11 @@ pub record ItemsStay (memory new : Address → ℕ) (locked : Option ℕ) : Type
 -- A silent step leaves all words.
 pub all_stay : (memory : Address → ℕ) (locked : Option ℕ) → ItemsStay memory memory locked
 all_stay memory locked = record { kinds = λ x. inr refl; cells = λ x i is. refl }
+
+-- What the thread knows of items at its place: its innermost call alone may borrow any.
+abbrev pub ItemsAt : Program → (Address → ℕ) → Option ℕ → Place → Type 0
+ItemsAt program memory locked place =
+    KnowsItems (function_in program.functions program.first place) memory locked place
 
 module _ (memory new : Address → ℕ) (locked : Option ℕ) (stays : ItemsStay memory new locked) where
   pub item_stays : (x : ℕ) → IsItem memory locked x → IsItem new locked x
@@ -66,17 +72,17 @@ module _ (memory new : Address → ℕ) (locked : Option ℕ) (stays : ItemsStay
   stage_stays rows (Found item) i knows = item_stays item knows
   stage_stays rows stage i knows = tt
 
-  pub knows_stay : (code : List Instr) (place : Place) → KnowsItems code memory locked place
-      → KnowsItems code new locked place
-  knows_stay code (Idle left) knows = tt
-  knows_stay code (InCall context at variables) knows =
+  pub knows_stay : (program : Program) (place : Place) → ItemsAt program memory locked place
+      → ItemsAt program new locked place
+  knows_stay program (Idle left) knows = tt
+  knows_stay program (InCall context at variables) knows =
       λ exits s arrived. items_stay s variables (knows exits s arrived)
-  knows_stay code (Inside context at variables stage) knows = record {
+  knows_stay program (Inside context at variables stage) knows = record {
     items = λ exits s arrived. items_stay s variables (knows.items exits s arrived);
-    cell = stage_stays variables stage (slice_get code at) knows.cell;
+    cell = stage_stays variables stage (slice_get (code_in program context) at) knows.cell;
   }
-  knows_stay code (Stopping lock calls) knows = tt
-  knows_stay code Exiting knows = tt
+  knows_stay program (Stopping lock calls) knows = tt
+  knows_stay program Exiting knows = tt
 
 -- ---- a variable changes
 
@@ -149,9 +155,9 @@ unlocked_items memory new before locked s rows none items v x borrows is =
     let item = items v x borrows is in absurd (none_some item.list (sym none ∙ item.is_locked))
 
 -- At the beginning of a call no variable borrows from a list.
-entry_borrows_none : BorrowsNone entry
+entry_borrows_none : BorrowsNone (entry_of [])
 entry_borrows_none zero = refl
 entry_borrows_none (suc v) = ap borrows_item (get_or-replicate_default 15 v Empty)
 
-pub entry_items : (memory : Address → ℕ) (locked : Option ℕ) → HaveItems memory locked entry entry_variables
-entry_items memory locked = none_borrowed memory locked entry entry_variables entry_borrows_none
+pub entry_items : (memory : Address → ℕ) (locked : Option ℕ) → HaveItems memory locked (entry_of []) entry_variables
+entry_items memory locked = none_borrowed memory locked (entry_of []) entry_variables entry_borrows_none

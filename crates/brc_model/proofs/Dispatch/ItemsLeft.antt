@@ -5,7 +5,7 @@ use Rattle.std.proofs.lemmas.Bool.{not-false}
 use Rattle.std.proofs.lemmas.List.{length-set}
 use Rattle.brc_lang.specs.declared.kind.Kind.TheVariants as kinds
 use Rattle.brc_lang.specs.declared.module.Instr.{Instr}
-use Rattle.brc_lang.specs.declared.module.Instr.TheVariants.{Num, List as ListObject, NoneObject, Newref, Move as MoveReference, Drop, As, Lock, Unlock, Borrow, Fetch, Set, Put, Goto, Again, Ret, Fail, Open, Connect, Read, Write, Call}
+use Rattle.brc_lang.specs.declared.module.Instr.TheVariants.{Num, List as ListObject, NoneObject, Newref, Move as MoveReference, Drop, As, Lock, Unlock, Borrow, Fetch, Set, Put, Goto, Again, Ret, Fail, Call, Open, Connect, Read, Write}
 use Rattle.brc_word.specs.Words.{free_word}
 use Rattle.brc_model.specs.declared.actor.Place.{Place}
 use Rattle.brc_model.specs.declared.actor.Context.{Context}
@@ -28,22 +28,24 @@ use Rattle.brc_model.specs.declared.layout.Layout.{Layout}
 use Rattle.brc_model.specs.Duties.{cells_of}
 use Rattle.brc_model.specs.Machine.{has_room}
 use Rattle.brc_model.specs.Actions.{Action, Does, with_row, by_range, by_item, number_word, list_word, birth_action, dispatch_instruction, dispatch_inside, turns_at, with_turn, grant_action, granted_birth, return_action, lend_action, file_word, sock_word}
-use Rattle.brc_model.specs.Items.{IsItem, borrows_item, HaveItems, HasCell, StageKnows, KnowsItems}
+use Rattle.brc_model.specs.Items.{IsItem, borrows_item, HaveItems, HasCell, StageKnows}
 use Rattle.brc_model.proofs.Basics.Lists.{some_is, either, first_false}
 use Rattle.brc_model.proofs.Dispatch.Guards.{LocksAgree, guards_none, guards_row}
 use Rattle.brc_model.proofs.Dispatch.Decided.{range_decides, item_decides, exit_decides}
-use Rattle.brc_model.proofs.Dispatch.Items.{ItemsStay, all_stay, items_stay, cell_stays, knows_stay, items_put, needs_none, items_with_kind, BorrowsNone, none_borrowed, without_items_free, unlocked_items}
+use Rattle.brc_model.proofs.Dispatch.Items.{ItemsStay, all_stay, items_stay, cell_stays, knows_stay, items_put, needs_none, items_with_kind, BorrowsNone, none_borrowed, without_items_free, unlocked_items, ItemsAt}
 use Rattle.brc_model.proofs.Dispatch.ItemsUsed.{LeavesItems, UsesAt}
+use Rattle.brc_model.proofs.Dispatch.Programs.{Program}
+use Rattle.brc_model.proofs.Dispatch.ItemsCalls.{call_uses, ret_uses, fail_uses}
 
-module _ (code : List Instr) (memory : Address → ℕ) (locked : Option ℕ) (context : Context) (at : ℕ)
+module _ (program : Program) (memory : Address → ℕ) (locked : Option ℕ) (context : Context) (at : ℕ)
     (variables : List (Option ℕ))
     (s : State) where
   abbrev Here : Instr → Type 0
-  Here i = UsesAt code memory locked at variables s i
+  Here i = UsesAt program context.outer memory locked at variables s i
 
   row_uses : (row : Option ℕ) (work : ℕ → Action)
-      → ((x : ℕ) → row ≡ Some x → LeavesItems code memory locked (work x))
-      → LeavesItems code memory locked (with_row row work)
+      → ((x : ℕ) → row ≡ Some x → LeavesItems program memory locked (work x))
+      → LeavesItems program memory locked (with_row row work)
   row_uses None work uses = tt
   row_uses (Some x) work uses = uses x refl
 
@@ -52,7 +54,7 @@ module _ (code : List Instr) (memory : Address → ℕ) (locked : Option ℕ) (c
   -- Where the paths to the next point agree, what holds of the state after the exit holds of theirs.
   goes_on : (new : Address → ℕ) (lock : Option ℕ) (next : ℕ) (rows : List (Option ℕ)) (i : Instr) (exit : Exit)
       → (here : Here i) → target i exit at ≡ Some next → HaveItems new lock (after i exit s) rows
-      → KnowsItems code new lock (InCall context next rows)
+      → ItemsAt program new lock (InCall context next rows)
   goes_on new lock next rows i exit here to items = λ exits other arrived.
       subst (λ (state : State). HaveItems new lock state rows)
       (here.accepted.states_agree (here.inside.exits ++ exit ∷ []) exits next (after i exit s) other
@@ -62,7 +64,7 @@ module _ (code : List Instr) (memory : Address → ℕ) (locked : Option ℕ) (c
   goes_on_put : (new : Address → ℕ) (next : ℕ) (i : Instr) (exit : Exit) (x : ℕ) (var : VarState) (row : Option ℕ)
       → ItemsStay memory new locked → (here : Here i) → target i exit at ≡ Some next → after i exit s ≡ put s x var
       → x < 16 → ((y : ℕ) → borrows_item var ≡ true → row ≡ Some y → IsItem new locked y)
-      → KnowsItems code new locked (InCall context next (slice_set variables x row))
+      → ItemsAt program new locked (InCall context next (slice_set variables x row))
   goes_on_put new next i exit x var row stays here to is low item =
       goes_on new locked next (slice_set variables x row) i exit here to
       (subst (λ (state : State). HaveItems new locked state (slice_set variables x row)) (sym is)
@@ -72,7 +74,7 @@ module _ (code : List Instr) (memory : Address → ℕ) (locked : Option ℕ) (c
   -- The exit leaves in the variable what borrows nothing.
   goes_on_free : (new : Address → ℕ) (next : ℕ) (i : Instr) (exit : Exit) (x : ℕ) (var : VarState) (row : Option ℕ)
       → ItemsStay memory new locked → (here : Here i) → target i exit at ≡ Some next → after i exit s ≡ put s x var
-      → x < 16 → borrows_item var ≡ false → KnowsItems code new locked
+      → x < 16 → borrows_item var ≡ false → ItemsAt program new locked
       (InCall context next (slice_set variables x row))
   goes_on_free new next i exit x var row stays here to is low free =
       goes_on_put new next i exit x var row stays here to is low (needs_none new locked var row free)
@@ -80,7 +82,7 @@ module _ (code : List Instr) (memory : Address → ℕ) (locked : Option ℕ) (c
   -- The exit changes no variable.
   goes_on_same : (new : Address → ℕ) (next : ℕ) (i : Instr) (exit : Exit) → ItemsStay memory new locked
       → (here : Here i) → target i exit at ≡ Some next → after i exit s ≡ s
-      → KnowsItems code new locked (InCall context next variables)
+      → ItemsAt program new locked (InCall context next variables)
   goes_on_same new next i exit stays here to is =
       goes_on new locked next variables i exit here to
       (subst (λ (state : State). HaveItems new locked state variables) (sym is)
@@ -89,14 +91,14 @@ module _ (code : List Instr) (memory : Address → ℕ) (locked : Option ℕ) (c
   -- After the exit nothing is borrowed any more.
   goes_on_without : (new : Address → ℕ) (lock : Option ℕ) (next : ℕ) (rows : List (Option ℕ)) (i : Instr) (exit : Exit)
       → (here : Here i) → target i exit at ≡ Some next → BorrowsNone (after i exit s)
-      → KnowsItems code new lock (InCall context next rows)
+      → ItemsAt program new lock (InCall context next rows)
   goes_on_without new lock next rows i exit here to none =
       goes_on new lock next rows i exit here to (none_borrowed new lock (after i exit s) rows none)
 
   -- ---- inside the instruction
 
   goes_inside : (new : Address → ℕ) (stage : Stage) (i : Instr) → ItemsStay memory new locked → (here : Here i)
-      → StageKnows new locked variables stage (Some i) → KnowsItems code new locked (Inside context at variables stage)
+      → StageKnows new locked variables stage (Some i) → ItemsAt program new locked (Inside context at variables stage)
   goes_inside new stage i stays here knows = record {
     items = λ exits other arrived.
         subst (λ (state : State). HaveItems new locked state variables)
@@ -126,9 +128,9 @@ module _ (code : List Instr) (memory : Address → ℕ) (locked : Option ℕ) (c
       → to < 16 → borrows_item var ≡ false
       → target i Success at ≡ Some (at + 1) → after i Success s ≡ put s to var
       → target i FaultExit at ≡ Some otherwise → after i FaultExit s ≡ put s to Empty
-      → LeavesItems code memory locked (birth_action layout t used context at variables to word otherwise)
+      → LeavesItems program memory locked (birth_action layout t used context at variables to word otherwise)
   birth_uses layout t used i to word otherwise var here low free next owned else_at empty =
-      either (LeavesItems code memory locked) (has_room layout t used) _ _
+      either (LeavesItems program memory locked) (has_room layout t used) _ _
       (λ room new found done.
       goes_on_free new (at + 1) i Success to var (Some (row_at layout t used)) (done.keeps refl) here next owned low
       free)
@@ -138,72 +140,72 @@ module _ (code : List Instr) (memory : Address → ℕ) (locked : Option ℕ) (c
   grant_uses : (layout : Layout) (t used : ℕ) (i : Instr) (to otherwise : ℕ) → (here : Here i) → to < 16
       → StageKnows memory locked variables Granted (Some i)
       → target i FaultExit at ≡ Some otherwise → after i FaultExit s ≡ put s to Empty
-      → LeavesItems code memory locked (grant_action layout t used context at variables to otherwise)
+      → LeavesItems program memory locked (grant_action layout t used context at variables to otherwise)
   grant_uses layout t used i to otherwise here low knows else_at empty =
-      let refused : KnowsItems code memory locked (InCall context otherwise (slice_set variables to None)) =
+      let refused : ItemsAt program memory locked (InCall context otherwise (slice_set variables to None)) =
       goes_on_free memory otherwise i FaultExit to Empty None (all_stay memory locked) here else_at empty low refl in
-      either (LeavesItems code memory locked) (has_room layout t used) _ _
-      (λ room. exit_decides (KnowsItems code memory locked) (Inside context at variables Granted)
+      either (LeavesItems program memory locked) (has_room layout t used) _ _
+      (λ room. exit_decides (ItemsAt program memory locked) (Inside context at variables Granted)
       (InCall context otherwise (slice_set variables to None))
       (goes_inside memory Granted i (all_stay memory locked) here knows) refused) refused
 
   -- The birth that it awaits leaves in the variable what borrows nothing.
   granted_uses : (layout : Layout) (t used : ℕ) (i : Instr) (to word : ℕ) (var : VarState) → (here : Here i) → to < 16
       → borrows_item var ≡ false → target i Success at ≡ Some (at + 1) → after i Success s ≡ put s to var
-      → LeavesItems code memory locked (granted_birth layout t used context at variables to word)
+      → LeavesItems program memory locked (granted_birth layout t used context at variables to word)
   granted_uses layout t used i to word var here low free next owned = λ new found done.
       goes_on_free new (at + 1) i Success to var (Some (row_at layout t used)) (done.keeps refl) here next owned low
       free
 
   -- A thread lends a resource inside an instruction.
   lend_uses : (i : Instr) (file : ℕ) → Here i → ((new : Address → ℕ) → StageKnows new locked variables Lent (Some i))
-      → LeavesItems code memory locked (lend_action context at variables file)
+      → LeavesItems program memory locked (lend_action context at variables file)
   lend_uses i file here knows =
       row_uses (row_of variables file) _ (λ row is new found done.
       goes_inside new Lent i (done.keeps refl) here (knows new))
 
   -- It puts the resource back, and knows what it knows at the place where it then is.
   return_uses : (file : ℕ) (place : Place)
-      → ((new : Address → ℕ) → ItemsStay memory new locked → KnowsItems code new locked place)
-      → LeavesItems code memory locked (return_action variables file place)
+      → ((new : Address → ℕ) → ItemsStay memory new locked → ItemsAt program new locked place)
+      → LeavesItems program memory locked (return_action variables file place)
   return_uses file place knows =
       row_uses (row_of variables file) _ (λ row is new found done. knows new (done.keeps refl))
 
   -- A look at the list's kind word leads into the instruction, if the list has the cell.
   range_uses : (i : Instr) (list index : ℕ) (stage : Stage) (outside : Place) → Here i
       → ((new : Address → ℕ) → HasCell new variables list index → StageKnows new locked variables stage (Some i))
-      → ((new : Address → ℕ) → ItemsStay memory new locked → KnowsItems code new locked outside)
-      → LeavesItems code memory locked
+      → ((new : Address → ℕ) → ItemsStay memory new locked → ItemsAt program new locked outside)
+      → LeavesItems program memory locked
       (with_row (row_of variables list)
       (λ row. Does (KindLoad row) [] (by_range index (Inside context at variables stage) outside)))
   range_uses i list index stage outside here cell past =
       row_uses (row_of variables list) _ (λ row is new found done.
       let stays = done.keeps refl in
-      range_decides (KnowsItems code new locked) (Inside context at variables stage) outside index found
+      range_decides (ItemsAt program new locked) (Inside context at variables stage) outside index found
       (λ within.
       goes_inside new stage i stays here (cell new (has_cell new list index row found stays is done.finds within)))
       (past new stays))
 
   -- A thread that doesn't get its lock stays at `before`. A thread that locks has locked nothing before, so it has
   -- borrowed nothing.
-  lock_uses : (before : Place) (object : ℕ) → KnowsItems code memory locked before → Here (Lock object)
+  lock_uses : (before : Place) (object : ℕ) → ItemsAt program memory locked before → Here (Lock object)
       → (layout : Layout) (t used : ℕ)
-      → LeavesItems code memory locked
+      → LeavesItems program memory locked
       (dispatch_instruction layout t used before context at variables (Some (Lock object)))
   lock_uses before object knew here layout t used =
       row_uses (row_of variables object) _ (λ row is new found done.
       let none = guards_none s variables s.locked locked (first_false _ _ here.met.first_lock) here.guards in
       elim (found == free_word) as
-      (λ b. KnowsItems code new (cond b (Some row) locked) (cond b (InCall context (at + 1) variables) before)) [
+      (λ b. ItemsAt program new (cond b (Some row) locked) (cond b (InCall context (at + 1) variables) before)) [
         | true ↦
             goes_on new (Some row) (at + 1) variables (Lock object) Success here refl
             (unlocked_items memory new locked (Some row) s variables none here.items)
-        | false ↦ knows_stay memory new locked (done.keeps refl) code before knew
+        | false ↦ knows_stay memory new locked (done.keeps refl) program before knew
       ])
 
   pub instruction_uses : (layout : Layout) (t used : ℕ) (before : Place) (i : Instr)
-      → KnowsItems code memory locked before → Here i
-      → LeavesItems code memory locked (dispatch_instruction layout t used before context at variables (Some i))
+      → ItemsAt program memory locked before → Here i
+      → LeavesItems program memory locked (dispatch_instruction layout t used before context at variables (Some i))
   instruction_uses layout t used before (Num to value otherwise) knew here =
       birth_uses layout t used (Num to value otherwise) to (number_word value) otherwise (Owned kinds.Num) here
       here.operands.0 refl refl refl refl refl
@@ -263,7 +265,7 @@ module _ (code : List Instr) (memory : Address → ℕ) (locked : Option ℕ) (c
   instruction_uses layout t used before (Connect to peer otherwise) knew here =
       grant_uses layout t used (Connect to peer otherwise) to otherwise here here.operands.0 tt refl refl
   instruction_uses layout t used before (Read to file most otherwise) knew here =
-      either (LeavesItems code memory locked) (has_room layout t used) _ _
+      either (LeavesItems program memory locked) (has_room layout t used) _ _
       (λ room. lend_uses (Read to file most otherwise) file here (λ new. tt))
       (goes_on_free memory otherwise (Read to file most otherwise) FaultExit to Empty None (all_stay memory locked) here
       refl refl here.operands.0 refl)
@@ -273,39 +275,42 @@ module _ (code : List Instr) (memory : Address → ℕ) (locked : Option ℕ) (c
   instruction_uses layout t used before (As from kind otherwise) knew here =
       row_uses (row_of variables from) _ (λ row is new found done.
       let stays = done.keeps refl in
-      either (λ (next : ℕ). KnowsItems code new locked (InCall context next variables))
+      either (λ (next : ℕ). ItemsAt program new locked (InCall context next variables))
       (same_kind (kind_of_word found) kind) _ _
       (λ same.
       goes_on new locked (at + 1) variables (As from kind otherwise) Success here refl
       (items_with_kind new locked s variables from kind (omega (arith, here.operands.0, here.inside.vars))
       (items_stay memory new locked stays s variables here.items)))
       (goes_on_same new otherwise (As from kind otherwise) FaultExit stays here refl refl))
-  instruction_uses layout t used before (Call to callee arguments otherwise) knew here = tt
   instruction_uses layout t used before (Goto to) knew here =
       goes_on_same memory to (Goto to) Success (all_stay memory locked) here refl refl
   instruction_uses layout t used before (Again to times) knew here =
-      either (KnowsItems code memory locked) (nat_lt (turns_at context at) times)
+      either (ItemsAt program memory locked) (nat_lt (turns_at context at) times)
       (InCall (with_turn context at) to variables) (InCall context (at + 1) variables)
       (λ more. goes_on_same memory to (Again to times) FaultExit (all_stay memory locked) here refl refl)
       (goes_on_same memory (at + 1) (Again to times) Success (all_stay memory locked) here refl refl)
+  instruction_uses layout t used before (Call to callee arguments otherwise) knew here =
+      call_uses program memory locked t context at variables s to callee arguments otherwise here
   instruction_uses layout t used before (Ret from) knew here =
-      row_uses (row_of variables from) _ (λ row is new found done. tt)
-  instruction_uses layout t used before Fail knew here = tt
+      row_uses (row_of variables from) _ (λ row is.
+      ret_uses program memory locked t context.left from row context.outer here.sound here.inside.is_call.open_calls)
+  instruction_uses layout t used before Fail knew here =
+      fail_uses program memory locked context.left context.outer here.sound here.inside.is_call.open_calls
 
   -- ---- each step inside an instruction
 
   -- A look at a cell: an empty one ends the instruction, and in another the thread finds an item.
   cell_uses : (i : Instr) (list index : ℕ) (empty : Place) (holds : ℕ → Place) → Here i → names s.locked list ≡ true
-      → ((new : Address → ℕ) → ItemsStay memory new locked → KnowsItems code new locked empty)
+      → ((new : Address → ℕ) → ItemsStay memory new locked → ItemsAt program new locked empty)
       → ((new : Address → ℕ) (item : ℕ) → ItemsStay memory new locked → IsItem new locked item
-      → KnowsItems code new locked (holds item))
-      → LeavesItems code memory locked
+      → ItemsAt program new locked (holds item))
+      → LeavesItems program memory locked
       (with_row (row_of variables list) (λ row. Does (CellLoad row index) [] (by_item empty holds)))
   cell_uses i list index empty holds here named none some =
       row_uses (row_of variables list) _ (λ row is new found done.
       let stays = done.keeps refl in
       let locks = locked_list list row named is here.guards in
-      item_decides (λ word place. word ≡ memory (Cell row index) → KnowsItems code new locked place) empty holds
+      item_decides (λ word place. word ≡ memory (Cell row index) → ItemsAt program new locked place) empty holds
       (λ seen. none new stays)
       (λ item seen.
       some new item stays (record {
@@ -317,7 +322,7 @@ module _ (code : List Instr) (memory : Address → ℕ) (locked : Option ℕ) (c
 
   pub inside_uses : (layout : Layout) (t used : ℕ) (stage : Stage) (i : Instr)
       → StageKnows memory locked variables stage (Some i) → Here i
-      → LeavesItems code memory locked (dispatch_inside layout t used context at variables stage (Some i))
+      → LeavesItems program memory locked (dispatch_inside layout t used context at variables stage (Some i))
   inside_uses layout t used InRange (Borrow to list index otherwise) knows here =
       cell_uses (Borrow to list index otherwise) list index (InCall context otherwise (slice_set variables to None))
       (λ item. InCall context (at + 1) (slice_set variables to (Some item))) here

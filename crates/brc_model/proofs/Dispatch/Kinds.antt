@@ -1,25 +1,30 @@
 -- What the states and the rows of variables say of kinds: a variable's state says nothing false of the object that its
 -- variable names.
-use Rattle.std.proofs.Common.{◌≡◌, ℕ, zero, suc, ◌<◌, true, List, inl, inr, length, Option, Some, refl, sym, ap, ◌∙◌, subst}
-use Rattle.std.specs.Prelude.{slice_set}
+use Rattle.std.proofs.Common.{◌≡◌, ℕ, zero, suc, ◌<◌, true, List, [], ◌∷◌, Option, None, inl, inr, length, Some, refl, sym, ap, ◌∙◌, subst}
+use Rattle.std.specs.Prelude.{slice_get, slice_set}
 use Rattle.std.proofs.lemmas.Bool.Decides.{eqb_tells}
 use Rattle.std.proofs.lemmas.Bool.{eqb-true}
 use Rattle.brc_lang.specs.declared.kind.Kind.{Kind}
 use Rattle.brc_lang.specs.declared.kind.Kind.TheVariants as kinds
-use Rattle.brc_lang.specs.declared.module.Instr.{Instr}
 use Rattle.brc_model.specs.declared.actor.Place.{Place}
 use Rattle.brc_model.specs.declared.actor.Place.TheVariants.{Idle, InCall, Inside, Stopping, Exiting}
 use Rattle.brc_model.specs.declared.state.VarState.{VarState}
 use Rattle.brc_model.specs.declared.state.VarState.TheVariants.{Empty, Owned, Caller, Locked}
 use Rattle.brc_model.specs.declared.state.State.{State}
 use Rattle.brc_model.specs.Kinds.{kind_number, kind_numbered, kind_of_word, same_kind}
-use Rattle.brc_model.specs.VarStates.{var_of, kind_of, with_kind, put, without_item, without_items, entry}
-use Rattle.brc_model.specs.Threads.{row_of, entry_variables}
+use Rattle.brc_model.specs.VarStates.{var_of, kind_of, with_kind, put, without_item, without_items, entry_of}
+use Rattle.brc_model.specs.Threads.{row_of, entry_variables, function_in, outer_of}
 use Rattle.brc_model.specs.Layout.{none_row, root_row}
-use Rattle.brc_model.specs.KnownKinds.{IsTrueKind, HasTrueKind, HaveTrueKinds, KnowsKinds, AreNamed}
+use Rattle.brc_model.specs.KnownKinds.{IsTrueKind, HasTrueKind, HaveTrueKinds, KnowsKinds, AreNamed, kind_words}
 use Rattle.brc_model.proofs.Basics.Lists.{some_is, get_or-replicate_default}
 use Rattle.brc_model.proofs.Dispatch.Grounded.{var_of-put_same, var_of-put_other, var_of-without, row_of-set_same, row_of-set_other}
 use Rattle.brc_model.proofs.Frame.Kinds.{StoredStay}
+use Rattle.brc_model.proofs.Dispatch.Programs.{Program, number_of, program_of}
+use Rattle.brc_model.specs.declared.actor.OpenCall.{OpenCall}
+use Rattle.brc_model.specs.Actions.{waiting_state}
+use Rattle.brc_lang.specs.declared.module.Function.{Function}
+use Rattle.brc_model.specs.StepMachine.{StepMachine}
+use Rattle.brc_model.specs.Action.{StepActor}
 
 -- ---- kinds of variables
 
@@ -37,15 +42,65 @@ true_kinds_stay : (words new : ℕ → ℕ) → StoredStay words new → (s : St
 true_kinds_stay words new stays s rows known v x is =
     true_kind_stays words new stays (kind_of (var_of s v)) x (known v x is)
 
-pub knows_still : (code : List Instr) (words new : ℕ → ℕ) → StoredStay words new → (place : Place)
-    → KnowsKinds code words place → KnowsKinds code new place
-knows_still code words new stays (Idle left) knows = tt
-knows_still code words new stays (InCall context at variables) knows =
+kinds_still : (f : Function) (words new : ℕ → ℕ) → StoredStay words new → (place : Place)
+    → KnowsKinds f words place → KnowsKinds f new place
+kinds_still f words new stays (Idle left) knows = tt
+kinds_still f words new stays (InCall context at variables) knows =
     λ exits s arrived. true_kinds_stay words new stays s variables (knows exits s arrived)
-knows_still code words new stays (Inside context at variables stage) knows =
+kinds_still f words new stays (Inside context at variables stage) knows =
     λ exits s arrived. true_kinds_stay words new stays s variables (knows exits s arrived)
-knows_still code words new stays (Stopping lock calls) knows = tt
-knows_still code words new stays Exiting knows = tt
+kinds_still f words new stays (Stopping lock calls) knows = tt
+kinds_still f words new stays Exiting knows = tt
+
+-- ---- with the calls that are open
+
+-- The variables of a call that waits have the kinds that its state says, if there is one.
+abbrev pub HaveKinds : (ℕ → ℕ) → Option State → List (Option ℕ) → Type 0
+HaveKinds words None rows = Unit {0}
+HaveKinds words (Some s) rows = HaveTrueKinds words s rows
+
+-- So have those of each of these open calls.
+abbrev pub OpenKinds : Program → (ℕ → ℕ) → List OpenCall → Type 0
+OpenKinds program words [] = Unit {0}
+OpenKinds program words (o ∷ outer) =
+    HaveKinds words (waiting_state program.functions program.states (number_of program outer) o) o.variables
+    × OpenKinds program words outer
+
+-- What the thread knows of kinds at its place, in all its calls.
+abbrev pub KnowsAll : Program → (ℕ → ℕ) → Place → Type 0
+KnowsAll program words place =
+    KnowsKinds (function_in program.functions program.first place) words place
+    × OpenKinds program words (outer_of place)
+
+-- Each thread knows the kinds of what the variables of its calls name.
+abbrev pub AllKnown : StepMachine → Type 0
+AllKnown m =
+    (t : ℕ) (a : StepActor) → slice_get m.actors t ≡ Some a
+    → KnowsAll (program_of m.functions m.states a) (kind_words m) a.place
+
+-- So it does, and none and the root have their kinds.
+pub record KindsHold (m : StepMachine) : Type 0 where
+  pub named : AreNamed (kind_words m)
+  pub known : AllKnown m
+
+open_still : (program : Program) (words new : ℕ → ℕ) → StoredStay words new → (outer : List OpenCall)
+    → OpenKinds program words outer → OpenKinds program new outer
+open_still program words new stays [] knows = tt
+open_still program words new stays (o ∷ outer) knows = (
+  elim (waiting_state program.functions program.states (number_of program outer) o) as
+      (λ w. HaveKinds words w o.variables → HaveKinds new w o.variables) [
+        | None ↦ λ known. tt
+        | Some s ↦ λ known. true_kinds_stay words new stays s o.variables known
+      ] knows.0,
+  open_still program words new stays outer knows.1,
+)
+
+pub knows_still : (program : Program) (words new : ℕ → ℕ) → StoredStay words new → (place : Place)
+    → KnowsAll program words place → KnowsAll program new place
+knows_still program words new stays place knows = (
+  kinds_still (function_in program.functions program.first place) words new stays place knows.0,
+  open_still program words new stays (outer_of place) knows.1,
+)
 
 pub true_put : (words : ℕ → ℕ) (s : State) (rows : List (Option ℕ)) (x : ℕ) (var : VarState) (row : Option ℕ)
     → x < length s.vars
@@ -134,7 +189,7 @@ named_stay words new stays named = record {
   ];
 }
 
-pub entry_true : (words : ℕ → ℕ) → AreNamed words → HaveTrueKinds words entry entry_variables
+pub entry_true : (words : ℕ → ℕ) → AreNamed words → HaveTrueKinds words (entry_of []) entry_variables
 entry_true words named zero = λ x is.
     inr (ap (λ (y : ℕ). kind_of_word (words y)) (sym (some_is root_row x is)) ∙ named.root)
 entry_true words named (suc v) =

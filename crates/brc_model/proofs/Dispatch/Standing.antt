@@ -22,6 +22,7 @@ use Rattle.brc_model.proofs.Dispatch.Holds.{Activation, call_of, of_variables, H
 use Rattle.brc_model.proofs.Dispatch.Grounded.{IsGrounded}
 use Rattle.brc_model.proofs.Dispatch.Guards.{HeldLocked, HeldBeside, guards_held, gives_keeps}
 use Rattle.brc_model.proofs.Dispatch.TakingUp.{Scene, StandsAt, Backs, ByOwn, ByList}
+use Rattle.brc_model.proofs.Dispatch.Programs.{Program}
 
 -- The row that a variable names, and how the thread relies on it.
 pub record Named (g : Scene) (row : Option ℕ) : Type 0 where
@@ -53,13 +54,13 @@ named_var g call s rows v (Locked k) is some grounded holds items =
     }
 
 -- The same at an instruction.
-pub named_at : (code : List Instr) (context : Context) (g : Scene) (before : Place) (at : ℕ) (rows : List (Option ℕ))
+pub named_at : (program : Program) (context : Context) (g : Scene) (before : Place) (at : ℕ) (rows : List (Option ℕ))
     (s : State)
-    (i : Instr) (v : ℕ) → StandsAt code context g before at rows s i → is_empty (var_of s v) ≡ false
+    (i : Instr) (v : ℕ) → StandsAt program context g before at rows s i → is_empty (var_of s v) ≡ false
     → Named g (row_of rows v)
-named_at code context g before at rows s i v here some =
-    named_var g (call_of code context) s rows v (var_of s v) refl some (here.inside.grounded v)
-    (holds_variables g.bag g.thread (call_of code context) s rows here.holds) here.items
+named_at program context g before at rows s i v here some =
+    named_var g (call_of program context) s rows v (var_of s v) refl some (here.inside.grounded v)
+    (holds_variables g.bag g.thread (call_of program context) s rows here.holds) here.items
 
 pub given_referenced : (bag : List Reference) (t : ℕ) (call : Activation) (s : State) (variables : List (Option ℕ))
     (from row : ℕ)
@@ -73,28 +74,28 @@ given_referenced bag t call s variables from row owned is holds =
 -- ---- the lock
 
 -- The thread holds what it has locked.
-pub lock_held : (code : List Instr) (context : Context) (g : Scene) (before : Place) (at : ℕ)
-    (rows : List (Option ℕ)) (s : State) (i : Instr) → StandsAt code context g before at rows s i
+pub lock_held : (program : Program) (context : Context) (g : Scene) (before : Place) (at : ℕ)
+    (rows : List (Option ℕ)) (s : State) (i : Instr) → StandsAt program context g before at rows s i
     → (x : ℕ) → g.locked ≡ Some x → HeldLocked g.bag g.thread (depth_of context) x s.locked
-lock_held code context g before at rows s i here x locked =
-    let call = call_of code context in
+lock_held program context g before at rows s i here x locked =
+    let call = call_of program context in
     guards_held g.bag g.thread call s rows s.locked g.locked x here.guards locked here.inside.grounded
     (holds_variables g.bag g.thread call s rows here.holds)
 
 -- A duty that gives up nothing leaves it so.
-pub keeps_all : (code : List Instr) (context : Context) (g : Scene) (before : Place) (at : ℕ)
-    (rows : List (Option ℕ)) (s : State) (i : Instr) (d : Duty) → StandsAt code context g before at rows s i
+pub keeps_all : (program : Program) (context : Context) (g : Scene) (before : Place) (at : ℕ)
+    (rows : List (Option ℕ)) (s : State) (i : Instr) (d : Duty) → StandsAt program context g before at rows s i
     → ((k : Holding) (object : ℕ) → extra d k object ≡ false)
     → (x : ℕ) → g.locked ≡ Some x → HeldBeside g.bag g.thread x d
-keeps_all code context g before at rows s i d here none x locked =
-    let lock = lock_held code context g before at rows s i here x locked in
+keeps_all program context g before at rows s i d here none x locked =
+    let lock = lock_held program context g before at rows s i here x locked in
     record { by = lock.by; held_so = lock.held_so; beside = none lock.by x }
 
 -- Giving up what a variable owns leaves it so, if the variable isn't the locked one.
-pub keeps_given : (code : List Instr) (context : Context) (g : Scene) (before : Place) (at : ℕ)
-    (rows : List (Option ℕ)) (s : State) (i : Instr) (row from : ℕ) → StandsAt code context g before at rows s i
+pub keeps_given : (program : Program) (context : Context) (g : Scene) (before : Place) (at : ℕ)
+    (rows : List (Option ℕ)) (s : State) (i : Instr) (row from : ℕ) → StandsAt program context g before at rows s i
     → names s.locked from ≡ false
     → (x : ℕ) → g.locked ≡ Some x → HeldBeside g.bag g.thread x (ReleaseLoad row (by_variable context from))
-keeps_given code context g before at rows s i row from here free x locked =
+keeps_given program context g before at rows s i row from here free x locked =
     gives_keeps g.bag g.thread (depth_of context) row x from s.locked (ReleaseLoad row (by_variable context from)) free
-    (λ k object. refl) (lock_held code context g before at rows s i here x locked)
+    (λ k object. refl) (lock_held program context g before at rows s i here x locked)

@@ -1,15 +1,13 @@
 -- What a thread holds that has stopped: the references that its calls have still to give up, and the root.
 use Rattle.std.proofs.Common.{◌≡◌, ℕ, zero, suc, ◌+◌, ◌<◌, ◌≤◌, Bool, true, false, cond, List, [], ◌∷◌, length, Option, None, Some, inl, inr, refl, sym, ap, ◌∙◌, subst, arith}
-use Rattle.std.specs.Prelude.{◌↔◌, ◌==◌, ◌&&◌, if◌then◌else◌, is_some, map, slice_set}
+use Rattle.std.specs.Prelude.{◌↔◌, ◌==◌, ◌&&◌, if◌then◌else◌, is_some, slice_set}
 use Rattle.std.specs.List.{list_any, slice_index_or}
 use Rattle.std.proofs.lemmas.Bool.{eq-eqb, ne_eqb}
 use Rattle.std.proofs.lemmas.Bool.Decides.{eqb_tells}
-use Rattle.std.proofs.lemmas.List.{get_or_past, length-map}
-use Rattle.brc_lang.specs.declared.module.Instr.{Instr}
+use Rattle.std.proofs.lemmas.List.{get_or_past}
 use Rattle.brc_model.specs.declared.state.VarState.{VarState}
 use Rattle.brc_model.specs.declared.state.VarState.TheVariants.{Empty, Owned, Caller, Locked}
 use Rattle.brc_model.specs.declared.state.State.{State}
-use Rattle.brc_model.specs.declared.actor.Context.{Context}
 use Rattle.brc_model.specs.declared.actor.OpenCall.{OpenCall}
 use Rattle.brc_model.specs.declared.duty.Holding.{Holding}
 use Rattle.brc_model.specs.declared.duty.Holding.TheVariants.{ByVariable, AsCaller, InFlight}
@@ -18,16 +16,17 @@ use Rattle.brc_model.specs.References.{one_if}
 use Rattle.brc_model.specs.Accounts.{IsBounded}
 use Rattle.brc_model.specs.VarStates.{var_of, is_owned, names}
 use Rattle.brc_model.specs.Threads.{row_of}
-use Rattle.brc_model.specs.Actions.{depth_of, owned_rows, row_locked, none_of, holds_some, first_named}
+use Rattle.brc_model.specs.Actions.{owned_rows, owned_by, row_locked, holds_some, first_named, given_up, waiting_state}
 use Rattle.brc_model.specs.declared.layout.Layout.{Layout}
 use Rattle.brc_model.specs.Layout.{root_row}
 use Rattle.brc_model.specs.Limits.{depth_limit}
 use Rattle.brc_model.proofs.Basics.Bag.{one_if_low}
-use Rattle.brc_model.proofs.Basics.Lists.{some_is, none_some, none_at, first_false, second_false}
+use Rattle.brc_model.proofs.Basics.Lists.{some_is, none_some, none_at, first_false, second_false, either}
 use Rattle.brc_model.proofs.Stepping.Counts.{flip_eqb}
-use Rattle.brc_model.proofs.Dispatch.Holds.{the_root, once_each, call_of, of_variables, own_depth, other_depth, by_depth}
-use Rattle.brc_model.proofs.Dispatch.Grounded.{IsGrounded, IsInside, row_of-set_same, row_of-set_other}
+use Rattle.brc_model.proofs.Dispatch.Holds.{the_root, once_each, of_variables, own_depth, other_depth, by_depth, activation, outer_holds, of_state, further_holds}
+use Rattle.brc_model.proofs.Dispatch.Grounded.{IsGrounded, IsInside, row_of-set_same, row_of-set_other, AreOpen}
 use Rattle.brc_model.proofs.Dispatch.Guards.{is_kept, Guards, LocksAgree}
+use Rattle.brc_model.proofs.Dispatch.Programs.{Program, number_of}
 
 -- ---- the references of calls
 
@@ -67,13 +66,31 @@ rows_past (rows ∷ outer) depth past =
     rows_further rows outer depth (ne_eqb depth (length outer) (λ e. absurd (omega (arith, e, past))))
     ∙ rows_past outer depth (omega (arith, past))
 
--- The calls further out hold nothing.
-pub none_outer : (outer : List OpenCall) (depth : ℕ) → rows_at (map none_of outer) depth ≡ []
-none_outer [] depth = refl
-none_outer (call ∷ outer) depth = elim (eqb_tells depth (length (map none_of outer))) [
-  | inl this ↦ ap (λ (b : Bool). cond b [] (rows_at (map none_of outer) depth)) this.0
-  | inr apart ↦ rows_further [] (map none_of outer) depth apart.0 ∙ none_outer outer depth
-]
+-- ---- a call that names nothing
+
+unnamed : (row : Option ℕ) (object : ℕ) → is_some row ≡ false → names row object ≡ false
+unnamed None object none = refl
+unnamed (Some x) object none = absurd cc
+
+none_named : (rows : List (Option ℕ)) (v object : ℕ) → list_any is_some rows ≡ false
+    → names (row_of rows v) object ≡ false
+none_named rows v object none = unnamed (row_of rows v) object (none_at is_some rows v None none refl)
+
+-- A call whose variables name nothing holds nothing.
+pub passed_says : (rows : List (Option ℕ)) (outer : List (List (Option ℕ))) → list_any is_some rows ≡ false
+    → (k : Holding) (object : ℕ) → of_stopped (rows ∷ outer) k object ≡ of_stopped outer k object
+passed_says rows outer none AsCaller object = refl
+passed_says rows outer none InFlight object = refl
+passed_says rows outer none (ByVariable depth v) object =
+    elim (eqb_tells depth (length outer)) [
+      | inl this ↦
+          ap (λ (b : Bool). names (row_of (cond b rows (rows_at outer depth)) v) object) this.0
+          ∙ none_named rows v object none
+          ∙ sym (ap (λ (l : List (Option ℕ)). names (row_of l v) object)
+          (rows_past outer depth (omega (arith, this.1))))
+      | inr apart ↦
+          ap (λ (l : List (Option ℕ)). names (row_of l v) object) (rows_further rows outer depth apart.0)
+    ]
 
 -- ---- what a stop leaves to give up
 
@@ -124,83 +141,131 @@ owned_long [] rows = omega arith
 owned_long (var ∷ vars) [] = omega arith
 owned_long (var ∷ vars) (row ∷ rows) = let rest = owned_long vars rows in omega (arith, rest)
 
--- A thread that stops in a call gives up what its variables own.
-pub stop_says : (code : List Instr) (context : Context) (s : State) (variables : List (Option ℕ)) (k : Holding)
-    (object : ℕ)
-    → of_variables (call_of code context) s variables k object
-    ≡ of_stopped (owned_rows s.vars variables ∷ map none_of context.outer) k object
-stop_says code context s variables AsCaller object = refl
-stop_says code context s variables InFlight object = refl
-stop_says code context s variables (ByVariable depth v) object =
-    let call = call_of code context in
+-- Each open call gives up what its variables own.
+given_length : (program : Program) (outer : List OpenCall)
+    → length (given_up program.functions program.states program.first outer) ≡ length outer
+given_length program [] = refl
+given_length program (o ∷ outer) = ap suc (given_length program outer)
+
+-- If the calls further out give up what they hold, so does the call whose variables own what they own in this state.
+stop_says_by : (program : Program) (outer : List OpenCall) (s : State) (variables : List (Option ℕ))
+    → ((k : Holding) (object : ℕ) → outer_holds program outer k object
+    ≡ of_stopped (given_up program.functions program.states program.first outer) k object)
+    → (k : Holding) (object : ℕ)
+    → of_variables (activation program outer) s variables k object
+    ≡ of_stopped (owned_rows s.vars variables ∷ given_up program.functions program.states program.first outer) k object
+stop_says_by program outer s variables further AsCaller object = further AsCaller object
+stop_says_by program outer s variables further InFlight object = refl
+stop_says_by program outer s variables further (ByVariable depth v) object =
+    let call = activation program outer in
     let rows = owned_rows s.vars variables in
-    let outer = map none_of context.outer in
-    let deep : length outer ≡ depth_of context = length-map context.outer none_of in
-    by_depth call (λ k. of_variables call s variables k object ≡ of_stopped (rows ∷ outer) k object)
+    let given = given_up program.functions program.states program.first outer in
+    let deep : length given ≡ length outer = given_length program outer in
+    by_depth call (λ k. of_variables call s variables k object ≡ of_stopped (rows ∷ given) k object)
     (λ w.
     own_depth call s variables w object ∙ sym (owned_names s.vars variables w object)
     ∙ sym (ap (λ (l : List (Option ℕ)). names (row_of l w) object)
-    (subst (λ (d : ℕ). rows_at (rows ∷ outer) d ≡ rows) deep (rows_here rows outer))))
+    (subst (λ (d : ℕ). rows_at (rows ∷ given) d ≡ rows) deep (rows_here rows given))))
     (λ d w apart.
-    let further : (d == length outer) ≡ false = ap (λ (n : ℕ). d == n) deep ∙ apart in
-    other_depth call s variables d w object apart
-    ∙ sym (ap (λ (l : List (Option ℕ)). names (row_of l w) object)
-    (rows_further rows outer d further ∙ none_outer context.outer d)))
+    let past : (d == length given) ≡ false = ap (λ (n : ℕ). d == n) deep ∙ apart in
+    other_depth call s variables d w object apart ∙ further (ByVariable d w) object
+    ∙ sym (ap (λ (l : List (Option ℕ)). names (row_of l w) object) (rows_further rows given d past)))
     depth v
 
-as_root : (by : Holding) (x : ℕ) → the_root by x ≡ true → (x == root_row) ≡ true
-as_root (ByVariable depth v) x held = absurd cc
-as_root AsCaller x held = held
-as_root InFlight x held = absurd cc
+-- What the thread holds outside a call is what the calls further out give up, and the root.
+pub outer_says : (program : Program) (outer : List OpenCall) (k : Holding) (object : ℕ)
+    → outer_holds program outer k object
+    ≡ of_stopped (given_up program.functions program.states program.first outer) k object
+outer_says program [] (ByVariable depth v) object = refl
+outer_says program [] AsCaller object = refl
+outer_says program [] InFlight object = refl
+outer_says program (o ∷ outer) k object =
+    let given = given_up program.functions program.states program.first outer in
+    elim (waiting_state program.functions program.states (number_of program outer) o) as
+    (λ w. of_state (activation program outer) w o.variables k object ≡ of_stopped (owned_by w o.variables ∷ given) k
+    object) [
+      | None ↦ outer_says program outer k object ∙ sym (passed_says [] given refl k object)
+      | Some s ↦ stop_says_by program outer s o.variables (outer_says program outer) k object
+    ]
 
--- What a stopped thread has to unlock it holds: its own variable owns it, or its caller lends it.
-stop_holds : (code : List Instr) (context : Context) (s : State) (variables : List (Option ℕ)) (c x : ℕ)
+-- A thread that stops in a call gives up what its variables own, and what the calls further out hold.
+pub stop_says : (program : Program) (outer : List OpenCall) (s : State) (variables : List (Option ℕ)) (k : Holding)
+    (object : ℕ)
+    → of_variables (activation program outer) s variables k object
+    ≡ of_stopped (owned_rows s.vars variables ∷ given_up program.functions program.states program.first outer) k object
+stop_says program outer s variables k object =
+    stop_says_by program outer s variables (outer_says program outer) k object
+
+-- What a stopped thread has to unlock it holds: its own variable owns it, or it is held further out.
+stop_holds : (program : Program) (outer : List OpenCall) (s : State) (variables : List (Option ℕ)) (c x : ℕ)
     (var : VarState)
     → var_of s c ≡ var → is_kept var ≡ true → row_of variables c ≡ Some x
-    → IsGrounded (call_of code context) var (row_of variables c)
-    → (by : Holding) × (of_stopped (owned_rows s.vars variables ∷ map none_of context.outer) by x ≡ true)
-stop_holds code context s variables c x Empty is kept named grounded = absurd cc
-stop_holds code context s variables c x (Owned k) is kept named grounded =
-    let call = call_of code context in
-    let by = ByVariable (depth_of context) c in (
+    → IsGrounded (activation program outer) var (row_of variables c)
+    → (by : Holding) × (of_stopped (owned_rows s.vars variables
+    ∷ given_up program.functions program.states program.first outer) by x ≡ true)
+stop_holds program outer s variables c x Empty is kept named grounded = absurd cc
+stop_holds program outer s variables c x (Owned k) is kept named grounded =
+    let call = activation program outer in
+    let by = ByVariable (length outer) c in (
       by,
-      sym (stop_says code context s variables by x) ∙ own_depth call s variables c x
+      sym (stop_says program outer s variables by x) ∙ own_depth call s variables c x
           ∙ ap (λ (var : VarState). is_owned var && names (row_of variables c) x) is
           ∙ ap (λ (row : Option ℕ). names row x) named ∙ eq-eqb x x refl,
     )
-stop_holds code context s variables c x (Caller k) is kept named grounded =
+stop_holds program outer s variables c x (Caller k) is kept named grounded =
+    let call = activation program outer in
     let same : grounded.0 ≡ x = some_is grounded.0 x (sym grounded.1 ∙ named) in
-    (AsCaller, subst (λ (y : ℕ). (y == root_row) ≡ true) same (as_root grounded.2 grounded.0 grounded.4))
-stop_holds code context s variables c x (Locked k) is kept named grounded = absurd cc
+    let by = grounded.2 in (
+      by,
+      sym (stop_says program outer s variables by x) ∙ further_holds call s variables by x grounded.3
+          ∙ subst (λ (y : ℕ). outer_holds program outer by y ≡ true) same grounded.4,
+    )
+stop_holds program outer s variables c x (Locked k) is kept named grounded = absurd cc
 
-stop_held : (code : List Instr) (context : Context) (at : ℕ) (s : State) (variables : List (Option ℕ))
-    (o locked : Option ℕ) → IsInside (call_of code context) at variables s → Guards s variables o locked → (x : ℕ)
+stop_held : (program : Program) (outer : List OpenCall) (at : ℕ) (s : State) (variables : List (Option ℕ))
+    (o locked : Option ℕ) → IsInside (activation program outer) at variables s → Guards s variables o locked → (x : ℕ)
     → row_locked o variables ≡ Some x
-    → (by : Holding) × (of_stopped (owned_rows s.vars variables ∷ map none_of context.outer) by x ≡ true)
-stop_held code context at s variables None locked inside guards x is = absurd (none_some x is)
-stop_held code context at s variables (Some c) locked inside guards x is =
-    stop_holds code context s variables c x (var_of s c) refl guards.3 is (inside.grounded c)
+    → (by : Holding) × (of_stopped (owned_rows s.vars variables
+    ∷ given_up program.functions program.states program.first outer) by x ≡ true)
+stop_held program outer at s variables None locked inside guards x is = absurd (none_some x is)
+stop_held program outer at s variables (Some c) locked inside guards x is =
+    stop_holds program outer s variables c x (var_of s c) refl guards.3 is (inside.grounded c)
+
+-- A call gives up no more rows than it has variables.
+owned_few : (o : Option State) (rows : List (Option ℕ)) → length rows ≤ 16 → length (owned_by o rows) ≤ 16
+owned_few None rows few = omega arith
+owned_few (Some s) rows few = omega (arith, owned_long s.vars rows, few)
+
+-- One more call gives up no more rows than it has variables.
+rows_few : (rows : List (Option ℕ)) (outer : List (List (Option ℕ))) (depth : ℕ) → length rows ≤ 16
+    → length (rows_at outer depth) ≤ 16 → length (rows_at (rows ∷ outer) depth) ≤ 16
+rows_few rows outer depth here further =
+    either (λ (l : List (Option ℕ)). length l ≤ 16) (depth == length outer) rows (rows_at outer depth) (λ this. here)
+    further
+
+-- So do the calls further out.
+given_few : (program : Program) (outer : List OpenCall) (depth : ℕ) → AreOpen program outer
+    → length (rows_at (given_up program.functions program.states program.first outer) depth) ≤ 16
+given_few program [] depth opened = omega arith
+given_few program (o ∷ outer) depth opened =
+    let rows = opened.0.rows in
+    rows_few (owned_by (waiting_state program.functions program.states (number_of program outer) o) o.variables)
+    (given_up program.functions program.states program.first outer) depth
+    (owned_few (waiting_state program.functions program.states (number_of program outer) o) o.variables
+    (omega (arith, rows))) (given_few program outer depth opened.1)
 
 -- Where a thread stops in a call, its calls are few, and it holds what it has to unlock.
-pub stop_stopped : (code : List Instr) (context : Context) (at : ℕ) (s : State) (variables : List (Option ℕ))
-    (locked : Option ℕ) → IsInside (call_of code context) at variables s → LocksAgree s variables locked
-    → IsStopped (row_locked s.locked variables) (owned_rows s.vars variables ∷ map none_of context.outer)
-stop_stopped code context at s variables locked inside guards = record {
-  few =
-      let deep : length (map none_of context.outer) ≡ depth_of context = length-map context.outer none_of in
-      omega (arith, deep, inside.is_call.shallow);
-  rows = λ depth. elim (eqb_tells depth (length (map none_of context.outer))) [
-    | inl this ↦
-        let here = ap (λ (b : Bool). length (cond b (owned_rows s.vars variables)
-        (rows_at (map none_of context.outer) depth))) this.0 in
-        omega (arith, here, owned_long s.vars variables, inside.rows)
-    | inr apart ↦
-        let none = ap (λ (l : List (Option ℕ)). length l)
-        (rows_further (owned_rows s.vars variables) (map none_of context.outer) depth apart.0
-        ∙ none_outer context.outer depth) in
-        omega (arith, none)
-  ];
-  lock_held = stop_held code context at s variables s.locked locked inside guards;
+pub stop_stopped : (program : Program) (outer : List OpenCall) (at : ℕ) (s : State) (variables : List (Option ℕ))
+    (locked : Option ℕ) → IsInside (activation program outer) at variables s → LocksAgree s variables locked
+    → IsStopped (row_locked s.locked variables)
+    (owned_rows s.vars variables ∷ given_up program.functions program.states program.first outer)
+stop_stopped program outer at s variables locked inside guards = record {
+  few = omega (arith, given_length program outer, inside.is_call.shallow);
+  rows = λ depth.
+      rows_few (owned_rows s.vars variables) (given_up program.functions program.states program.first outer) depth
+      (omega (arith, owned_long s.vars variables, inside.rows)) (given_few program outer depth
+      inside.is_call.open_calls);
+  lock_held = stop_held program outer at s variables s.locked locked inside guards;
 }
 
 -- The row that a thread has to unlock where it stops is the one that it has locked.
@@ -273,30 +338,6 @@ given_says rows outer v x low is (ByVariable depth w) object =
     ]
 
 -- ---- nothing left
-
-unnamed : (row : Option ℕ) (object : ℕ) → is_some row ≡ false → names row object ≡ false
-unnamed None object none = refl
-unnamed (Some x) object none = absurd cc
-
-none_named : (rows : List (Option ℕ)) (v object : ℕ) → list_any is_some rows ≡ false
-    → names (row_of rows v) object ≡ false
-none_named rows v object none = unnamed (row_of rows v) object (none_at is_some rows v None none refl)
-
--- A call whose variables name nothing holds nothing.
-pub passed_says : (rows : List (Option ℕ)) (outer : List (List (Option ℕ))) → list_any is_some rows ≡ false
-    → (k : Holding) (object : ℕ) → of_stopped (rows ∷ outer) k object ≡ of_stopped outer k object
-passed_says rows outer none AsCaller object = refl
-passed_says rows outer none InFlight object = refl
-passed_says rows outer none (ByVariable depth v) object =
-    elim (eqb_tells depth (length outer)) [
-      | inl this ↦
-          ap (λ (b : Bool). names (row_of (cond b rows (rows_at outer depth)) v) object) this.0
-          ∙ none_named rows v object none
-          ∙ sym (ap (λ (l : List (Option ℕ)). names (row_of l v) object)
-          (rows_past outer depth (omega (arith, this.1))))
-      | inr apart ↦
-          ap (λ (l : List (Option ℕ)). names (row_of l v) object) (rows_further rows outer depth apart.0)
-    ]
 
 -- Once no call has a reference to give up, the thread holds the root alone.
 pub stopped_says : (calls : List (List (Option ℕ))) → holds_some calls ≡ false → (k : Holding) (object : ℕ)

@@ -2,9 +2,6 @@
 use Rattle.std.proofs.Common.{◌≡◌, ◌≢◌, ℕ, false, List, [], ◌∷◌, Some, refl, sym, ap, ◌∙◌, subst, None, Option}
 use Rattle.std.specs.Prelude.{slice_get}
 use Rattle.std.proofs.lemmas.Bool.{false≢true}
-use Rattle.brc_lang.specs.declared.module.Function.{Function}
-use Rattle.brc_lang.specs.declared.module.Module.{Module}
-use Rattle.brc_model.specs.Threads.{code_of}
 use Rattle.brc_model.specs.declared.duty.Duty.{Duty}
 use Rattle.brc_model.specs.declared.duty.Duty.TheVariants.{ClaimMark}
 use Rattle.brc_model.specs.declared.actor.Status.{Status}
@@ -13,7 +10,8 @@ use Rattle.brc_model.specs.declared.actor.Place.{Place}
 use Rattle.brc_model.specs.declared.actor.Place.TheVariants.{Exiting}
 use Rattle.brc_model.specs.declared.actor.Actor.{Actor}
 use Rattle.brc_model.specs.Machine.{Machine, with_actor, locked_by}
-use Rattle.brc_model.specs.Actions.{StepActor, dispatch, agenda_action}
+use Rattle.brc_model.specs.Actions.{StepActor}
+use Rattle.brc_model.specs.Dispatch.{dispatch}
 use Rattle.brc_model.specs.StepMachine.{StepMachine, counting}
 use Rattle.brc_model.specs.Accounts.{Account, Accounts, HoldsAt}
 use Rattle.brc_model.specs.OpenWork.{Agenda, AgendaFits, has_leave, exits}
@@ -26,24 +24,24 @@ use Rattle.brc_model.proofs.Basics.Lists.{none_some}
 use Rattle.brc_model.proofs.Dispatch.Taking.{SeesKinds, dispatch_taken}
 use Rattle.brc_model.proofs.Keeping.Sits.{Sits, AtRest, sitting}
 use Rattle.brc_model.specs.Layout.{block_of}
+use Rattle.brc_model.proofs.Dispatch.Programs.{running, Program, IsSound, code_at}
 
 -- The account of the place where the thread then is, with which the work fits the thread.
-pub record TakenSits (p : Module) (m : Machine) (t : ℕ) (a : StepActor) (place : Place) (locked : Option ℕ)
+pub record TakenSits (program : Program) (m : Machine) (t : ℕ) (a : StepActor) (place : Place) (locked : Option ℕ)
     (agenda : List Duty) : Type 0 where
   pub account : Account
-  pub says : PlaceSays (code_of (slice_get p.functions a.function)) place locked account
+  pub says : PlaceSays program place locked account
   pub departs : exits Running agenda ≡ is_departing place
   pub sits : Sits m t a.actor agenda account
 
-pub taken_sits : (p : Module) (c : Accounts) (n : ℕ) (m : Machine) (t : ℕ) (a : StepActor) (found : ℕ) (place : Place)
-    (d : Duty) (rest : List Duty)
+pub taken_sits : (program : Program) (c : Accounts) (n : ℕ) (m : Machine) (t : ℕ) (a : StepActor) (found : ℕ)
+    (place : Place) (d : Duty) (rest : List Duty)
     → AtRest c n m t a.actor → a.actor.aside ≡ []
-    → Taken (code_of (slice_get p.functions a.function)) (scene_of m t a.actor) found place d rest
-    → TakenSits p m t a place (locked_by a.actor.locked d found) (d ∷ rest)
-taken_sits p c n m t a found place d rest at alone taken =
-    let code = code_of (slice_get p.functions a.function) in
+    → Taken program (scene_of m t a.actor) found place d rest
+    → TakenSits program m t a place (locked_by a.actor.locked d found) (d ∷ rest)
+taken_sits program c n m t a found place d rest at alone taken =
     let locked = locked_by a.actor.locked d found in
-    let placed = placed_by code m.abstract.references t (d ∷ rest) locked place taken.placed in
+    let placed = placed_by program m.abstract.references t (d ∷ rest) locked place taken.placed in
     let departs : exits Running (d ∷ rest) ≡ is_departing place =
     starts_leave (scene_of m t a.actor) d rest taken.starts
     ∙ follows_leave m.layout t a.actor.used place rest taken.follows in
@@ -53,8 +51,8 @@ taken_sits p c n m t a found place d rest at alone taken =
       departs = departs;
       sits =
           starts_sit place d rest placed.account at alone placed.holds
-          (says_bounded m.layout code place locked placed.account placed.says)
-          (λ e. exited_none code place locked placed.account placed.says (departing_is place (sym departs ∙ e)))
+          (says_bounded m.layout program place locked placed.account placed.says)
+          (λ e. exited_none program place locked placed.account placed.says (departing_is place (sym departs ∙ e)))
           taken.keeps taken.starts taken.follows;
     }
 
@@ -96,29 +94,24 @@ pub rests : (p : Accounts) (n : ℕ) (m : Machine) (t : ℕ) (a : Actor) → Cor
 rests p n m t a core found alive none = agenda_rests a.used a a.status alive none (core.each t a found).1
 
 -- A running thread with an empty agenda isn't at the place of an exit.
-rests_elsewhere : (p : Module) (a : StepActor) (account : Account) → InCode p a account → a.actor.agenda ≡ []
+rests_elsewhere : (program : Program) (a : StepActor) (account : Account) → InCode program a account → a.actor.agenda
+    ≡ []
     → a.actor.status ≡ Running → a.place ≢ Exiting
-rests_elsewhere p a account coded none running e =
+rests_elsewhere program a account coded none running e =
     let rests : exits a.actor.status a.actor.agenda ≡ false =
     ap (λ (s : Status). exits s a.actor.agenda) running ∙ ap has_leave none in
     false≢true (sym rests ∙ coded.departs ∙ ap is_departing e)
 
-pub dispatch_fits : (p : Module) (c : Accounts) (n : ℕ) (m : StepMachine) (t : ℕ) (a : StepActor)
-    → AtRest c n (counting m) t a.actor
-    → m.functions ≡ p.functions → InCode p a (c t)
-    → SeesKinds (code_of (slice_get p.functions a.function)) (scene_of (counting m) t a.actor) a.place
-    → IsTaken (code_of (slice_get p.functions a.function)) (scene_of (counting m) t a.actor)
-    (agenda_action m.functions m.layout t a [])
-dispatch_fits p c n m t a at functions coded sees =
-    let code = code_of (slice_get p.functions a.function) in
-    let g = scene_of (counting m) t a.actor in
+pub dispatch_fits : (program : Program) (c : Accounts) (n : ℕ) (m : StepMachine) (t : ℕ) (a : StepActor)
+    → AtRest c n (counting m) t a.actor → IsSound program → InCode program a (c t)
+    → SeesKinds program (scene_of (counting m) t a.actor) a.place
+    → IsTaken program (scene_of (counting m) t a.actor)
+    (dispatch m.layout t a.actor.used (code_at program a.place) a.place)
+dispatch_fits program c n m t a at sound coded sees =
     let holds : HoldsAlone m.abstract.references t (c t) [] =
     alone_holds m.abstract.references t (c t) [] a.actor.aside coded.alone
     (subst (λ (l : List Duty). HoldsAt m.abstract.references t (c t) l a.actor.aside) at.agenda
     (at.core.each t a.actor at.found).0.holds) in
-    let stays = rests_elsewhere p a (c t) coded at.agenda at.running in
-    let here : IsTaken code g (dispatch m.layout t a.actor.used code a.place) =
-    dispatch_taken code g a.place coded.accepted coded.instructions stays
-    (place_fits code m.abstract.references t [] a.actor.locked a.place (c t) coded.says holds) sees in
-    subst (λ (fs : List Function). IsTaken code g
-    (dispatch m.layout t a.actor.used (code_of (slice_get fs a.function)) a.place)) (sym functions) here
+    dispatch_taken program (scene_of (counting m) t a.actor) a.place sound
+    (rests_elsewhere program a (c t) coded at.agenda at.running)
+    (place_fits program m.abstract.references t [] a.actor.locked a.place (c t) coded.says holds) sees

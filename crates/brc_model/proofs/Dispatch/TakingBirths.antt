@@ -3,7 +3,6 @@ use Rattle.std.proofs.Common.{◌≡◌, ℕ, ◌+◌, ◌<◌, true, false, Lis
 use Rattle.std.specs.Prelude.{◌==◌, slice_set}
 use Rattle.std.proofs.lemmas.List.{length-set}
 use Rattle.std.proofs.lemmas.Bool.{ltb-true, ne_eqb}
-use Rattle.brc_lang.specs.declared.module.Instr.{Instr}
 use Rattle.brc_lang.specs.declared.module.Instr.TheVariants.{Num, List as ListObject}
 use Rattle.brc_lang.specs.declared.kind.Kind.{Kind}
 use Rattle.brc_lang.specs.declared.kind.Kind.TheVariants as kinds
@@ -31,8 +30,10 @@ use Rattle.brc_model.proofs.Frame.Aside.{HoldsAlone}
 use Rattle.brc_model.proofs.Dispatch.Holds.{once_each, of_variables, Holds, call_of}
 use Rattle.brc_model.proofs.Dispatch.Grounded.{IsInside, grounded-put}
 use Rattle.brc_model.proofs.Dispatch.Guards.{LocksAgree, HeldBeside, guards-put}
-use Rattle.brc_model.proofs.Dispatch.TakingUp.{Scene, StandsAt, Bears, Nothing, Taken, SilentTaken, IsTaken, holds_at_none, in_call_stays, newref_held, cleared_held}
+use Rattle.brc_model.proofs.Dispatch.TakingUp.{Scene, StandsAt, Bears, Nothing, Taken, SilentTaken, IsTaken, holds_at_none, in_call_stays}
+use Rattle.brc_model.proofs.Dispatch.OneMoreOrLess.{newref_held, cleared_held}
 use Rattle.brc_model.proofs.Dispatch.Standing.{keeps_all}
+use Rattle.brc_model.proofs.Dispatch.Programs.{Program, running}
 
 -- A number has no cells.
 pub number_cells : (value : ℕ) → value < half → cells_of (number_word value) ≤ text_cells
@@ -67,12 +68,12 @@ list_counts cells few =
 
 -- A thread at an instruction that makes an object of the kind word in a variable that owns nothing: on success the
 -- variable owns an object of the kind, and where the thread has no row left the variable is empty.
-pub record BearsAt (code : List Instr) (context : Context) (g : Scene) (at : ℕ) (variables : List (Option ℕ))
+pub record BearsAt (program : Program) (context : Context) (g : Scene) (at : ℕ) (variables : List (Option ℕ))
     (s : State)
     (to word otherwise : ℕ)
     (kind : Kind) : Type 0 where
-  pub inside : IsInside (call_of code context) at variables s
-  pub holds : Holds g.bag g.thread (of_variables (call_of code context) s variables)
+  pub inside : IsInside (call_of program context) at variables s
+  pub holds : Holds g.bag g.thread (of_variables (call_of program context) s variables)
   pub guards : LocksAgree s variables g.locked
   pub unlocked : names s.locked to ≡ false
   pub keeps : (x : ℕ) → g.locked ≡ Some x
@@ -81,34 +82,35 @@ pub record BearsAt (code : List Instr) (context : Context) (g : Scene) (at : ℕ
   pub free : is_owned (var_of s to) ≡ false
   pub few_cells : cells_of word ≤ text_cells
   pub counted : is_counted_kind (kind_of_word word) ≡ true
-  pub owned_next : path_end code (inside.exits ++ Success ∷ []) ≡ At (at + 1) (put s to (Owned kind))
-  pub empty_next : path_end code (inside.exits ++ Fault ∷ []) ≡ At otherwise (put s to Empty)
+  pub owned_next : path_end (running program context.outer) (inside.exits ++ Success ∷ []) ≡ At (at + 1)
+      (put s to (Owned kind))
+  pub empty_next : path_end (running program context.outer) (inside.exits ++ Fault ∷ []) ≡ At otherwise (put s to Empty)
 
-pub born : (code : List Instr) (g : Scene) (context : Context) (at : ℕ) (variables : List (Option ℕ))
+pub born : (program : Program) (g : Scene) (context : Context) (at : ℕ) (variables : List (Option ℕ))
     (s : State) (to word otherwise : ℕ) (kind : Kind)
-    → BearsAt code context g at variables s to word otherwise kind → has_room g.layout g.thread g.used ≡ true
+    → BearsAt program context g at variables s to word otherwise kind → has_room g.layout g.thread g.used ≡ true
     → (found : ℕ)
-    → Taken code g found (InCall context (at + 1) (slice_set variables to (Some (row_at g.layout g.thread g.used))))
+    → Taken program g found (InCall context (at + 1) (slice_set variables to (Some (row_at g.layout g.thread g.used))))
     (BirthKind (row_at g.layout g.thread g.used) (by_variable context to) word) []
-born code g context at variables s to word otherwise kind here room found =
+born program g context at variables s to word otherwise kind here room found =
     let row = row_at g.layout g.thread g.used in
     let var : VarState = Owned kind in
     let in_vars : to < length s.vars = omega (arith, here.variable, here.inside.vars) in
     let in_rows : to < length variables = omega (arith, here.variable, here.inside.rows) in
-    let next : IsInside (call_of code context) (at + 1) (slice_set variables to (Some row)) (put s to var) = record {
+    let next : IsInside (call_of program context) (at + 1) (slice_set variables to (Some row)) (put s to var) = record {
       is_call = here.inside.is_call;
       exits = here.inside.exits ++ Success ∷ [];
       arrived = here.owned_next;
       vars = length-set s.vars to var ∙ here.inside.vars;
       rows = length-set variables to (Some row) ∙ here.inside.rows;
-      grounded = grounded-put (call_of code context) s variables to var (Some row) in_vars in_rows (row, refl)
+      grounded = grounded-put (call_of program context) s variables to var (Some row) in_vars in_rows (row, refl)
           here.inside.grounded;
     } in
-    let held_now : HoldsAlone g.bag g.thread (once_each (of_variables (call_of code context) (put s to var)
+    let held_now : HoldsAlone g.bag g.thread (once_each (of_variables (call_of program context) (put s to var)
     (slice_set variables to (Some row))))
     (BirthKind row (by_variable context to) word ∷ []) =
     record {
-      each = newref_held g.bag g.thread (call_of code context) s variables to row var in_vars in_rows
+      each = newref_held g.bag g.thread (call_of program context) s variables to row var in_vars in_rows
           here.free refl here.holds;
     } in
     record {
@@ -125,26 +127,27 @@ born code g context at variables s to word otherwise kind here room found =
     }
 
 -- A thread whose instruction makes no object empties the variable and goes on at the fault exit.
-pub refused : (code : List Instr) (g : Scene) (context : Context) (at : ℕ) (variables : List (Option ℕ)) (s : State)
-    (to otherwise : ℕ) → (inside : IsInside (call_of code context) at variables s)
-    → Holds g.bag g.thread (of_variables (call_of code context) s variables)
+pub refused : (program : Program) (g : Scene) (context : Context) (at : ℕ) (variables : List (Option ℕ)) (s : State)
+    (to otherwise : ℕ) → (inside : IsInside (call_of program context) at variables s)
+    → Holds g.bag g.thread (of_variables (call_of program context) s variables)
     → LocksAgree s variables g.locked → names s.locked to ≡ false → to < variable_count
-    → is_owned (var_of s to) ≡ false → path_end code (inside.exits ++ Fault ∷ []) ≡ At otherwise (put s to Empty)
-    → SilentTaken code g [] (InCall context otherwise (slice_set variables to None))
-refused code g context at variables s to otherwise inside holds guards unlocked low free arrived =
+    → is_owned (var_of s to) ≡ false → path_end (running program context.outer) (inside.exits ++ Fault ∷ []) ≡ At
+    otherwise (put s to Empty)
+    → SilentTaken program g [] (InCall context otherwise (slice_set variables to None))
+refused program g context at variables s to otherwise inside holds guards unlocked low free arrived =
     let in_vars : to < length s.vars = omega (arith, low, inside.vars) in
     let in_rows : to < length variables = omega (arith, low, inside.rows) in
-    let next : IsInside (call_of code context) otherwise (slice_set variables to None) (put s to Empty) = record {
+    let next : IsInside (call_of program context) otherwise (slice_set variables to None) (put s to Empty) = record {
       is_call = inside.is_call;
       exits = inside.exits ++ Fault ∷ [];
       arrived = arrived;
       vars = length-set s.vars to Empty ∙ inside.vars;
       rows = length-set variables to None ∙ inside.rows;
-      grounded = grounded-put (call_of code context) s variables to Empty None in_vars in_rows tt inside.grounded;
+      grounded = grounded-put (call_of program context) s variables to Empty None in_vars in_rows tt inside.grounded;
     } in
-    let cleared : Holds g.bag g.thread (of_variables (call_of code context) (put s to Empty)
+    let cleared : Holds g.bag g.thread (of_variables (call_of program context) (put s to Empty)
     (slice_set variables to None)) =
-    record { each = cleared_held g.bag g.thread (call_of code context) s variables to in_vars free holds } in
+    record { each = cleared_held g.bag g.thread (call_of program context) s variables to in_vars free holds } in
     record {
       moves_fit = Stays;
       placed = (
@@ -157,36 +160,36 @@ refused code g context at variables s to otherwise inside holds guards unlocked 
     }
 
 -- If the thread has no room for a row, its instruction makes no object.
-not_born : (code : List Instr) (g : Scene) (context : Context) (at : ℕ) (variables : List (Option ℕ)) (s : State)
+not_born : (program : Program) (g : Scene) (context : Context) (at : ℕ) (variables : List (Option ℕ)) (s : State)
     (to word otherwise : ℕ) (kind : Kind)
-    → BearsAt code context g at variables s to word otherwise kind
-    → SilentTaken code g [] (InCall context otherwise (slice_set variables to None))
-not_born code g context at variables s to word otherwise kind here =
-    refused code g context at variables s to otherwise here.inside here.holds here.guards here.unlocked here.variable
+    → BearsAt program context g at variables s to word otherwise kind
+    → SilentTaken program g [] (InCall context otherwise (slice_set variables to None))
+not_born program g context at variables s to word otherwise kind here =
+    refused program g context at variables s to otherwise here.inside here.holds here.guards here.unlocked here.variable
     here.free here.empty_next
 
-birth_taken : (code : List Instr) (g : Scene) (context : Context) (at : ℕ)
+birth_taken : (program : Program) (g : Scene) (context : Context) (at : ℕ)
     (variables : List (Option ℕ))
     (s : State) (to word otherwise : ℕ) (kind : Kind)
-    → BearsAt code context g at variables s to word otherwise kind
-    → IsTaken code g (birth_action g.layout g.thread g.used context at variables to word otherwise)
-birth_taken code g context at variables s to word otherwise kind here =
-    either (IsTaken code g) (has_room g.layout g.thread g.used) _ _
-    (λ room found. born code g context at variables s to word otherwise kind here room found)
-    (not_born code g context at variables s to word otherwise kind here)
+    → BearsAt program context g at variables s to word otherwise kind
+    → IsTaken program g (birth_action g.layout g.thread g.used context at variables to word otherwise)
+birth_taken program g context at variables s to word otherwise kind here =
+    either (IsTaken program g) (has_room g.layout g.thread g.used) _ _
+    (λ room found. born program g context at variables s to word otherwise kind here room found)
+    (not_born program g context at variables s to word otherwise kind here)
 
-module _ {code : List Instr} {g : Scene} {before : Place} {context : Context} {at : ℕ} {variables : List (Option ℕ)}
+module _ {program : Program} {g : Scene} {before : Place} {context : Context} {at : ℕ} {variables : List (Option ℕ)}
     {s : State} where
-  pub num_taken : (to value otherwise : ℕ) → StandsAt code context g before at variables s (Num to value otherwise)
-      → IsTaken code g (dispatch_instruction g.layout g.thread g.used before context at variables
+  pub num_taken : (to value otherwise : ℕ) → StandsAt program context g before at variables s (Num to value otherwise)
+      → IsTaken program g (dispatch_instruction g.layout g.thread g.used before context at variables
       (Some (Num to value otherwise)))
   num_taken to value otherwise here =
-      birth_taken code g context at variables s to (number_word value) otherwise kinds.Num (record {
+      birth_taken program g context at variables s to (number_word value) otherwise kinds.Num (record {
         inside = here.inside;
         holds = here.holds;
         guards = here.guards;
         unlocked = first_false _ _ here.met.unlocked;
-        keeps = keeps_all code context g before at variables s (Num to value otherwise)
+        keeps = keeps_all program context g before at variables s (Num to value otherwise)
             (BirthKind (row_at g.layout g.thread g.used) (by_variable context to) (number_word value)) here
             (λ k object. refl);
         variable = here.variables.0;
@@ -198,16 +201,16 @@ module _ {code : List Instr} {g : Scene} {before : Place} {context : Context} {a
       })
 
   pub list_taken : (to cells otherwise : ℕ)
-      → StandsAt code context g before at variables s (ListObject to cells otherwise)
-      → IsTaken code g (dispatch_instruction g.layout g.thread g.used before context at variables
+      → StandsAt program context g before at variables s (ListObject to cells otherwise)
+      → IsTaken program g (dispatch_instruction g.layout g.thread g.used before context at variables
       (Some (ListObject to cells otherwise)))
   list_taken to cells otherwise here =
-      birth_taken code g context at variables s to (list_word cells) otherwise kinds.List (record {
+      birth_taken program g context at variables s to (list_word cells) otherwise kinds.List (record {
         inside = here.inside;
         holds = here.holds;
         guards = here.guards;
         unlocked = first_false _ _ here.met.unlocked;
-        keeps = keeps_all code context g before at variables s (ListObject to cells otherwise)
+        keeps = keeps_all program context g before at variables s (ListObject to cells otherwise)
             (BirthKind (row_at g.layout g.thread g.used) (by_variable context to) (list_word cells)) here
             (λ k object. refl);
         variable = here.variables.0;

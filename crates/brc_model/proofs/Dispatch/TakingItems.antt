@@ -28,27 +28,31 @@ use Rattle.brc_model.proofs.Dispatch.Holds.{once_each, Activation, of_variables,
 use Rattle.brc_model.proofs.Dispatch.Grounded.{IsInside, grounded-put, grounded-without, says-without}
 use Rattle.brc_model.proofs.Dispatch.Guards.{LocksAgree, guards-put, guards-without}
 use Rattle.brc_model.proofs.Dispatch.Coded.{has_stage, in_flight, PlaceFits}
-use Rattle.brc_model.proofs.Dispatch.TakingUp.{Scene, StandsAt, Backs, Asks, Nothing, Taken, IsTaken, taken_with_row, in_call_stays, inside_stays, cleared_held}
+use Rattle.brc_model.proofs.Dispatch.TakingUp.{Scene, StandsAt, Backs, Asks, Nothing, Taken, IsTaken, taken_with_row, in_call_stays, inside_stays}
+use Rattle.brc_model.proofs.Dispatch.OneMoreOrLess.{cleared_held}
 use Rattle.brc_model.proofs.Dispatch.Standing.{named_at, keeps_all}
+use Rattle.brc_model.proofs.Dispatch.Programs.{Program, running, code_in}
 
 -- ---- a place inside an instruction
 
 -- The place fits a thread that has got so far inside the instruction at the point.
-pub inside_fits : (code : List Instr) (bag : List Reference) (t : ℕ) (agenda : List Duty) (locked : Option ℕ)
+pub inside_fits : (program : Program) (bag : List Reference) (t : ℕ) (agenda : List Duty) (locked : Option ℕ)
     (context : Context) (at : ℕ) (variables : List (Option ℕ)) (s : State) (stage : Stage) (i : Instr)
     (flight : Option ℕ)
-    → slice_get code at ≡ Some i → in_flight (Some i) stage variables ≡ flight → has_stage (Some i) stage ≡ true
-    → IsInside (call_of code context) at variables s → LocksAgree s variables locked
-    → HoldsAlone bag t (once_each (of_inside (call_of code context) flight s variables)) agenda
-    → PlaceFits code bag t agenda locked (Inside context at variables stage)
-inside_fits code bag t agenda locked context at variables s stage i flight found is staged inside guards holds = (
+    → slice_get (code_in program context) at ≡ Some i → in_flight (Some i) stage variables ≡ flight → has_stage (Some i)
+    stage ≡ true
+    → IsInside (call_of program context) at variables s → LocksAgree s variables locked
+    → HoldsAlone bag t (once_each (of_inside (call_of program context) flight s variables)) agenda
+    → PlaceFits program bag t agenda locked (Inside context at variables stage)
+inside_fits program bag t agenda locked context at variables s stage i flight found is staged inside guards holds = (
   s,
   inside,
   guards,
   subst (λ (o : Option Instr).
-      HoldsAlone bag t (once_each (of_inside (call_of code context) (in_flight o stage variables) s variables)) agenda)
+      HoldsAlone bag t (once_each (of_inside (call_of program context) (in_flight o stage variables) s variables))
+      agenda)
       (sym found)
-      (subst (λ (f : Option ℕ). HoldsAlone bag t (once_each (of_inside (call_of code context) f s variables)) agenda)
+      (subst (λ (f : Option ℕ). HoldsAlone bag t (once_each (of_inside (call_of program context) f s variables)) agenda)
       (sym is) holds),
   ap (λ (o : Option Instr). has_stage o stage) found ∙ staged,
 )
@@ -62,52 +66,54 @@ holds_nothing_in_flight bag t call s variables holds =
 
 -- ---- the kind word is loaded
 
-module _ {code : List Instr} {g : Scene} {before : Place} {context : Context} {at : ℕ} {variables : List (Option ℕ)}
+module _ {program : Program} {g : Scene} {before : Place} {context : Context} {at : ℕ} {variables : List (Option ℕ)}
     {s : State} where
   -- The thread holds what it held while it loads the list's kind word, wherever it then is.
-  asks_first : (i : Instr) (list row found : ℕ) (place : Place) → StandsAt code context g before at variables s i
+  asks_first : (i : Instr) (list row found : ℕ) (place : Place) → StandsAt program context g before at variables s i
       → is_empty (var_of s list) ≡ false → row_of variables list ≡ Some row → (place ≢ Exiting)
-      → PlaceFits code g.bag g.thread (KindLoad row ∷ []) g.locked place → Taken code g found place (KindLoad row) []
+      → PlaceFits program g.bag g.thread (KindLoad row ∷ []) g.locked place → Taken program g found place (KindLoad row)
+      []
   asks_first i list row found place here some is stays fits =
-      let named = named_at code context g before at variables s i list here some in
+      let named = named_at program context g before at variables s i list here some in
       let same : named.object ≡ row = some_is named.object row (sym named.is_row ∙ is) in
       record {
         placed = fits;
         starts = Asks row (subst (λ (x : ℕ). Backs g x) same named.backs);
         follows = Nothing stays;
-        keeps = keeps_all code context g before at variables s i (KindLoad row) here (λ k object. refl);
+        keeps = keeps_all program context g before at variables s i (KindLoad row) here (λ k object. refl);
       }
 
   -- The place inside the instruction, while the kind word is loaded.
-  asks_inside : (i : Instr) (row : ℕ) (stage : Stage) → StandsAt code context g before at variables s i
+  asks_inside : (i : Instr) (row : ℕ) (stage : Stage) → StandsAt program context g before at variables s i
       → in_flight (Some i) stage variables ≡ None → has_stage (Some i) stage ≡ true
-      → PlaceFits code g.bag g.thread (KindLoad row ∷ []) g.locked (Inside context at variables stage)
+      → PlaceFits program g.bag g.thread (KindLoad row ∷ []) g.locked (Inside context at variables stage)
   asks_inside i row stage here is staged =
-      let holds = holds_nothing_in_flight g.bag g.thread (call_of code context) s variables here.holds in
-      inside_fits code g.bag g.thread (KindLoad row ∷ []) g.locked context at variables s stage i None here.found is
+      let holds = holds_nothing_in_flight g.bag g.thread (call_of program context) s variables here.holds in
+      inside_fits program g.bag g.thread (KindLoad row ∷ []) g.locked context at variables s stage i None here.found is
       staged here.inside here.guards (record { each = λ k object. omega (arith, holds.each k object) })
 
 -- The list has no such cell, so no item comes into the variable.
-asks_empty : (code : List Instr) (g : Scene) (before : Place) (context : Context) (at : ℕ)
+asks_empty : (program : Program) (g : Scene) (before : Place) (context : Context) (at : ℕ)
     (variables : List (Option ℕ)) (s : State)
     (i : Instr) (row to otherwise : ℕ)
-    → (here : StandsAt code context g before at variables s i) → to < 16 → is_owned (var_of s to) ≡ false
+    → (here : StandsAt program context g before at variables s i) → to < 16 → is_owned (var_of s to) ≡ false
     → names s.locked to ≡ false
-    → path_end code (here.inside.exits ++ Fault ∷ []) ≡ At otherwise (put s to Empty)
-    → PlaceFits code g.bag g.thread (KindLoad row ∷ []) g.locked
+    → path_end (running program context.outer) (here.inside.exits ++ Fault ∷ []) ≡ At otherwise (put s to Empty)
+    → PlaceFits program g.bag g.thread (KindLoad row ∷ []) g.locked
     (InCall context otherwise (slice_set variables to None))
-asks_empty code g before context at variables s i row to otherwise here low free unlocked arrived =
+asks_empty program g before context at variables s i row to otherwise here low free unlocked arrived =
     let in_vars : to < length s.vars = omega (arith, low, here.inside.vars) in
     let in_rows : to < length variables = omega (arith, low, here.inside.rows) in
-    let next : IsInside (call_of code context) otherwise (slice_set variables to None) (put s to Empty) = record {
+    let next : IsInside (call_of program context) otherwise (slice_set variables to None) (put s to Empty) = record {
       is_call = here.inside.is_call;
       exits = here.inside.exits ++ Fault ∷ [];
       arrived = arrived;
       vars = length-set s.vars to Empty ∙ here.inside.vars;
       rows = length-set variables to None ∙ here.inside.rows;
-      grounded = grounded-put (call_of code context) s variables to Empty None in_vars in_rows tt here.inside.grounded;
+      grounded = grounded-put (call_of program context) s variables to Empty None in_vars in_rows tt
+          here.inside.grounded;
     } in
-    let cleared = cleared_held g.bag g.thread (call_of code context) s variables to in_vars free here.holds in (
+    let cleared = cleared_held g.bag g.thread (call_of program context) s variables to in_vars free here.holds in (
       put s to Empty,
       next,
       guards-put s variables to Empty None s.locked g.locked unlocked here.guards,
@@ -115,100 +121,101 @@ asks_empty code g before context at variables s i row to otherwise here low free
     )
 
 -- An instruction that brings an item into a variable: inside, or at the fault exit with an empty variable.
-brings_taken : (code : List Instr) (g : Scene) (before : Place) (context : Context) (at : ℕ)
+brings_taken : (program : Program) (g : Scene) (before : Place) (context : Context) (at : ℕ)
     (variables : List (Option ℕ)) (s : State)
     (i : Instr) (to list index otherwise : ℕ)
-    → (here : StandsAt code context g before at variables s i) → to < 16 → is_owned (var_of s to) ≡ false
+    → (here : StandsAt program context g before at variables s i) → to < 16 → is_owned (var_of s to) ≡ false
     → names s.locked to ≡ false → is_empty (var_of s list) ≡ false
     → in_flight (Some i) InRange variables ≡ None → has_stage (Some i) InRange ≡ true
-    → path_end code (here.inside.exits ++ Fault ∷ []) ≡ At otherwise (put s to Empty)
-    → IsTaken code g (with_row (row_of variables list)
+    → path_end (running program context.outer) (here.inside.exits ++ Fault ∷ []) ≡ At otherwise (put s to Empty)
+    → IsTaken program g (with_row (row_of variables list)
     (λ row. Does (KindLoad row) []
     (by_range index (Inside context at variables InRange) (InCall context otherwise (slice_set variables to None)))))
-brings_taken code g before context at variables s i to list index otherwise here low free unlocked some is staged
+brings_taken program g before context at variables s i to list index otherwise here low free unlocked some is staged
     arrived =
-    let named = named_at code context g before at variables s i list here some in
+    let named = named_at program context g before at variables s i list here some in
     let row = named.object in
     let outside = InCall context otherwise (slice_set variables to None) in
-    let taken : (found : ℕ) → Taken code g found (by_range index (Inside context at variables InRange) outside found)
+    let taken : (found : ℕ) → Taken program g found (by_range index (Inside context at variables InRange) outside found)
     (KindLoad row) [] = λ found.
-    either (λ (place : Place). Taken code g found place (KindLoad row) []) (nat_lt index (cells_of found))
+    either (λ (place : Place). Taken program g found place (KindLoad row) []) (nat_lt index (cells_of found))
     (Inside context at variables InRange) outside
     (λ within. asks_first i list row found (Inside context at variables InRange) here some named.is_row
     (inside_stays context at variables InRange) (asks_inside i row InRange here is staged))
     (asks_first i list row found outside here some named.is_row
     (in_call_stays context otherwise (slice_set variables to None))
-    (asks_empty code g before context at variables s i row to otherwise here low free unlocked arrived)) in
-    taken_with_row code g row (row_of variables list)
+    (asks_empty program g before context at variables s i row to otherwise here low free unlocked arrived)) in
+    taken_with_row program g row (row_of variables list)
     (λ x. Does (KindLoad x) [] (by_range index (Inside context at variables InRange) outside)) named.is_row taken
 
-module _ {code : List Instr} {g : Scene} {before : Place} {context : Context} {at : ℕ} {variables : List (Option ℕ)}
+module _ {program : Program} {g : Scene} {before : Place} {context : Context} {at : ℕ} {variables : List (Option ℕ)}
     {s : State} where
   pub borrow_taken : (to list index otherwise : ℕ)
-      → StandsAt code context g before at variables s (Borrow to list index otherwise)
-      → IsTaken code g (dispatch_instruction g.layout g.thread g.used before context at variables
+      → StandsAt program context g before at variables s (Borrow to list index otherwise)
+      → IsTaken program g (dispatch_instruction g.layout g.thread g.used before context at variables
       (Some (Borrow to list index otherwise)))
   borrow_taken to list index otherwise here =
-      brings_taken code g before context at variables s (Borrow to list index otherwise) to list index otherwise here
+      brings_taken program g before context at variables s (Borrow to list index otherwise) to list index otherwise here
       here.variables.0 (first_false _ _ here.met.free) (first_false _ _ here.met.unlocked)
       (first_false _ _ here.met.not_empty) refl refl (here.leads Fault otherwise refl)
 
   pub fetch_taken : (to list index otherwise : ℕ)
-      → StandsAt code context g before at variables s (Fetch to list index otherwise)
-      → IsTaken code g (dispatch_instruction g.layout g.thread g.used before context at variables
+      → StandsAt program context g before at variables s (Fetch to list index otherwise)
+      → IsTaken program g (dispatch_instruction g.layout g.thread g.used before context at variables
       (Some (Fetch to list index otherwise)))
   fetch_taken to list index otherwise here =
-      brings_taken code g before context at variables s (Fetch to list index otherwise) to list index otherwise here
+      brings_taken program g before context at variables s (Fetch to list index otherwise) to list index otherwise here
       here.variables.0 (first_false _ _ here.met.free) (first_false _ _ here.met.unlocked)
       (first_false _ _ here.met.not_empty) refl refl (here.leads Fault otherwise refl)
 
   -- ---- an instruction that stores an item
 
   pub set_taken : (list index from otherwise : ℕ)
-      → StandsAt code context g before at variables s (Set list index from otherwise)
-      → IsTaken code g (dispatch_instruction g.layout g.thread g.used before context at variables
+      → StandsAt program context g before at variables s (Set list index from otherwise)
+      → IsTaken program g (dispatch_instruction g.layout g.thread g.used before context at variables
       (Some (Set list index from otherwise)))
   set_taken list index from otherwise here =
       let i = Set list index from otherwise in
       let some : is_empty (var_of s list) ≡ false = first_false _ _ (second_false _ _ here.met.not_empty) in
-      let named = named_at code context g before at variables s i list here some in
+      let named = named_at program context g before at variables s i list here some in
       let row = named.object in
       let at_stage : (stage : Stage) → in_flight (Some i) stage variables ≡ None → has_stage (Some i) stage ≡ true
-      → (found : ℕ) → Taken code g found (Inside context at variables stage) (KindLoad row) [] =
+      → (found : ℕ) → Taken program g found (Inside context at variables stage) (KindLoad row) [] =
       λ stage is staged found.
       asks_first i list row found (Inside context at variables stage) here some named.is_row
       (inside_stays context at variables stage) (asks_inside i row stage here is staged) in
-      let taken : (found : ℕ) → Taken code g found
+      let taken : (found : ℕ) → Taken program g found
       (by_range index (Inside context at variables InRange) (Inside context at variables OutOfRange) found)
       (KindLoad row) [] = λ found.
-      either (λ (place : Place). Taken code g found place (KindLoad row) []) (nat_lt index (cells_of found))
+      either (λ (place : Place). Taken program g found place (KindLoad row) []) (nat_lt index (cells_of found))
       (Inside context at variables InRange) (Inside context at variables OutOfRange)
       (λ within. at_stage InRange refl refl found) (at_stage OutOfRange refl refl found) in
-      taken_with_row code g row (row_of variables list)
+      taken_with_row program g row (row_of variables list)
       (λ x. Does (KindLoad x) []
       (by_range index (Inside context at variables InRange) (Inside context at variables OutOfRange))) named.is_row
       taken
 
   pub put_taken : (list index from otherwise : ℕ)
-      → StandsAt code context g before at variables s (Put list index from otherwise)
-      → IsTaken code g (dispatch_instruction g.layout g.thread g.used before context at variables
+      → StandsAt program context g before at variables s (Put list index from otherwise)
+      → IsTaken program g (dispatch_instruction g.layout g.thread g.used before context at variables
       (Some (Put list index from otherwise)))
   put_taken list index from otherwise here =
       let i = Put list index from otherwise in
       let some : is_empty (var_of s list) ≡ false = first_false _ _
       (second_false (is_empty (var_of s from)) _ here.met.not_empty) in
-      let named = named_at code context g before at variables s i list here some in
+      let named = named_at program context g before at variables s i list here some in
       let row = named.object in
       let changed = without_items s in
-      let next : IsInside (call_of code context) otherwise variables changed = record {
+      let next : IsInside (call_of program context) otherwise variables changed = record {
         is_call = here.inside.is_call;
         exits = here.inside.exits ++ Fault ∷ [];
         arrived = here.leads Fault otherwise refl;
         vars = length-map s.vars without_item ∙ here.inside.vars;
         rows = here.inside.rows;
-        grounded = grounded-without (call_of code context) s variables here.inside.grounded;
+        grounded = grounded-without (call_of program context) s variables here.inside.grounded;
       } in
-      let outside : PlaceFits code g.bag g.thread (KindLoad row ∷ []) g.locked (InCall context otherwise variables) = (
+      let outside : PlaceFits program g.bag g.thread (KindLoad row ∷ []) g.locked (InCall context otherwise variables)
+      = (
         changed,
         next,
         guards-without s variables s.locked g.locked here.guards,
@@ -217,19 +224,19 @@ module _ {code : List Instr} {g : Scene} {before : Place} {context : Context} {a
               omega (
                 arith,
                 here.holds.each k object,
-                ap one_if (says-without (call_of code context) s variables k object),
+                ap one_if (says-without (call_of program context) s variables k object),
               );
         },
       ) in
       let taken : (found : ℕ)
-      → Taken code g found (by_range index (Inside context at variables InRange) (InCall context otherwise variables)
+      → Taken program g found (by_range index (Inside context at variables InRange) (InCall context otherwise variables)
       found) (KindLoad row) [] =
-      λ found. either (λ (place : Place). Taken code g found place (KindLoad row) []) (nat_lt index (cells_of found))
+      λ found. either (λ (place : Place). Taken program g found place (KindLoad row) []) (nat_lt index (cells_of found))
       (Inside context at variables InRange) (InCall context otherwise variables)
       (λ within. asks_first i list row found (Inside context at variables InRange) here some named.is_row
       (inside_stays context at variables InRange) (asks_inside i row InRange here refl refl))
       (asks_first i list row found (InCall context otherwise variables) here some named.is_row
       (in_call_stays context otherwise variables) outside) in
-      taken_with_row code g row (row_of variables list)
+      taken_with_row program g row (row_of variables list)
       (λ x. Does (KindLoad x) []
       (by_range index (Inside context at variables InRange) (InCall context otherwise variables))) named.is_row taken

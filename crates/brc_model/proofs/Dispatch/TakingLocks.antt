@@ -3,7 +3,6 @@ use Rattle.std.proofs.Common.{◌≡◌, ◌≢◌, ℕ, ◌+◌, true, false, L
 use Rattle.std.specs.Prelude.{◌==◌}
 use Rattle.std.proofs.lemmas.List.{length-map}
 use Rattle.std.proofs.lemmas.Bool.{not-false}
-use Rattle.brc_lang.specs.declared.module.Instr.{Instr}
 use Rattle.brc_lang.specs.declared.module.Instr.TheVariants.{Lock, Unlock}
 use Rattle.brc_word.specs.Words.{free_word}
 use Rattle.brc_model.specs.declared.state.VarState.{VarState}
@@ -30,6 +29,7 @@ use Rattle.brc_model.proofs.Dispatch.Coded.{PlaceFits, fits_with}
 use Rattle.brc_model.proofs.Dispatch.Lockable.{lockable_word}
 use Rattle.brc_model.proofs.Dispatch.TakingUp.{Scene, StandsAt, Locks, Unlocks, Nothing, Taken, IsTaken, taken_with_row, in_call_stays, words_of}
 use Rattle.brc_model.proofs.Dispatch.Standing.{named_at, keeps_all}
+use Rattle.brc_model.proofs.Dispatch.Programs.{Program}
 
 -- ---- lock
 
@@ -47,27 +47,28 @@ says_locked call s variables o InFlight object = refl
 
 -- The gate is free: the thread has locked the object and is at the next instruction. The gate isn't free: the thread is
 -- where it was.
-lock_taken_at : (code : List Instr) (g : Scene) (before after : Place) (row found : ℕ)
-    → PlaceFits code g.bag g.thread (LockGate row ∷ []) (Some row) after → (after ≢ Exiting)
-    → PlaceFits code g.bag g.thread (LockGate row ∷ []) g.locked before → (before ≢ Exiting)
-    → PlaceFits code g.bag g.thread (LockGate row ∷ []) (cond (found == free_word) (Some row) g.locked)
+lock_taken_at : (program : Program) (g : Scene) (before after : Place) (row found : ℕ)
+    → PlaceFits program g.bag g.thread (LockGate row ∷ []) (Some row) after → (after ≢ Exiting)
+    → PlaceFits program g.bag g.thread (LockGate row ∷ []) g.locked before → (before ≢ Exiting)
+    → PlaceFits program g.bag g.thread (LockGate row ∷ []) (cond (found == free_word) (Some row) g.locked)
     (cond (found == free_word) after before)
     × (cond (found == free_word) after before ≢ Exiting)
-lock_taken_at code g before after row found fits goes back remains =
+lock_taken_at program g before after row found fits goes back remains =
     elim (found == free_word) as
-    (λ b. PlaceFits code g.bag g.thread (LockGate row ∷ []) (cond b (Some row) g.locked) (cond b after before)
+    (λ b. PlaceFits program g.bag g.thread (LockGate row ∷ []) (cond b (Some row) g.locked) (cond b after before)
     × (cond b after before ≢ Exiting)) [
       | true ↦ (fits, goes)
       | false ↦ (back, remains)
     ]
 
-module _ {code : List Instr} {g : Scene} {before : Place} {context : Context} {at : ℕ} {variables : List (Option ℕ)}
+module _ {program : Program} {g : Scene} {before : Place} {context : Context} {at : ℕ} {variables : List (Option ℕ)}
     {s : State} where
-  pub lock_taken : (object : ℕ) → StandsAt code context g before at variables s (Lock object)
-      → IsTaken code g (dispatch_instruction g.layout g.thread g.used before context at variables (Some (Lock object)))
+  pub lock_taken : (object : ℕ) → StandsAt program context g before at variables s (Lock object)
+      → IsTaken program g (dispatch_instruction g.layout g.thread g.used before context at variables
+      (Some (Lock object)))
   lock_taken object here =
       let some : is_empty (var_of s object) ≡ false = first_false _ _ here.met.not_empty in
-      let live = named_at code context g before at variables s (Lock object) object here some in
+      let live = named_at program context g before at variables s (Lock object) object here some in
       let none : g.locked ≡ None =
       guards_none s variables s.locked g.locked (first_false _ _ here.met.first_lock) here.guards in
       let no_items : borrows_item (var_of s object) ≡ true → ⊥ = λ borrows.
@@ -75,7 +76,7 @@ module _ {code : List Instr} {g : Scene} {before : Place} {context : Context} {a
       let can : is_one_of (kind_of (var_of s object)) lockable ≡ true =
       not-false _ (first_false _ _ here.met.right_kind) in
       let locked = with_lock s (Some object) in
-      let next : IsInside (call_of code context) (at + 1) variables locked = record {
+      let next : IsInside (call_of program context) (at + 1) variables locked = record {
         is_call = here.inside.is_call;
         exits = here.inside.exits ++ Success ∷ [];
         arrived = here.leads Success (at + 1) refl;
@@ -83,25 +84,27 @@ module _ {code : List Instr} {g : Scene} {before : Place} {context : Context} {a
         rows = here.inside.rows;
         grounded = here.inside.grounded;
       } in
-      let held_now : HoldsAlone g.bag g.thread (once_each (of_variables (call_of code context) locked variables))
+      let held_now : HoldsAlone g.bag g.thread (once_each (of_variables (call_of program context) locked variables))
       (LockGate live.object ∷ []) =
       record {
         each = λ k o. omega (
           arith,
           here.holds.each k o,
-          ap one_if (says_locked (call_of code context) s variables (Some object) k o),
+          ap one_if (says_locked (call_of program context) s variables (Some object) k o),
         );
       } in
-      let goes : PlaceFits code g.bag g.thread (LockGate live.object ∷ []) (Some live.object)
+      let goes : PlaceFits program g.bag g.thread (LockGate live.object ∷ []) (Some live.object)
       (InCall context (at + 1) variables) =
       (locked, next, (live.object, refl, live.is_row, var_kept (var_of s object) some no_items), held_now) in
-      let back = fits_with code g.bag g.thread (LockGate live.object ∷ []) g.locked before (λ k o. refl) (λ k o. refl)
+      let back = fits_with program g.bag g.thread (LockGate live.object ∷ []) g.locked before (λ k o. refl)
+      (λ k o. refl)
       here.back in
       let taken : (found : ℕ)
-      → Taken code g found (cond (found == free_word) (InCall context (at + 1) variables) before) (LockGate live.object)
+      → Taken program g found (cond (found == free_word) (InCall context (at + 1) variables) before)
+      (LockGate live.object)
       [] = λ found.
       let placed =
-      lock_taken_at code g before (InCall context (at + 1) variables) live.object found goes
+      lock_taken_at program g before (InCall context (at + 1) variables) live.object found goes
       (in_call_stays context (at + 1) variables) back here.remains in
       record {
         placed = placed.0;
@@ -111,47 +114,48 @@ module _ {code : List Instr} {g : Scene} {before : Place} {context : Context} {a
         follows = Nothing placed.1;
         keeps = λ x is. absurd (let wrong : None ≡ Some x = sym none ∙ is in cc);
       } in
-      taken_with_row code g live.object (row_of variables object)
+      taken_with_row program g live.object (row_of variables object)
       (λ row. Does (LockGate row) []
       (λ found. cond (found == free_word) (InCall context (at + 1) variables) before)) live.is_row taken
 
   -- ---- unlock
 
-  pub unlock_taken : (object : ℕ) → StandsAt code context g before at variables s (Unlock object)
-      → IsTaken code g (dispatch_instruction g.layout g.thread g.used before context at variables
+  pub unlock_taken : (object : ℕ) → StandsAt program context g before at variables s (Unlock object)
+      → IsTaken program g (dispatch_instruction g.layout g.thread g.used before context at variables
       (Some (Unlock object)))
   unlock_taken object here =
       let some : is_empty (var_of s object) ≡ false = first_false _ _ here.met.not_empty in
-      let live = named_at code context g before at variables s (Unlock object) object here some in
+      let live = named_at program context g before at variables s (Unlock object) object here some in
       let this : names s.locked object ≡ true = not-false _ (first_false _ _ here.met.has_lock) in
       let has : g.locked ≡ Some live.object =
       guards_row s variables object live.object s.locked g.locked this live.is_row here.guards in
       let unlocked = with_lock (without_items s) None in
-      let next : IsInside (call_of code context) (at + 1) variables unlocked = record {
+      let next : IsInside (call_of program context) (at + 1) variables unlocked = record {
         is_call = here.inside.is_call;
         exits = here.inside.exits ++ Success ∷ [];
         arrived = here.leads Success (at + 1) refl;
         vars = length-map s.vars without_item ∙ here.inside.vars;
         rows = here.inside.rows;
-        grounded = grounded-without (call_of code context) s variables here.inside.grounded;
+        grounded = grounded-without (call_of program context) s variables here.inside.grounded;
       } in
-      let held_now : HoldsAlone g.bag g.thread (once_each (of_variables (call_of code context) unlocked variables))
+      let held_now : HoldsAlone g.bag g.thread (once_each (of_variables (call_of program context) unlocked variables))
       (UnlockGate live.object ∷ []) =
       record {
         each = λ k o.
-            let same : of_variables (call_of code context) s variables k o
-            ≡ of_variables (call_of code context) unlocked variables k o =
-            says-without (call_of code context) s variables k o ∙ says_locked (call_of code context) (without_items s)
+            let same : of_variables (call_of program context) s variables k o
+            ≡ of_variables (call_of program context) unlocked variables k o =
+            says-without (call_of program context) s variables k o ∙ says_locked (call_of program context)
+            (without_items s)
             variables None k o in
             omega (arith, here.holds.each k o, ap one_if same);
       } in
-      let taken : (found : ℕ) → Taken code g found (InCall context (at + 1) variables) (UnlockGate live.object) [] =
+      let taken : (found : ℕ) → Taken program g found (InCall context (at + 1) variables) (UnlockGate live.object) [] =
       λ found. record {
         placed = (unlocked, next, refl, held_now);
         starts = Unlocks live.object live.backs has here.unlent;
         follows = Nothing (in_call_stays context (at + 1) variables);
-        keeps = keeps_all code context g before at variables s (Unlock object) (UnlockGate live.object) here
+        keeps = keeps_all program context g before at variables s (Unlock object) (UnlockGate live.object) here
             (λ k o. refl);
       } in
-      taken_with_row code g live.object (row_of variables object)
+      taken_with_row program g live.object (row_of variables object)
       (λ row. Does (UnlockGate row) [] (always (InCall context (at + 1) variables))) live.is_row taken

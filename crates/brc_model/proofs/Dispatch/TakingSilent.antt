@@ -1,5 +1,5 @@
 -- The silent steps of accepted code meet their condition: `none`, `move`, `goto` and `again`, which change no word.
-use Rattle.std.proofs.Common.{◌≡◌, ℕ, ◌+◌, ◌<◌, true, false, List, [], ◌∷◌, ◌++◌, length, Option, None, Some, refl, ap, ◌∙◌, arith, Bool, inl, inr}
+use Rattle.std.proofs.Common.{◌≡◌, ℕ, ◌+◌, ◌<◌, true, false, List, [], ◌∷◌, ◌++◌, length, Option, None, Some, refl, ap, ◌∙◌, arith, Bool}
 use Rattle.std.specs.Prelude.{◌==◌, ◌&&◌, nat_lt, slice_set}
 use Rattle.std.specs.List.{list_any}
 use Rattle.std.proofs.lemmas.List.{length-set}
@@ -26,14 +26,15 @@ use Rattle.brc_model.proofs.Basics.Bag.{held_has, held-without, held-cons}
 use Rattle.brc_model.specs.References.{held, one_if, reference_of}
 use Rattle.brc_model.proofs.Basics.Lists.{either, first_false, second_false}
 use Rattle.brc_model.proofs.Dispatch.Holds.{Activation, of_variables, Holds, owned_has, call_of}
-use Rattle.brc_model.proofs.Dispatch.Grounded.{IsInside, owned_var, owned_row, grounded-put, var_of-put_same, var_of-put_other}
+use Rattle.brc_model.proofs.Dispatch.Grounded.{IsInside, owned_var, owned_row, grounded-put}
 use Rattle.brc_model.proofs.Stepping.Counts.{same_is}
 use Rattle.brc_model.proofs.Dispatch.Guards.{guards-put}
 use Rattle.brc_model.proofs.Dispatch.Coded.{PlaceFits}
-use Rattle.brc_model.proofs.Dispatch.TakingUp.{Scene, StandsAt, holds_at_none, IsTaken, taken_with_row, in_call_stays, newref_held, emptied_held, SilentTaken}
+use Rattle.brc_model.proofs.Dispatch.TakingUp.{Scene, StandsAt, holds_at_none, IsTaken, taken_with_row, in_call_stays, SilentTaken}
+use Rattle.brc_model.proofs.Dispatch.OneMoreOrLess.{still_free, newref_held, emptied_held}
 use Rattle.brc_model.proofs.Keeping.SilentMoves.{Stays, GainsNone, PassesOn}
-use Rattle.std.proofs.lemmas.Bool.Decides.{eqb_tells}
 use Rattle.brc_model.specs.Layout.{none_row}
+use Rattle.brc_model.proofs.Dispatch.Programs.{Program}
 
 -- Gaining the reference that the thread lacks makes the bag fit what the thread is to hold.
 pub gained_holds : (bag : List Reference) (t : ℕ) (by : Holding) (row : ℕ) (says : Holding → ℕ → Bool)
@@ -49,17 +50,17 @@ gained_holds bag t by row says lacks k object =
 
 -- ---- none
 
-module _ {code : List Instr} {g : Scene} {before : Place} {context : Context} {at : ℕ} {variables : List (Option ℕ)}
+module _ {program : Program} {g : Scene} {before : Place} {context : Context} {at : ℕ} {variables : List (Option ℕ)}
     {s : State} where
-  pub none_taken : (to : ℕ) → StandsAt code context g before at variables s (NoneObject to)
-      → IsTaken code g (dispatch_instruction g.layout g.thread g.used before context at variables
+  pub none_taken : (to : ℕ) → StandsAt program context g before at variables s (NoneObject to)
+      → IsTaken program g (dispatch_instruction g.layout g.thread g.used before context at variables
       (Some (NoneObject to)))
   none_taken to here =
       let var : VarState = Owned kinds.None in
       let free : is_owned (var_of s to) ≡ false = first_false _ _ here.met.free in
       let in_vars : to < length s.vars = omega (arith, here.variables, here.inside.vars) in
       let in_rows : to < length variables = omega (arith, here.variables, here.inside.rows) in
-      let next : IsInside (call_of code context) (at + 1) (slice_set variables to (Some none_row)) (put s to var) =
+      let next : IsInside (call_of program context) (at + 1) (slice_set variables to (Some none_row)) (put s to var) =
       record {
         is_call = here.inside.is_call;
         exits = here.inside.exits ++ Success ∷ [];
@@ -67,17 +68,17 @@ module _ {code : List Instr} {g : Scene} {before : Place} {context : Context} {a
         vars = length-set s.vars to var ∙ here.inside.vars;
         rows = length-set variables to (Some none_row) ∙ here.inside.rows;
         grounded =
-            grounded-put (call_of code context) s variables to var (Some none_row) in_vars in_rows (none_row, refl)
+            grounded-put (call_of program context) s variables to var (Some none_row) in_vars in_rows (none_row, refl)
             here.inside.grounded;
       } in
       let holds : Holds (reference_of g.thread (by_variable context to) none_row ∷ g.bag) g.thread
-      (of_variables (call_of code context) (put s to var) (slice_set variables to (Some none_row))) =
+      (of_variables (call_of program context) (put s to var) (slice_set variables to (Some none_row))) =
       record {
         each = gained_holds g.bag g.thread (by_variable context to) none_row _
-            (newref_held g.bag g.thread (call_of code context) s variables to none_row var in_vars in_rows free refl
+            (newref_held g.bag g.thread (call_of program context) s variables to none_row var in_vars in_rows free refl
             here.holds);
       } in
-      let taken : SilentTaken code g (gain g.thread (by_variable context to) none_row)
+      let taken : SilentTaken program g (gain g.thread (by_variable context to) none_row)
       (InCall context (at + 1) (slice_set variables to (Some none_row))) =
       record {
         moves_fit = GainsNone (by_variable context to);
@@ -95,7 +96,7 @@ module _ {code : List Instr} {g : Scene} {before : Place} {context : Context} {a
 -- ---- a reference passed on
 
 -- Losing the reference that a variable owns, and emptying the variable, makes the bag fit what the thread is to hold.
-lost_holds : (bag : List Reference) (t : ℕ) (call : Activation) (s : State) (variables : List (Option ℕ))
+pub lost_holds : (bag : List Reference) (t : ℕ) (call : Activation) (s : State) (variables : List (Option ℕ))
     (from row : ℕ)
     → from < length s.vars → is_owned (var_of s from) ≡ true → row_of variables from ≡ Some row
     → Holds bag t (of_variables call s variables)
@@ -116,25 +117,15 @@ lost_holds bag t call s variables from row in_vars owned is holds has = record {
       );
 }
 
-still_free : (s : State) (from to : ℕ) → from < length s.vars → is_owned (var_of s to) ≡ false
-    → is_owned (var_of (put s from Empty) to) ≡ false
-still_free s from to in_vars free =
-    elim (eqb_tells to from) [
-      | inl this ↦
-          ap (λ (x : ℕ). is_owned (var_of (put s from Empty) x)) this.1
-          ∙ ap is_owned (var_of-put_same s from Empty in_vars)
-      | inr other ↦ ap is_owned (var_of-put_other s from to Empty other.1) ∙ free
-    ]
-
-module _ {code : List Instr} {g : Scene} {before : Place} {context : Context} {at : ℕ} {variables : List (Option ℕ)}
+module _ {program : Program} {g : Scene} {before : Place} {context : Context} {at : ℕ} {variables : List (Option ℕ)}
     {s : State} where
-  pub move_taken : (to from : ℕ) → StandsAt code context g before at variables s (MoveReference to from)
-      → IsTaken code g (dispatch_instruction g.layout g.thread g.used before context at variables
+  pub move_taken : (to from : ℕ) → StandsAt program context g before at variables s (MoveReference to from)
+      → IsTaken program g (dispatch_instruction g.layout g.thread g.used before context at variables
       (Some (MoveReference to from)))
   move_taken to from here =
       let owned = owned_var (var_of s from) (first_false _ _ here.met.not_empty) (first_false _ _ here.met.owned) in
       let free : is_owned (var_of s to) ≡ false = first_false _ _ here.met.free in
-      let row = owned_row (call_of code context) (var_of s from) (row_of variables from) owned
+      let row = owned_row (call_of program context) (var_of s from) (row_of variables from) owned
       (here.inside.grounded from) in
       let var : VarState = Owned (kind_of (var_of s from)) in
       let s1 = put s from Empty in
@@ -146,27 +137,27 @@ module _ {code : List Instr} {g : Scene} {before : Place} {context : Context} {a
       omega (arith, here.variables.0, here.inside.vars, length-set s.vars from Empty) in
       let to_rows : to < length v1 =
       omega (arith, here.variables.0, here.inside.rows, length-set variables from None) in
-      let grounded = grounded-put (call_of code context) s variables from Empty None in_vars in_rows tt
+      let grounded = grounded-put (call_of program context) s variables from Empty None in_vars in_rows tt
       here.inside.grounded in
-      let next : IsInside (call_of code context) (at + 1) (slice_set v1 to (Some row.0)) (put s1 to var) = record {
+      let next : IsInside (call_of program context) (at + 1) (slice_set v1 to (Some row.0)) (put s1 to var) = record {
         is_call = here.inside.is_call;
         exits = here.inside.exits ++ Success ∷ [];
         arrived = here.leads Success (at + 1) refl;
         vars = length-set s1.vars to var ∙ length-set s.vars from Empty ∙ here.inside.vars;
         rows = length-set v1 to (Some row.0) ∙ length-set variables from None ∙ here.inside.rows;
-        grounded = grounded-put (call_of code context) s1 v1 to var (Some row.0) to_vars to_rows (row.0, refl)
+        grounded = grounded-put (call_of program context) s1 v1 to var (Some row.0) to_vars to_rows (row.0, refl)
             grounded;
       } in
-      let one : held r g.bag ≡ 1 = owned_has g.bag g.thread (call_of code context) s variables from row.0 owned row.1
+      let one : held r g.bag ≡ 1 = owned_has g.bag g.thread (call_of program context) s variables from row.0 owned row.1
       here.holds in
       let has = held_has r g.bag (omega (arith, one)) in
-      let fewer = lost_holds g.bag g.thread (call_of code context) s variables from row.0 in_vars owned row.1
+      let fewer = lost_holds g.bag g.thread (call_of program context) s variables from row.0 in_vars owned row.1
       here.holds has in
       let holds : Holds (reference_of g.thread (by_variable context to) row.0 ∷ without r g.bag) g.thread
-      (of_variables (call_of code context) (put s1 to var) (slice_set v1 to (Some row.0))) =
+      (of_variables (call_of program context) (put s1 to var) (slice_set v1 to (Some row.0))) =
       record {
         each = gained_holds (without r g.bag) g.thread (by_variable context to) row.0 _
-            (newref_held (without r g.bag) g.thread (call_of code context) s1 v1 to row.0 var to_vars to_rows
+            (newref_held (without r g.bag) g.thread (call_of program context) s1 v1 to row.0 var to_vars to_rows
             (still_free s from to in_vars free) refl fewer);
       } in
       let from_free : names s.locked from ≡ false = first_false _ _ here.met.unlocked in
@@ -174,25 +165,25 @@ module _ {code : List Instr} {g : Scene} {before : Place} {context : Context} {a
       let guards =
       guards-put s1 v1 to var (Some row.0) s.locked g.locked to_free
       (guards-put s variables from Empty None s.locked g.locked from_free here.guards) in
-      let taken : SilentTaken code g (pass_on g.thread (by_variable context from) (by_variable context to) row.0)
+      let taken : SilentTaken program g (pass_on g.thread (by_variable context from) (by_variable context to) row.0)
       (InCall context (at + 1) (slice_set v1 to (Some row.0))) =
       record {
-        moves_fit = PassesOn (by_variable context from) (by_variable context to) row.0 has;
+        moves_fit = PassesOn (by_variable context from) (by_variable context to) row.0 [] has Stays;
         placed = (put s1 to var, next, guards, holds_at_none _ g.thread _ holds);
         stays = in_call_stays context (at + 1) (slice_set v1 to (Some row.0));
       } in
-      taken_with_row code g row.0 (row_of variables from)
+      taken_with_row program g row.0 (row_of variables from)
       (λ x. Silent (pass_on g.thread (by_variable context from) (by_variable context to) x)
       (InCall context (at + 1) (slice_set v1 to (Some x)))) row.1 taken
 
   -- ---- a jump
 
   -- An instruction that changes no variable leads to the point of its exit.
-  jump_fits : (next : ℕ) (i : Instr) (exit : Exit) → StandsAt code context g before at variables s i
+  jump_fits : (next : ℕ) (i : Instr) (exit : Exit) → StandsAt program context g before at variables s i
       → target i exit at ≡ Some next → after i exit s ≡ s
-      → PlaceFits code g.bag g.thread [] g.locked (InCall context next variables)
+      → PlaceFits program g.bag g.thread [] g.locked (InCall context next variables)
   jump_fits next i exit here to same =
-      let there : IsInside (call_of code context) next variables s = record {
+      let there : IsInside (call_of program context) next variables s = record {
         is_call = here.inside.is_call;
         exits = here.inside.exits ++ exit ∷ [];
         arrived = here.leads exit next to ∙ ap (At next) same;
@@ -202,25 +193,26 @@ module _ {code : List Instr} {g : Scene} {before : Place} {context : Context} {a
       } in
       (s, there, here.guards, holds_at_none g.bag g.thread _ here.holds)
 
-jump_taken : (code : List Instr) (g : Scene) (context : Context) (next : ℕ) (variables : List (Option ℕ))
-    → PlaceFits code g.bag g.thread [] g.locked (InCall context next variables)
-    → SilentTaken code g [] (InCall context next variables)
-jump_taken code g context next variables placed =
+jump_taken : (program : Program) (g : Scene) (context : Context) (next : ℕ) (variables : List (Option ℕ))
+    → PlaceFits program g.bag g.thread [] g.locked (InCall context next variables)
+    → SilentTaken program g [] (InCall context next variables)
+jump_taken program g context next variables placed =
     record { moves_fit = Stays; placed = placed; stays = in_call_stays context next variables }
 
-module _ {code : List Instr} {g : Scene} {before : Place} {context : Context} {at : ℕ} {variables : List (Option ℕ)}
+module _ {program : Program} {g : Scene} {before : Place} {context : Context} {at : ℕ} {variables : List (Option ℕ)}
     {s : State} where
-  pub goto_taken : (to : ℕ) → StandsAt code context g before at variables s (Goto to)
-      → IsTaken code g (dispatch_instruction g.layout g.thread g.used before context at variables (Some (Goto to)))
-  goto_taken to here = jump_taken code g context to variables (jump_fits to (Goto to) Success here refl refl)
+  pub goto_taken : (to : ℕ) → StandsAt program context g before at variables s (Goto to)
+      → IsTaken program g (dispatch_instruction g.layout g.thread g.used before context at variables (Some (Goto to)))
+  goto_taken to here = jump_taken program g context to variables (jump_fits to (Goto to) Success here refl refl)
 
   -- Counting a turn leaves the calls that are open around this one, and so what the thread holds.
-  pub again_taken : (to times : ℕ) → StandsAt code context g before at variables s (Again to times)
-      → IsTaken code g (dispatch_instruction g.layout g.thread g.used before context at variables
+  pub again_taken : (to times : ℕ) → StandsAt program context g before at variables s (Again to times)
+      → IsTaken program g (dispatch_instruction g.layout g.thread g.used before context at variables
       (Some (Again to times)))
   again_taken to times here =
-      either (SilentTaken code g []) (nat_lt (turns_at context at) times) (InCall (with_turn context at) to variables)
+      either (SilentTaken program g []) (nat_lt (turns_at context at) times)
+      (InCall (with_turn context at) to variables)
       (InCall context (at + 1) variables)
-      (λ more. jump_taken code g (with_turn context at) to variables
+      (λ more. jump_taken program g (with_turn context at) to variables
       (jump_fits to (Again to times) Fault here refl refl))
-      (jump_taken code g context (at + 1) variables (jump_fits (at + 1) (Again to times) Success here refl refl))
+      (jump_taken program g context (at + 1) variables (jump_fits (at + 1) (Again to times) Success here refl refl))

@@ -1,12 +1,11 @@
 -- What a thread takes up that stops or has stopped meets its condition: it unlocks what it has locked, and gives up
 -- what its calls hold.
 use Rattle.std.proofs.Common.{◌≡◌, ◌≢◌, ℕ, ◌<◌, ◌≤◌, Bool, true, false, cond, List, [], ◌∷◌, length, Option, None, Some, inl, inr, refl, sym, ap, ◌∙◌, subst, arith}
-use Rattle.std.specs.Prelude.{◌||◌, is_some, map, slice_set}
+use Rattle.std.specs.Prelude.{◌||◌, is_some, slice_set}
 use Rattle.std.specs.List.{list_any}
 use Rattle.std.proofs.lemmas.Bool.{eq-eqb}
 use Rattle.std.proofs.lemmas.Bool.Decides.{eqb_tells}
 use Rattle.std.proofs.lemmas.List.{length-set}
-use Rattle.brc_lang.specs.declared.module.Instr.{Instr}
 use Rattle.brc_model.specs.declared.state.State.{State}
 use Rattle.brc_model.specs.declared.actor.Context.{Context}
 use Rattle.brc_model.specs.declared.actor.Place.{Place}
@@ -18,7 +17,7 @@ use Rattle.brc_model.specs.AbstractState.{Reference}
 use Rattle.brc_model.specs.References.{held, one_if, reference_of}
 use Rattle.brc_model.specs.VarStates.{names}
 use Rattle.brc_model.specs.Threads.{row_of}
-use Rattle.brc_model.specs.Actions.{Does, always, owned_rows, row_locked, none_of, holds_some, stopping, first_named, give_up_first, give_up}
+use Rattle.brc_model.specs.Actions.{Does, always, owned_rows, row_locked, holds_some, stopping, first_named, give_up_first, give_up, given_up}
 use Rattle.brc_model.proofs.Basics.Bag.{held-le-references_to}
 use Rattle.brc_model.proofs.Basics.Lists.{either, some_is, none_some, first_false, second_false}
 use Rattle.brc_model.proofs.Frame.Aside.{HoldsAlone}
@@ -29,6 +28,7 @@ use Rattle.brc_model.proofs.Dispatch.Guards.{LocksAgree}
 use Rattle.brc_model.proofs.Dispatch.Stopped.{rows_at, rows_here, rows_further, rows_past, of_stopped, IsStopped, stop_says, stop_stopped, stop_lock, first_names, given_says, passed_says, stopped_says}
 use Rattle.brc_model.proofs.Dispatch.Coded.{PlaceFits}
 use Rattle.brc_model.proofs.Dispatch.TakingUp.{Scene, ByOwn, Gives, Unlocks, Nothing, Settles, MayFollow, Taken, SilentTaken, IsTaken, taken_with_row, idle_stays}
+use Rattle.brc_model.proofs.Dispatch.Programs.{Program}
 
 -- ---- where a thread is that has stopped
 
@@ -42,13 +42,13 @@ no_lock None none = refl
 no_lock (Some x) none = absurd cc
 
 -- The place fits a thread that holds what its calls have still to give up.
-pub stopping_fits : (code : List Instr) (bag : List Reference) (t : ℕ) (agenda : List Duty) (locked lock : Option ℕ)
+pub stopping_fits : (program : Program) (bag : List Reference) (t : ℕ) (agenda : List Duty) (locked lock : Option ℕ)
     (calls : List (List (Option ℕ)))
     → locked ≡ lock → IsStopped lock calls → HoldsAlone bag t (once_each (of_stopped calls)) agenda
-    → PlaceFits code bag t agenda locked (stopping lock calls)
-stopping_fits code bag t agenda locked lock calls same is holds =
+    → PlaceFits program bag t agenda locked (stopping lock calls)
+stopping_fits program bag t agenda locked lock calls same is holds =
     let some = is_some lock || holds_some calls in
-    elim some as (λ b. some ≡ b → PlaceFits code bag t agenda locked (cond b (Stopping lock calls) (Idle 0))) [
+    elim some as (λ b. some ≡ b → PlaceFits program bag t agenda locked (cond b (Stopping lock calls) (Idle 0))) [
       | true ↦ λ yes. (same, is, yes, holds)
       | false ↦ λ no. (
         same ∙ no_lock lock (first_false (is_some lock) (holds_some calls) no),
@@ -57,28 +57,30 @@ stopping_fits code bag t agenda locked lock calls same is holds =
               let ended = ap one_if (stopped_says calls (second_false (is_some lock) (holds_some calls) no) k object) in
               omega (arith, holds.each k object, ended);
         },
+        tt,
       )
     ] refl
 
 -- ---- a stop
 
 -- A thread that stops in a call holds what it held.
-pub stop_taken : (code : List Instr) (g : Scene) (context : Context) (at : ℕ) (variables : List (Option ℕ)) (s : State)
-    → IsInside (call_of code context) at variables s → LocksAgree s variables g.locked
-    → HoldsAlone g.bag g.thread (once_each (of_variables (call_of code context) s variables)) []
-    → SilentTaken code g []
-    (stopping (row_locked s.locked variables) (owned_rows s.vars variables ∷ map none_of context.outer))
-stop_taken code g context at variables s inside guards holds =
+pub stop_taken : (program : Program) (g : Scene) (context : Context) (at : ℕ) (variables : List (Option ℕ)) (s : State)
+    → IsInside (call_of program context) at variables s → LocksAgree s variables g.locked
+    → HoldsAlone g.bag g.thread (once_each (of_variables (call_of program context) s variables)) []
+    → SilentTaken program g []
+    (stopping (row_locked s.locked variables) (owned_rows s.vars variables ∷ given_up program.functions program.states
+    program.first context.outer))
+stop_taken program g context at variables s inside guards holds =
     let lock = row_locked s.locked variables in
-    let calls = owned_rows s.vars variables ∷ map none_of context.outer in
+    let calls = owned_rows s.vars variables ∷ given_up program.functions program.states program.first context.outer in
     record {
       moves_fit = Stays;
       placed =
-          stopping_fits code g.bag g.thread [] g.locked lock calls (stop_lock s variables s.locked g.locked guards)
-          (stop_stopped code context at s variables g.locked inside guards)
+          stopping_fits program g.bag g.thread [] g.locked lock calls (stop_lock s variables s.locked g.locked guards)
+          (stop_stopped program context.outer at s variables g.locked inside guards)
           (record {
             each = λ k object.
-                let same = ap one_if (stop_says code context s variables k object) in
+                let same = ap one_if (stop_says program context.outer s variables k object) in
                 omega (arith, holds.each k object, same);
           });
       stays = stopping_stays lock calls;
@@ -87,16 +89,16 @@ stop_taken code g context at variables s inside guards holds =
 -- ---- the lock
 
 -- The thread unlocks what it has locked, and keeps all its references.
-pub stopped_unlocks : (code : List Instr) (g : Scene) (row : ℕ) (calls : List (List (Option ℕ)))
-    → PlaceFits code g.bag g.thread [] g.locked (Stopping (Some row) calls) → g.lent ≡ None
-    → IsTaken code g (Does (UnlockGate row) [] (always (stopping None calls)))
-stopped_unlocks code g row calls fits unlent found =
+pub stopped_unlocks : (program : Program) (g : Scene) (row : ℕ) (calls : List (List (Option ℕ)))
+    → PlaceFits program g.bag g.thread [] g.locked (Stopping (Some row) calls) → g.lent ≡ None
+    → IsTaken program g (Does (UnlockGate row) [] (always (stopping None calls)))
+stopped_unlocks program g row calls fits unlent found =
     let holds = fits.1.lock_held row refl in
     let is_held = ap one_if holds.1 in
     let one : 0 < held (reference_of g.thread holds.0 row) g.bag = omega (arith, fits.3.each holds.0 row, is_held) in
     record {
       placed =
-          stopping_fits code g.bag g.thread (UnlockGate row ∷ []) None None calls refl
+          stopping_fits program g.bag g.thread (UnlockGate row ∷ []) None None calls refl
           (record { few = fits.1.few; rows = fits.1.rows; lock_held = λ x e. absurd (none_some x e) })
           (record { each = λ k object. omega (arith, fits.3.each k object) });
       starts = Unlocks row (ByOwn holds.0 one) fits.0 unlent;
@@ -118,11 +120,11 @@ settles_last true g place stays = Nothing stays
 settles_last false g place stays = Settles stays
 
 -- The call's first variable that names a row gives up its reference.
-first_taken : (code : List Instr) (g : Scene) (rows : List (Option ℕ)) (outer : List (List (Option ℕ)))
+first_taken : (program : Program) (g : Scene) (rows : List (Option ℕ)) (outer : List (List (Option ℕ)))
     → g.locked ≡ None → IsStopped None (rows ∷ outer)
     → HoldsAlone g.bag g.thread (once_each (of_stopped (rows ∷ outer))) [] → list_any is_some rows ≡ true
-    → IsTaken code g (give_up_first rows outer)
-first_taken code g rows outer unlocked is holds some =
+    → IsTaken program g (give_up_first rows outer)
+first_taken program g rows outer unlocked is holds some =
     let v = first_named rows in
     let by = ByVariable (length outer) v in
     let named = first_names rows some in
@@ -148,9 +150,9 @@ first_taken code g rows outer unlocked is holds some =
       ];
       lock_held = λ y e. absurd (none_some y e);
     } in
-    let taken : (found : ℕ) → Taken code g found (stopping None after) (ReleaseLoad x by) rest = λ found. record {
+    let taken : (found : ℕ) → Taken program g found (stopping None after) (ReleaseLoad x by) rest = λ found. record {
       placed =
-          stopping_fits code g.bag g.thread (ReleaseLoad x by ∷ rest) g.locked None after unlocked fewer
+          stopping_fits program g.bag g.thread (ReleaseLoad x by ∷ rest) g.locked None after unlocked fewer
           (record {
             each = λ k object.
                 let said = given_says rows outer v x named.2 named.1 k object in
@@ -161,7 +163,7 @@ first_taken code g rows outer unlocked is holds some =
       follows = settles_last (holds_some after) g (stopping None after) (stopping_stays None after);
       keeps = λ y locked. absurd (none_some y (sym unlocked ∙ locked));
     } in
-    taken_with_row code g x (row_of rows v)
+    taken_with_row program g x (row_of rows v)
     (λ row. Does (ReleaseLoad row by) rest (always (stopping None after))) named.1 taken
 
 -- The calls further out have few variables.
@@ -178,16 +180,16 @@ further_few rows outer depth is =
     ]
 
 -- So does the first of any call that names one.
-pub give_up_taken : (code : List Instr) (g : Scene) (calls : List (List (Option ℕ))) → g.locked ≡ None
+pub give_up_taken : (program : Program) (g : Scene) (calls : List (List (Option ℕ))) → g.locked ≡ None
     → IsStopped None calls → HoldsAlone g.bag g.thread (once_each (of_stopped calls)) [] → holds_some calls ≡ true
-    → IsTaken code g (give_up calls)
-give_up_taken code g [] unlocked is holds some = absurd cc
-give_up_taken code g (rows ∷ outer) unlocked is holds some =
+    → IsTaken program g (give_up calls)
+give_up_taken program g [] unlocked is holds some = absurd cc
+give_up_taken program g (rows ∷ outer) unlocked is holds some =
     let here = list_any is_some rows in
-    elim here as (λ b. here ≡ b → IsTaken code g (cond b (give_up_first rows outer) (give_up outer))) [
-      | true ↦ λ names. first_taken code g rows outer unlocked is holds names
+    elim here as (λ b. here ≡ b → IsTaken program g (cond b (give_up_first rows outer) (give_up outer))) [
+      | true ↦ λ names. first_taken program g rows outer unlocked is holds names
       | false ↦ λ none.
-          give_up_taken code g outer unlocked
+          give_up_taken program g outer unlocked
           (record {
             few = omega (arith, is.few);
             rows = λ depth. further_few rows outer depth is;

@@ -8,7 +8,8 @@ use Rattle.brc_model.specs.AbstractState.{Move, are_allowed}
 use Rattle.brc_model.specs.declared.thread.Choice.{Choice}
 use Rattle.brc_model.specs.Machine.{with_actor, with_moves}
 use Rattle.brc_model.specs.declared.state.Exit.{Exit}
-use Rattle.brc_model.specs.Actions.{StepActor, Action, Skip, Stuck, Silent, Calls, Does, exit_of, action_of}
+use Rattle.brc_model.specs.Actions.{StepActor, Action, Skip, Stuck, Silent, Calls, Does}
+use Rattle.brc_model.specs.Dispatch.{exit_of, action_of}
 use Rattle.brc_model.specs.StepMachine.{StepMachine, counting, of_thread, at_place, step_actor, silent_by, machine_by, next_machine, machine_after}
 use Rattle.brc_model.specs.Events.{is_bad_action, chooses_unfit, is_bad_event}
 use Rattle.brc_model.proofs.Basics.Lists.{written_actor}
@@ -29,14 +30,14 @@ use Rattle.brc_model.proofs.Keeping.KindsHold.{thread_holds}
 use Rattle.brc_model.proofs.Keeping.ItemsHold.{thread_items}
 use Rattle.brc_model.proofs.Keeping.RoomsHold.{thread_rooms}
 use Rattle.brc_model.proofs.Dispatch.Rooms.{RoomsFit}
-use Rattle.brc_model.specs.KnownKinds.{KindsHold}
+use Rattle.brc_model.proofs.Dispatch.Kinds.{KindsHold}
 use Rattle.brc_model.specs.Items.{ItemsAreThere}
 use Rattle.brc_model.proofs.Dispatch.Actions.{SilentFits, ActionFits, action_fits}
 
 -- A silent step that fits its thread keeps both layers of the invariant, and its moves are allowed.
 silent_keeps : (p : Module) (n : ℕ) (m : StepMachine) (t : ℕ) (a : StepActor) (moves : List Move) (place : Place)
     → (whole : CodeInvariant p n m)
-    → slice_get m.actors t ≡ Some a → SilentFits p whole.accounts n m t a moves place
+    → slice_get m.actors t ≡ Some a → SilentFits whole.accounts n m t a moves place
     → KindsHold (silent_by m t a moves place) → ItemsAreThere (silent_by m t a moves place)
     → RoomsFit (silent_by m t a moves place)
     → KeepsOn p n (not (are_allowed m.layout m.abstract moves)) (silent_by m t a moves place)
@@ -61,17 +62,16 @@ silent_keeps p n m t a moves place whole found fits kinds items rooms =
         kept = subst (Invariant new n) same here;
         functions = whole.functions;
         states_true = whole.states_true;
+        sound = whole.sound;
         mortal = whole.mortal;
         wide = whole.wide;
         kinds = kinds;
         items = items;
         rooms = rooms;
         coded =
-            coded_set p c m.actors t a (at_place a place) fits.account found (record {
+            coded_set m.functions m.states c m.actors t a (at_place a place) fits.account found (record {
               alone = own.alone;
               plain = own.plain;
-              accepted = own.accepted;
-              instructions = own.instructions;
               says = fits.says;
               departs = agenda ∙ fits.departs;
               lent = fits.lent;
@@ -82,7 +82,7 @@ silent_keeps p n m t a moves place whole found fits kinds items rooms =
 -- An action that fits its thread keeps both layers of the invariant and isn't bad.
 action_keeps : (p : Module) (n : ℕ) (m : StepMachine) (t : ℕ) (a : StepActor) (exit : Exit) (x : Action)
     → (whole : CodeInvariant p n m)
-    → slice_get m.actors t ≡ Some a → ActionFits p whole.accounts n m t a x → KindsHold (machine_by m t a exit x)
+    → slice_get m.actors t ≡ Some a → ActionFits whole.accounts n m t a x → KindsHold (machine_by m t a exit x)
     → ItemsAreThere (machine_by m t a exit x) → RoomsFit (machine_by m t a exit x)
     → KeepsOn p n (is_bad_action m t a x) (machine_by m t a exit x)
 action_keeps p n m t a exit Skip whole found fits kinds items rooms = (refl, whole)
@@ -98,6 +98,7 @@ action_keeps p n m t a exit (Calls row place) whole found fits kinds items rooms
         kept = quiet.kept;
         functions = quiet.functions;
         states_true = quiet.states_true;
+        sound = quiet.sound;
         mortal = quiet.mortal;
         wide = quiet.wide;
         kinds = kinds;
@@ -123,17 +124,17 @@ action_keeps p n m t a exit (Does d rest place) whole found fits kinds items roo
             (taken_up_step (counting m) t a.actor d rest ∙ counting_done m t a exit d rest place) done.1;
         functions = whole.functions;
         states_true = whole.states_true;
+        sound = whole.sound;
         mortal = whole.mortal;
         wide = whole.wide;
         kinds = kinds;
         items = items;
         rooms = rooms;
         coded =
-            coded_set p c m.actors t a (step_actor m.layout t a d rest (place word) word) fits.account found (record {
+            coded_set m.functions m.states c m.actors t a (step_actor m.layout t a d rest (place word) word)
+            fits.account found (record {
               alone = own.alone;
               plain = plain_after m.layout t a.actor d rest word fits.plain;
-              accepted = own.accepted;
-              instructions = own.instructions;
               says = fits.says;
               departs = exits_still word at ∙ fits.departs;
               lent = fits.lent;

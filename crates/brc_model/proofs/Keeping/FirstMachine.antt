@@ -2,12 +2,8 @@
 use Rattle.std.proofs.Common.{◌≡◌, ℕ, zero, suc, ◌+◌, ◌<◌, ◌≤◌, List, [], ◌∷◌, length, Option, Some, refl, sym, ap, subst, arith}
 use Rattle.std.specs.Prelude.{slice_get, map, replicate}
 use Rattle.brc_lang.specs.declared.module.Module.{Module}
-use Rattle.brc_lang.specs.declared.module.Function.{Function}
-use Rattle.brc_lang.specs.Grammar.{IsInstruction, IsFunction, IsModule}
 use Rattle.brc_model.specs.declared.state.State.{State}
 use Rattle.brc_model.specs.declared.thread.Call.{Call}
-use Rattle.brc_model.specs.Paths.{IsAcceptableCode, IsAcceptable}
-use Rattle.brc_model.specs.Threads.{code_of}
 use Rattle.brc_model.specs.declared.actor.Actor.{Actor}
 use Rattle.brc_model.specs.Machine.{idle_actor}
 use Rattle.brc_model.specs.Actions.{StepActor}
@@ -15,31 +11,14 @@ use Rattle.brc_model.specs.StepMachine.{its_actor, counting, main_actor, worker_
 use Rattle.brc_model.specs.Safety.{IsCall, AreCalls}
 use Rattle.brc_model.specs.Accounts.{Accounts}
 use Rattle.brc_model.specs.Invariant.{Invariant}
-use Rattle.brc_model.proofs.Basics.Lists.{some_is, all_at, all_of_found, slice_get-map}
+use Rattle.brc_model.proofs.Basics.Lists.{some_is, all_of_found, slice_get-map}
 use Rattle.brc_model.proofs.Keeping.FirstCounts.{idle_actors, rooted_machine, each_idle, rooted_kept}
 use Rattle.brc_model.proofs.Keeping.Callers.{callers_hold}
-use Rattle.brc_model.proofs.Dispatch.Grounded.{AreInstructions}
 use Rattle.brc_model.proofs.Dispatch.Holds.{once_each, the_root}
-use Rattle.brc_model.proofs.Dispatch.Coded.{InCode}
+use Rattle.brc_model.proofs.Dispatch.Coded.{InCode, has_calls}
 use Rattle.brc_model.specs.Limits.{row_limit}
 use Rattle.brc_model.specs.Layout.{front_rows}
-
--- ---- the code of each function
-
-function_fits : (m : Module) (i : ℕ) → IsModule m → IsAcceptable m → i < length m.functions
-    → IsAcceptableCode (code_of (slice_get m.functions i)) × AreInstructions (code_of (slice_get m.functions i))
-function_fits m i fits accepted within =
-    let good = all_at (λ (f : Function). IsAcceptableCode f.code) m.functions i accepted within in
-    let form = all_of_found IsFunction m.functions i good.found fits.functions good.is_there in
-    let P : Option Function → Type 0 = λ o. IsAcceptableCode (code_of o) × AreInstructions (code_of o) in
-    subst P (sym good.is_there) (
-      good.holds,
-      record {
-        forward = form.targets.forward;
-        each =
-            λ at instr found. all_of_found IsInstruction good.found.code at instr form.code found;
-      },
-    )
+use Rattle.brc_model.proofs.Dispatch.Programs.{program_of}
 
 -- ---- the counting machine under it
 
@@ -98,32 +77,27 @@ first_kept m states rows calls are_calls some_rows few_rows =
 -- ---- the code
 
 -- Each thread of the first machine is in its code, with the account that its place gives.
-pub first_coded : (m : Module) (calls : List Call) (t : ℕ) (a : StepActor) → IsModule m → IsAcceptable m
-    → AreCalls m calls
-    → slice_get (main_actor ∷ map worker_actor calls) t ≡ Some a → InCode m a (first_accounts t)
-first_coded m calls zero a fits accepted are_calls is =
-    let function = function_fits m 0 fits accepted fits.some in
-    subst (λ (x : StepActor). InCode m x (first_accounts 0)) (some_is main_actor a is)
+pub first_coded : (m : Module) (states : ℕ → ℕ → Option State) (calls : List Call) (t : ℕ) (a : StepActor)
+    → AreCalls m calls → slice_get (main_actor ∷ map worker_actor calls) t ≡ Some a
+    → InCode (program_of m.functions states a) a (first_accounts t)
+first_coded m states calls zero a are_calls is =
+    subst (λ (x : StepActor). InCode (program_of m.functions states x) x (first_accounts 0)) (some_is main_actor a is)
     (record {
       alone = refl;
       plain = refl;
-      accepted = function.0;
-      instructions = function.1;
-      says = (refl, refl);
+      says = (refl, refl, tt);
       departs = refl;
       lent = refl;
     })
-first_coded m calls (suc t) a fits accepted are_calls is =
+first_coded m states calls (suc t) a are_calls is =
     let call = slice_get-map worker_actor calls t a is in
     let good = all_of_found (IsCall m) calls t call.source are_calls.each call.is_there in
-    let function = function_fits m call.source.function fits accepted good.0 in
-    subst (λ (x : StepActor). InCode m x (first_accounts (suc t))) call.is_image
+    let program = program_of m.functions states (worker_actor call.source) in
+    subst (λ (x : StepActor). InCode (program_of m.functions states x) x (first_accounts (suc t))) call.is_image
     (record {
       alone = refl;
       plain = refl;
-      accepted = function.0;
-      instructions = function.1;
-      says = (refl, refl);
+      says = (refl, refl, has_calls program call.source.times (record { there = good.0; plain = good.3 }));
       departs = refl;
       lent = refl;
     })

@@ -1,9 +1,8 @@
 -- Each borrowed item is in a cell of the list that its thread has locked, in the first machine and after each
 -- event: each instruction leaves it so, and no step of another thread changes the locked list.
-use Rattle.std.proofs.Common.{◌≡◌, ◌≢◌, ℕ, zero, suc, false, List, ◌∷◌, Option, None, Some, refl, sym, ◌∙◌, subst}
+use Rattle.std.proofs.Common.{◌≡◌, ◌≢◌, ℕ, zero, suc, false, List, ◌∷◌, Option, None, Some, refl, ◌∙◌, subst}
 use Rattle.std.specs.Prelude.{slice_get}
 use Rattle.brc_lang.specs.declared.module.Module.{Module}
-use Rattle.brc_lang.specs.declared.module.Function.{Function}
 use Rattle.brc_model.specs.declared.thread.Call.{Call}
 use Rattle.brc_model.specs.declared.thread.Choice.{Choice}
 use Rattle.brc_model.specs.declared.actor.Place.{Place}
@@ -11,26 +10,23 @@ use Rattle.brc_model.specs.declared.address.Address.{Address}
 use Rattle.brc_model.specs.declared.address.Address.TheVariants.{Cell}
 use Rattle.brc_model.specs.declared.duty.Duty.{Duty}
 use Rattle.brc_model.specs.declared.duty.Duty.TheVariants.{KindLoad, CellLoad}
-use Rattle.brc_model.specs.Paths.{IsAcceptableCode}
-use Rattle.brc_model.specs.Threads.{code_of}
 use Rattle.brc_model.specs.Accounts.{Accounts}
 use Rattle.brc_model.specs.Counting.{with_account}
 use Rattle.brc_model.specs.declared.actor.Actor.{Actor}
 use Rattle.brc_model.specs.Machine.{Machine, with_actor}
 use Rattle.brc_model.specs.declared.state.State.{State}
 use Rattle.brc_model.specs.declared.state.Exit.{Exit}
-use Rattle.brc_model.specs.Actions.{StepActor, Action, Skip, Stuck, Silent, Calls, Does, exit_of, action_of}
+use Rattle.brc_model.specs.Actions.{StepActor, Action, Skip, Stuck, Silent, Calls, Does}
+use Rattle.brc_model.specs.Dispatch.{exit_of, action_of}
 use Rattle.brc_model.specs.StepMachine.{StepMachine, counting, of_thread, at_place, step_actor, machine_by, first_machine, main_actor, worker_actor}
 use Rattle.brc_model.specs.KnownKinds.{kind_words}
-use Rattle.brc_model.specs.Items.{KnowsItems, ItemsAreThere}
+use Rattle.brc_model.specs.Items.{ItemsAreThere}
 use Rattle.brc_model.proofs.Basics.Lists.{some_is, slice_get-map, slice_get-set_other, written_others}
 use Rattle.brc_model.proofs.Stepping.FitsAfter.{found_by}
 use Rattle.brc_model.proofs.Frame.Kinds.{StoredStay}
 use Rattle.brc_model.proofs.Frame.Items.{drops_items, items_left, own_items_left}
-use Rattle.brc_model.proofs.Dispatch.Grounded.{AreInstructions}
-use Rattle.brc_model.proofs.Dispatch.Coded.{PlaceSays}
 use Rattle.brc_model.proofs.Dispatch.Counting.{its_found}
-use Rattle.brc_model.proofs.Dispatch.Items.{ItemsStay, knows_stay}
+use Rattle.brc_model.proofs.Dispatch.Items.{ItemsStay, knows_stay, ItemsAt}
 use Rattle.brc_model.proofs.Dispatch.ItemsUsed.{FindsWord, IsAfter, LeavesItems}
 use Rattle.brc_model.proofs.Dispatch.ItemsActions.{StandsUsing, action_uses}
 use Rattle.brc_model.proofs.Dispatch.Actions.{ActionFits, action_fits}
@@ -38,10 +34,11 @@ use Rattle.brc_model.proofs.Keeping.Sits.{sitting}
 use Rattle.brc_model.proofs.Keeping.CodeInvariant.{CodeInvariant}
 use Rattle.brc_model.proofs.Keeping.StepCases.{ShowsSteps, at_duty, thread_shows}
 use Rattle.brc_model.proofs.Keeping.KindsHold.{thread_stored}
+use Rattle.brc_model.proofs.Dispatch.Programs.{program_of}
 
 -- What a thread of these machines knows of items at its place.
 abbrev Knows : StepMachine → (Address → ℕ) → StepActor → Type 0
-Knows m memory a = KnowsItems (code_of (slice_get m.functions a.function)) memory a.actor.locked a.place
+Knows m memory a = ItemsAt (program_of m.functions m.states a) memory a.actor.locked a.place
 
 -- ---- the first machine
 
@@ -76,11 +73,11 @@ lists_shown n = record {
 -- ---- the thread's own list
 
 -- A duty that drops no items leaves the thread's own list, too.
-own_stays : (p : Module) (c : Accounts) (n : ℕ) (m : StepMachine) (t : ℕ) (a : StepActor) (exit : Exit) (d : Duty)
-    (rest : List Duty) (place : ℕ → Place) → ActionFits p c n m t a (Does d rest place)
+own_stays : (c : Accounts) (n : ℕ) (m : StepMachine) (t : ℕ) (a : StepActor) (exit : Exit) (d : Duty)
+    (rest : List Duty) (place : ℕ → Place) → ActionFits c n m t a (Does d rest place)
     → StoredStay (kind_words m) (kind_words (machine_by m t a exit (Does d rest place))) → drops_items d ≡ false
     → ItemsStay m.memory (machine_by m t a exit (Does d rest place)).memory a.actor.locked
-own_stays p c n m t a exit d rest place fits stored keeps = record {
+own_stays c n m t a exit d rest place fits stored keeps = record {
   kinds = stored;
   cells = λ x i has.
       own_items_left (with_account c t fits.account) n (with_actor (counting m) t (sitting a.actor (d ∷ rest))) t
@@ -97,25 +94,25 @@ finds m t a _ = tt
 -- ---- after each event
 
 -- The thread is at the place that its action leads to, and the others are where they were.
-acted : (p : Module) (c : Accounts) (n : ℕ) (m : StepMachine) (t : ℕ) (a : StepActor) (exit : Exit)
+acted : (c : Accounts) (n : ℕ) (m : StepMachine) (t : ℕ) (a : StepActor) (exit : Exit)
     (x : Action)
-    → slice_get m.actors t ≡ Some a → ActionFits p c n m t a x
+    → slice_get m.actors t ≡ Some a → ActionFits c n m t a x
     → StoredStay (kind_words m) (kind_words (machine_by m t a exit x)) → ItemsAreThere m
     → ((u : ℕ) (b : StepActor) → u ≢ t → slice_get m.actors u ≡ Some b → Knows m (machine_by m t a exit x).memory b)
-    → LeavesItems (code_of (slice_get m.functions a.function)) m.memory a.actor.locked x
+    → LeavesItems (program_of m.functions m.states a) m.memory a.actor.locked x
     → ItemsAreThere (machine_by m t a exit x)
-acted p c n m t a exit Skip found fits stored there others own = there
-acted p c n m t a exit Stuck found fits stored there others own = there
-acted p c n m t a exit (Silent moves place) found fits stored there others own =
+acted c n m t a exit Skip found fits stored there others own = there
+acted c n m t a exit Stuck found fits stored there others own = there
+acted c n m t a exit (Silent moves place) found fits stored there others own =
     written_others (λ u b. Knows m m.memory b) m.actors t a (at_place a place) found own others
-acted p c n m t a exit (Calls row place) found fits stored there others own =
+acted c n m t a exit (Calls row place) found fits stored there others own =
     written_others (λ u b. Knows m m.memory b) m.actors t a (at_place a (place exit)) found (own exit) others
-acted p c n m t a exit (Does d rest place) found fits stored there others own =
+acted c n m t a exit (Does d rest place) found fits stored there others own =
     let word = found_by (counting m) t a.actor d in
     let new = (machine_by m t a exit (Does d rest place)).memory in
     let done : IsAfter m.memory new a.actor.locked d word = record {
       finds = finds m t a d;
-      keeps = own_stays p c n m t a exit d rest place fits stored;
+      keeps = own_stays c n m t a exit d rest place fits stored;
     } in
     written_others (λ u b. Knows m new b) m.actors t a (step_actor m.layout t a d rest (place word) word) found
     (own new word done) others
@@ -135,20 +132,13 @@ thread_items p n m t choice (Some a) whole found =
     → Knows m (machine_by m t a exit x).memory b = λ u b apart is.
     knows_stay m.memory (machine_by m t a exit x).memory b.actor.locked
     (record { kinds = stored; cells = λ y i has. lists u y i b.actor apart (its_found m u b is) has })
-    (code_of (slice_get m.functions b.function)) b.place (whole.items u b is) in
+    (program_of m.functions m.states b) b.place (whole.items u b is) in
     let coded = whole.coded t a found in
-    let stands : StandsUsing (code_of (slice_get m.functions a.function)) m.memory a.actor.locked a.place = record {
-      accepted =
-          subst (λ (f : List Function). IsAcceptableCode (code_of (slice_get f a.function))) (sym whole.functions)
-          coded.accepted;
-      instructions =
-          subst (λ (f : List Function). AreInstructions (code_of (slice_get f a.function))) (sym whole.functions)
-          coded.instructions;
+    let stands : StandsUsing (program_of m.functions m.states a) m.memory a.actor.locked a.place = record {
+      sound = whole.sound;
       account = whole.accounts t;
-      says =
-          subst (λ (f : List Function). PlaceSays (code_of (slice_get f a.function)) a.place a.actor.locked
-          (whole.accounts t)) (sym whole.functions) coded.says;
+      says = coded.says;
       knows = whole.items t a found;
     } in
-    acted p whole.accounts n m t a exit x found (action_fits p n m t a choice whole found) stored whole.items others
-    (action_uses m.functions m.states m.memory m.layout t a choice coded.plain stands)
+    acted whole.accounts n m t a exit x found (action_fits p n m t a choice whole found) stored whole.items others
+    (action_uses m.functions m.states m.memory m.layout t a coded.plain stands choice)

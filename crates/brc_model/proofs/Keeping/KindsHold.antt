@@ -3,44 +3,43 @@
 use Rattle.std.proofs.Common.{◌≡◌, ℕ, zero, suc, List, inr, Option, None, Some, refl, sym, subst}
 use Rattle.std.specs.Prelude.{slice_get}
 use Rattle.brc_lang.specs.declared.module.Module.{Module}
-use Rattle.brc_lang.specs.declared.module.Function.{Function}
 use Rattle.brc_model.specs.declared.thread.Call.{Call}
 use Rattle.brc_model.specs.declared.thread.Choice.{Choice}
 use Rattle.brc_model.specs.declared.actor.Place.{Place}
 use Rattle.brc_model.specs.declared.address.Address.TheVariants.{KindOf}
 use Rattle.brc_model.specs.declared.duty.Duty.{Duty}
 use Rattle.brc_model.specs.declared.duty.Duty.TheVariants.{KindLoad, BirthKind}
-use Rattle.brc_model.specs.Paths.{IsAcceptableCode}
-use Rattle.brc_model.specs.Threads.{code_of}
 use Rattle.brc_model.specs.declared.state.State.{State}
 use Rattle.brc_model.specs.declared.state.Exit.{Exit}
-use Rattle.brc_model.specs.Actions.{StepActor, Action, Skip, Stuck, Silent, Calls, Does, exit_of, action_of}
+use Rattle.brc_model.specs.Actions.{StepActor, Action, Skip, Stuck, Silent, Calls, Does}
+use Rattle.brc_model.specs.Dispatch.{exit_of, action_of}
 use Rattle.brc_model.specs.StepMachine.{StepMachine, counting, of_thread, at_place, step_actor, machine_by, next_machine, first_machine, main_actor, worker_actor}
-use Rattle.brc_model.specs.KnownKinds.{KnowsKinds, kind_words, KindsAreKnown, KindsHold}
+use Rattle.brc_model.specs.KnownKinds.{kind_words}
 use Rattle.brc_model.proofs.Basics.Lists.{some_is, slice_get-map, written_actor}
-use Rattle.brc_model.proofs.Dispatch.Grounded.{AreInstructions}
 use Rattle.brc_model.proofs.Keeping.CodeInvariant.{CodeInvariant}
-use Rattle.brc_model.proofs.Dispatch.Coded.{PlaceSays}
 use Rattle.brc_model.proofs.Basics.Written.{written_here, written_load}
 use Rattle.brc_model.proofs.Stepping.FitsAfter.{found_by}
 use Rattle.brc_model.proofs.Frame.Kinds.{StoredStay, stored_at_duty}
-use Rattle.brc_model.proofs.Dispatch.Kinds.{knows_still, named_stay}
-use Rattle.brc_model.proofs.Dispatch.KindsLeft.{SeesKind, LeavesKinds}
+use Rattle.brc_model.proofs.Dispatch.Kinds.{knows_still, named_stay, KnowsAll, AllKnown, KindsHold}
 use Rattle.brc_model.proofs.Dispatch.KindsActions.{StandsKnowing, action_leaves}
 use Rattle.brc_model.proofs.Keeping.StepCases.{ShowsSteps, at_duty, thread_shows}
 use Rattle.brc_model.specs.Machine.{Machine}
+use Rattle.brc_model.proofs.Dispatch.Programs.{program_of}
+use Rattle.brc_model.proofs.Dispatch.KindsKnown.{SeesKind, LeavesKinds}
 
 -- ---- the first machine
 
 first_known : (p : Module) (states : ℕ → ℕ → Option State) (rows : ℕ) (calls : List Call)
-    → KindsAreKnown (first_machine p states rows calls)
+    → AllKnown (first_machine p states rows calls)
 first_known p states rows calls zero a is =
-    subst (λ (x : StepActor). KnowsKinds (code_of (slice_get p.functions x.function))
-    (kind_words (first_machine p states rows calls)) x.place) (some_is main_actor a is) tt
+    let m = first_machine p states rows calls in
+    subst (λ (x : StepActor). KnowsAll (program_of m.functions m.states x) (kind_words m) x.place)
+    (some_is main_actor a is) (tt, tt)
 first_known p states rows calls (suc t) a is =
+    let m = first_machine p states rows calls in
     let call = slice_get-map worker_actor calls t a is in
-    subst (λ (x : StepActor). KnowsKinds (code_of (slice_get p.functions x.function))
-    (kind_words (first_machine p states rows calls)) x.place) call.is_image tt
+    subst (λ (x : StepActor). KnowsAll (program_of m.functions m.states x) (kind_words m) x.place) call.is_image
+    (tt, tt)
 
 pub first_holds : (p : Module) (states : ℕ → ℕ → Option State) (rows : ℕ) (calls : List Call)
     → KindsHold (first_machine p states rows calls)
@@ -86,23 +85,23 @@ sees m t a exit _ rest place = tt
 -- The thread is at the place that its action leads to, and the others are where they were.
 acted : (m : StepMachine) (t : ℕ) (a : StepActor) (exit : Exit) (x : Action) → slice_get m.actors t ≡ Some a
     → ((u : ℕ) (b : StepActor) → slice_get m.actors u ≡ Some b
-    → KnowsKinds (code_of (slice_get m.functions b.function)) (kind_words (machine_by m t a exit x)) b.place)
-    → LeavesKinds (code_of (slice_get m.functions a.function)) (kind_words (machine_by m t a exit x)) x
-    → KindsAreKnown (machine_by m t a exit x)
+    → KnowsAll (program_of m.functions m.states b) (kind_words (machine_by m t a exit x)) b.place)
+    → LeavesKinds (program_of m.functions m.states a) (kind_words (machine_by m t a exit x)) x
+    → AllKnown (machine_by m t a exit x)
 acted m t a exit Skip found others own = others
 acted m t a exit Stuck found others own = others
 acted m t a exit (Silent moves place) found others own =
     written_actor
-    (λ u b. KnowsKinds (code_of (slice_get m.functions b.function)) (kind_words m) b.place) m.actors t a
+    (λ u b. KnowsAll (program_of m.functions m.states b) (kind_words m) b.place) m.actors t a
     (at_place a place) found own others
 acted m t a exit (Calls row place) found others own =
     written_actor
-    (λ u b. KnowsKinds (code_of (slice_get m.functions b.function)) (kind_words m) b.place) m.actors t a
+    (λ u b. KnowsAll (program_of m.functions m.states b) (kind_words m) b.place) m.actors t a
     (at_place a (place exit)) found (own exit) others
 acted m t a exit (Does d rest place) found others own =
     let word = found_by (counting m) t a.actor d in
     written_actor
-    (λ u b. KnowsKinds (code_of (slice_get m.functions b.function))
+    (λ u b. KnowsAll (program_of m.functions m.states b)
     (kind_words (machine_by m t a exit (Does d rest place))) b.place) m.actors t a
     (step_actor m.layout t a d rest (place word) word) found (own word (sees m t a exit d rest place)) others
 
@@ -119,27 +118,20 @@ thread_holds p n m t choice (Some a) whole found =
     let stays : StoredStay (kind_words m) new = thread_stored p n m t choice (Some a) whole found in
     let named = named_stay (kind_words m) new stays whole.kinds.named in
     let others : (u : ℕ) (b : StepActor) → slice_get m.actors u ≡ Some b
-    → KnowsKinds (code_of (slice_get m.functions b.function)) new b.place = λ u b is.
-    knows_still (code_of (slice_get m.functions b.function)) (kind_words m) new stays b.place
+    → KnowsAll (program_of m.functions m.states b) new b.place = λ u b is.
+    knows_still (program_of m.functions m.states b) (kind_words m) new stays b.place
     (whole.kinds.known u b is) in
     let coded = whole.coded t a found in
-    let stands : StandsKnowing (code_of (slice_get m.functions a.function)) new a.place = record {
-      accepted =
-          subst (λ (f : List Function). IsAcceptableCode (code_of (slice_get f a.function))) (sym whole.functions)
-          coded.accepted;
-      instructions =
-          subst (λ (f : List Function). AreInstructions (code_of (slice_get f a.function))) (sym whole.functions)
-          coded.instructions;
+    let stands : StandsKnowing (program_of m.functions m.states a) new a.place = record {
+      sound = whole.sound;
       locked = a.actor.locked;
       account = whole.accounts t;
-      says =
-          subst (λ (f : List Function). PlaceSays (code_of (slice_get f a.function)) a.place a.actor.locked
-          (whole.accounts t)) (sym whole.functions) coded.says;
+      says = coded.says;
       named = named;
       knows = others t a found;
     } in
     record {
       named = named;
       known =
-          acted m t a exit x found others (action_leaves m.functions m.states new m.layout t a choice stands);
+          acted m t a exit x found others (action_leaves m.functions m.states new m.layout t a stands choice);
     }

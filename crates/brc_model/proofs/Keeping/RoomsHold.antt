@@ -9,11 +9,11 @@ use Rattle.brc_model.specs.declared.thread.Choice.{Choice}
 use Rattle.brc_model.specs.declared.duty.Duty.{Duty}
 use Rattle.brc_model.specs.declared.duty.Duty.TheVariants.{LendSlot, ReturnSlot}
 use Rattle.brc_model.specs.declared.layout.Layout.{Layout}
-use Rattle.brc_model.specs.Threads.{code_of}
 use Rattle.brc_model.specs.declared.actor.Actor.{Actor}
 use Rattle.brc_model.specs.Machine.{is_lending, has_room, actor_by}
 use Rattle.brc_model.specs.Duties.{ready}
-use Rattle.brc_model.specs.Actions.{StepActor, Action, Skip, Stuck, Silent, Calls, Does, exit_of, action_of}
+use Rattle.brc_model.specs.Actions.{StepActor, Action, Skip, Stuck, Silent, Calls, Does}
+use Rattle.brc_model.specs.Dispatch.{exit_of, action_of}
 use Rattle.brc_model.specs.StepMachine.{StepMachine, counting, of_thread, at_place, step_actor, machine_by, first_machine, main_actor, worker_actor}
 use Rattle.brc_model.proofs.Basics.Lists.{some_is, slice_get-map, written_actor}
 use Rattle.brc_model.proofs.Stepping.FitsAfter.{found_by}
@@ -21,6 +21,7 @@ use Rattle.brc_model.proofs.Dispatch.Rooms.{HasRoom, RoomFits, RoomsFit, Follows
 use Rattle.brc_model.proofs.Dispatch.Actions.{ActionFits, action_fits}
 use Rattle.brc_model.proofs.Keeping.CodeInvariant.{CodeInvariant}
 use Rattle.brc_model.specs.Accounts.{Accounts}
+use Rattle.brc_model.proofs.Dispatch.Programs.{program_of}
 
 -- ---- the first machine
 
@@ -44,19 +45,19 @@ lent_room layout t a (ReturnSlot x) rest found lending none room =
 lent_room layout t a _ rest found lending none room = absurd cc
 
 -- The thread is at the place that its action leads to, and the others are where they were.
-acted : (p : Module) (c : Accounts) (n : ℕ) (m : StepMachine) (t : ℕ) (a : StepActor) (exit : Exit) (x : Action)
-    → slice_get m.actors t ≡ Some a → ActionFits p c n m t a x → RoomsFit m
-    → FollowsRoom (code_of (slice_get m.functions a.function)) (has_room m.layout t a.actor.used) x
+acted : (c : Accounts) (n : ℕ) (m : StepMachine) (t : ℕ) (a : StepActor) (exit : Exit) (x : Action)
+    → slice_get m.actors t ≡ Some a → ActionFits c n m t a x → RoomsFit m
+    → FollowsRoom (program_of m.functions m.states a) (has_room m.layout t a.actor.used) x
     → RoomsFit (machine_by m t a exit x)
-acted p c n m t a exit Skip found fits rooms follows = rooms
-acted p c n m t a exit Stuck found fits rooms follows = rooms
-acted p c n m t a exit (Silent moves place) found fits rooms follows =
+acted c n m t a exit Skip found fits rooms follows = rooms
+acted c n m t a exit Stuck found fits rooms follows = rooms
+acted c n m t a exit (Silent moves place) found fits rooms follows =
     written_actor (RoomFits m) m.actors t a (at_place a place) found
     (λ awaits. record { agenda = fits.at.agenda; room = follows awaits }) rooms
-acted p c n m t a exit (Calls row place) found fits rooms follows =
+acted c n m t a exit (Calls row place) found fits rooms follows =
     written_actor (RoomFits m) m.actors t a (at_place a (place exit)) found
     (λ awaits. record { agenda = (fits.silent exit).at.agenda; room = follows exit awaits }) rooms
-acted p c n m t a exit (Does d rest place) found fits rooms follows =
+acted c n m t a exit (Does d rest place) found fits rooms follows =
     let word = found_by (counting m) t a.actor d in
     written_actor (RoomFits m) m.actors t a (step_actor m.layout t a d rest (place word) word) found
     (λ awaits. let so = follows word awaits in lent_room m.layout t a.actor d rest word so.0 so.1 so.2) rooms
@@ -68,6 +69,6 @@ pub thread_rooms : (p : Module) (n : ℕ) (m : StepMachine) (t : ℕ) (choice : 
     (λ a. machine_by m t a (exit_of choice) (action_of m.functions m.states m.layout t a choice)) o)
 thread_rooms p n m t choice None whole found = whole.rooms
 thread_rooms p n m t choice (Some a) whole found =
-    acted p whole.accounts n m t a (exit_of choice) (action_of m.functions m.states m.layout t a choice) found
+    acted whole.accounts n m t a (exit_of choice) (action_of m.functions m.states m.layout t a choice) found
     (action_fits p n m t a choice whole found) whole.rooms
-    (action_room m.functions m.layout t a (whole.rooms t a found) m.states choice)
+    (action_room m.functions m.states m.layout t a (whole.rooms t a found) choice)

@@ -6,7 +6,7 @@ use Rattle.std.proofs.lemmas.Bool.{ne_eqb, false≢true}
 use Rattle.std.proofs.lemmas.Bool.Decides.{eqb_tells}
 use Rattle.std.proofs.lemmas.List.{length-set}
 use Rattle.std.proofs.lemmas.Option.{slice_get_within}
-use Rattle.brc_model.specs.AbstractState.{Holder, ByThread, Reference, AbstractState, same, without, references_to, Move, are_allowed, moved, is_among}
+use Rattle.brc_model.specs.AbstractState.{Holder, ByThread, Reference, AbstractState, same, without, references_to, Move, PassOn, move, are_allowed, moved, is_among}
 use Rattle.brc_model.specs.declared.duty.Duty.{Duty}
 use Rattle.brc_model.specs.declared.address.Address.TheVariants.{Gate}
 use Rattle.brc_model.specs.declared.actor.Status.{Status}
@@ -41,32 +41,38 @@ pub silent_bag : (p : AbstractState) (t : ℕ) (moves : List Move) → SilentMov
     → (moved p moves).references ≡ bag_after p.references moves
 silent_bag p t [] Stays = refl
 silent_bag p t _ (GainsNone h) = refl
-silent_bag p t _ (PassesOn from to x has) = refl
+silent_bag p t _ (PassesOn from to x rest has more) =
+    silent_bag (move p (PassOn (reference_of t from x) (ByThread t to))) t rest more
 
 pub silent_closed : (p : AbstractState) (t : ℕ) (moves : List Move) → SilentMoves p.references t moves
     → (moved p moves).closed ≡ p.closed
 silent_closed p t [] Stays = refl
 silent_closed p t _ (GainsNone h) = refl
-silent_closed p t _ (PassesOn from to x has) = refl
+silent_closed p t _ (PassesOn from to x rest has more) =
+    silent_closed (move p (PassOn (reference_of t from x) (ByThread t to))) t rest more
 
 silent_born : (p : AbstractState) (t : ℕ) (moves : List Move) → SilentMoves p.references t moves
     → (moved p moves).born ≡ p.born
 silent_born p t [] Stays = refl
 silent_born p t _ (GainsNone h) = refl
-silent_born p t _ (PassesOn from to x has) = refl
+silent_born p t _ (PassesOn from to x rest has more) =
+    silent_born (move p (PassOn (reference_of t from x) (ByThread t to))) t rest more
 
 silent_kinds : (p : AbstractState) (t : ℕ) (moves : List Move) → SilentMoves p.references t moves
     → (moved p moves).kinds ≡ p.kinds
 silent_kinds p t [] Stays = refl
 silent_kinds p t _ (GainsNone h) = refl
-silent_kinds p t _ (PassesOn from to x has) = refl
+silent_kinds p t _ (PassesOn from to x rest has more) =
+    silent_kinds (move p (PassOn (reference_of t from x) (ByThread t to))) t rest more
 
 pub silent_allowed : (layout : Layout) (p : AbstractState) (t : ℕ) (moves : List Move)
     → SilentMoves p.references t moves
     → are_allowed layout p moves ≡ true
 silent_allowed layout p t [] Stays = refl
 silent_allowed layout p t _ (GainsNone h) = refl
-silent_allowed layout p t _ (PassesOn from to x has) = ap (λ (b : Bool). b && true) has
+silent_allowed layout p t _ (PassesOn from to x rest has more) =
+    let next = move p (PassOn (reference_of t from x) (ByThread t to)) in
+    ap (λ (b : Bool). b && are_allowed layout next rest) has ∙ silent_allowed layout next t rest more
 
 -- A silent step doesn't change how many references a counted object has.
 silent_references : (p : AbstractState) (t x : ℕ) (moves : List Move) → SilentMoves p.references t moves → 0 < x
@@ -75,11 +81,12 @@ silent_references p t x [] Stays pos = refl
 silent_references p t x _ (GainsNone h) pos =
     let none : one_if (none_row == x) ≡ 0 = ap one_if (ne_eqb none_row x (λ e. absurd (omega (arith, pos, e)))) in
     omega (arith, references_to-cons x (reference_of t h none_row) p.references, none)
-silent_references p t x _ (PassesOn from to y has) pos =
+silent_references p t x _ (PassesOn from to y rest has more) pos =
     omega (
       arith,
       references_to-cons x (reference_of t to y) (without (reference_of t from y) p.references),
       references_to-without x (reference_of t from y) p.references has,
+      silent_references (move p (PassOn (reference_of t from y) (ByThread t to))) t x rest more pos,
     )
 
 -- A silent step changes no reference of another holder.
@@ -87,7 +94,8 @@ silent_aside : (bag : List Reference) (h : Holder) (t : ℕ) (moves : List Move)
     → AreAside h moves
 silent_aside bag h t [] Stays other = tt
 silent_aside bag h t _ (GainsNone k) other = (other k, tt)
-silent_aside bag h t _ (PassesOn from to x has) other = ((other from, other to), tt)
+silent_aside bag h t _ (PassesOn from to x rest has more) other =
+    ((other from, other to), silent_aside _ h t rest more other)
 
 -- ---- the machine afterwards
 

@@ -9,7 +9,8 @@ use Rattle.brc_model.specs.declared.thread.Choice.{Choice}
 use Rattle.brc_model.specs.declared.actor.Actor.{Actor}
 use Rattle.brc_model.specs.Machine.{Machine, machine_by_duty, with_actor, with_moves}
 use Rattle.brc_model.specs.declared.state.Exit.{Exit}
-use Rattle.brc_model.specs.Actions.{StepActor, Action, Skip, Stuck, Silent, Calls, Does, exit_of, action_of}
+use Rattle.brc_model.specs.Actions.{StepActor, Action, Skip, Stuck, Silent, Calls, Does}
+use Rattle.brc_model.specs.Dispatch.{exit_of, action_of}
 use Rattle.brc_model.specs.StepMachine.{StepMachine, counting, of_thread, does_by, machine_by, next_machine}
 use Rattle.brc_model.proofs.Keeping.SilentMoves.{SilentMoves}
 use Rattle.brc_model.proofs.Keeping.Sits.{sitting, taken_up_step}
@@ -44,7 +45,7 @@ module _ {p : Accounts} {n : ℕ} {m : Machine} {t : ℕ} {a : Actor} {d : Duty}
 action_shows : {Q : ℕ → Machine → Machine → Type 0} {p : Module} {n : ℕ} → ShowsSteps Q n
     → (m : StepMachine) (t : ℕ) (a : StepActor) (exit : Exit) (x : Action) → (whole : CodeInvariant p n m)
     → slice_get m.actors t ≡ Some a
-    → ActionFits p whole.accounts n m t a x
+    → ActionFits whole.accounts n m t a x
     → Q t (counting m) (counting (machine_by m t a exit x))
 action_shows shows m t a exit Skip whole found fits = shows.stays whole.accounts t (counting m) whole.kept
 action_shows shows m t a exit Stuck whole found fits = absurd fits

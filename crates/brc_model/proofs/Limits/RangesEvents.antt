@@ -9,7 +9,8 @@ use Rattle.brc_model.specs.declared.thread.Call.{Call}
 use Rattle.brc_model.specs.declared.thread.Choice.{Choice}
 use Rattle.brc_model.proofs.Basics.Lists.{written_actor}
 use Rattle.brc_model.specs.declared.state.Exit.{Exit}
-use Rattle.brc_model.specs.Actions.{StepActor, Action, Skip, Stuck, Silent, Calls, Does, exit_of, action_of}
+use Rattle.brc_model.specs.Actions.{StepActor, Action, Skip, Stuck, Silent, Calls, Does}
+use Rattle.brc_model.specs.Dispatch.{exit_of, action_of}
 use Rattle.brc_model.specs.StepMachine.{StepMachine, counting, of_thread, machine_by, next_machine, machine_after, first_layout, first_machine}
 use Rattle.brc_model.proofs.Keeping.FirstRanges.{rooted_ranges}
 use Rattle.brc_model.proofs.Keeping.FirstMachine.{first_rooted}
@@ -38,7 +39,7 @@ quiet_ranges p n m t a moves ranges found =
 
 action_ranges : (p : Module) (n : ℕ) (m : StepMachine) (t : ℕ) (a : StepActor) (exit : Exit) (x : Action)
     → (whole : CodeInvariant p n m)
-    → Ranges n (counting m) → slice_get m.actors t ≡ Some a → ActionFits p whole.accounts n m t a x
+    → Ranges n (counting m) → slice_get m.actors t ≡ Some a → ActionFits whole.accounts n m t a x
     → Ranges n (counting (machine_by m t a exit x))
 action_ranges p n m t a exit Skip whole ranges found fits = ranges
 action_ranges p n m t a exit Stuck whole ranges found fits = ranges

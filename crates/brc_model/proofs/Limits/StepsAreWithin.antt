@@ -1,5 +1,5 @@
 -- Each step of a reachable world names words that exist, and finds words that suit its duty.
-use Rattle.std.proofs.Common.{◌≡◌, ℕ, ◌+◌, ◌*◌, ◌<◌, ◌≤◌, ◌⊎◌, inl, inr, List, ◌∷◌, length, Some, refl, sym, ap, ◌∙◌, subst, arith}
+use Rattle.std.proofs.Common.{◌≡◌, ℕ, ◌+◌, ◌*◌, ◌<◌, ◌≤◌, ◌⊎◌, inl, inr, List, ◌∷◌, length, Option, Some, refl, sym, ap, ◌∙◌, subst, arith}
 use Rattle.std.specs.Prelude.{slice_get}
 use Rattle.std.proofs.lemmas.List.{length-map}
 use Rattle.std.proofs.lemmas.Bool.{eq-eqb, cases_Bool}
@@ -38,11 +38,15 @@ use Rattle.brc_model.proofs.Limits.Bounds.{IsFew, duty_suits}
 use Rattle.brc_model.proofs.Basics.Marks.{word_within}
 use Rattle.brc_model.proofs.Basics.FoundMarks.{lowest_used}
 use Rattle.brc_model.proofs.Basics.Blocks.{used_low, block_within, size_within, thread_there, rows_low, immortal_block}
-use Rattle.brc_model.specs.Accounts.{Accounts}
+use Rattle.brc_model.specs.Accounts.{Accounts, Account}
 use Rattle.brc_model.specs.Invariant.{AtDuty, CoreInvariant, numbers_of}
 use Rattle.brc_model.proofs.Objects.UsesAfter.{own_uses}
-use Rattle.brc_model.specs.Limits.{row_limit, thread_limit, total_limit}
+use Rattle.brc_model.specs.Limits.{row_limit, thread_limit, total_limit, depth_limit}
 use Rattle.brc_model.specs.Layout.{row_count, block_of, block_size, is_immortal_row}
+use Rattle.brc_model.proofs.Dispatch.Programs.{Program, program_of}
+use Rattle.brc_model.specs.Threads.{outer_of}
+use Rattle.brc_model.proofs.Dispatch.Coded.{PlaceSays}
+use Rattle.brc_model.specs.declared.actor.Place.TheVariants.{Idle, InCall, Inside, Stopping, Exiting}
 
 -- ---- the word exists
 
@@ -162,7 +166,7 @@ threads_in p n m whole = sym whole.kept.core.threads ∙ length-map m.actors its
 does_within : (p : Module) (n : ℕ) (m : StepMachine) (t : ℕ) (a : StepActor) (d : Duty) (rest : List Duty)
     (place : Place)
     → (bounded : Bounded p n m) → n ≤ thread_limit → slice_get m.actors t ≡ Some a
-    → DutyFits p bounded.whole.accounts n m t a d rest place
+    → DutyFits bounded.whole.accounts n m t a d rest place
     → IsWithin (world_of m) t a.actor d
 does_within p n m t a d rest place bounded few found fits =
     let now = sitting a.actor (d ∷ rest) in
@@ -181,7 +185,7 @@ machine_within : (p : Module) (n : ℕ) (m : StepMachine) (t : ℕ) (a : StepAct
     → slice_get m.actors t ≡ Some a → StepsWithin (world_of m) t a
 machine_within p n m t a bounded few found choice d rest place is =
     does_within p n m t a d rest (place (found_by (counting m) t a.actor d)) bounded few found
-    (subst (ActionFits p bounded.whole.accounts n m t a) is (action_fits p n m t a choice bounded.whole found))
+    (subst (ActionFits bounded.whole.accounts n m t a) is (action_fits p n m t a choice bounded.whole found))
 
 -- ---- reachable worlds
 
@@ -249,3 +253,22 @@ workers_are p w r =
     let m = machine_after (first_machine p r.states r.rows r.calls) r.events in
     let same : w.layout.workers ≡ m.layout.workers = ap (λ (v : World). v.layout.workers) r.reached in
     omega (arith, threads_are p w r, same, (reached_bounded p w r).whole.kept.core.workers)
+
+-- ---- open calls
+
+few_outer : (program : Program) (place : Place) (locked : Option ℕ) (account : Account)
+    → PlaceSays program place locked account → length (outer_of place) < depth_limit
+few_outer program (Idle left) locked account says = omega arith
+few_outer program (InCall context at variables) locked account says = says.1.is_call.shallow
+few_outer program (Inside context at variables stage) locked account says = says.1.is_call.shallow
+few_outer program (Stopping lock calls) locked account says = omega arith
+few_outer program Exiting locked account says = omega arith
+
+-- Each thread has few calls open.
+pub few_calls : (p : Module) (w : World) (t : ℕ) (a : StepActor) → IsReachable p w → slice_get w.actors t ≡ Some a
+    → length (outer_of a.place) < depth_limit
+few_calls p w t a r found =
+    let m = machine_after (first_machine p r.states r.rows r.calls) r.events in
+    let there : slice_get m.actors t ≡ Some a = sym (ap (λ (v : World). slice_get v.actors t) r.reached) ∙ found in
+    let whole = (reached_bounded p w r).whole in
+    few_outer (program_of m.functions m.states a) a.place a.actor.locked (whole.accounts t) (whole.coded t a there).says

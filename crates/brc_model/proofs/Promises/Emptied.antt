@@ -7,7 +7,7 @@ use Rattle.brc_model.specs.declared.state.State.{State}
 use Rattle.brc_model.specs.declared.thread.Call.{Call}
 use Rattle.brc_model.specs.declared.thread.Choice.{Choice}
 use Rattle.brc_model.specs.declared.thread.Choice.TheVariants.{Ok, Fault, Claim, Stop}
-use Rattle.brc_model.specs.Threads.{entry_variables, code_of}
+use Rattle.brc_model.specs.Threads.{entry_variables, function_in, number_in}
 use Rattle.brc_model.specs.declared.duty.Duty.{Duty}
 use Rattle.brc_model.specs.declared.duty.Duty.TheVariants.{Settle, ClaimMark, ReleaseLoad, UnlockGate}
 use Rattle.brc_model.specs.Duties.{address_of}
@@ -17,7 +17,8 @@ use Rattle.brc_model.specs.declared.actor.Place.{Place}
 use Rattle.brc_model.specs.declared.actor.Context.{Context}
 use Rattle.brc_model.specs.declared.actor.Place.TheVariants.{Idle, InCall, Inside, Stopping, Exiting}
 use Rattle.brc_model.specs.declared.state.Exit.{Exit}
-use Rattle.brc_model.specs.Actions.{StepActor, Action, Skip, Stuck, Silent, Calls, Does, always, dispatch, may_claim, agenda_action, status_action, exit_of, action_of, first_context, holds_some, stopping, give_up, may_stop, stop_action, is_before_instruction}
+use Rattle.brc_model.specs.Actions.{StepActor, Action, Skip, Stuck, Silent, Calls, Does, always, first_context, holds_some, stopping, give_up, stop_action}
+use Rattle.brc_model.specs.Dispatch.{dispatch, may_claim, agenda_action, status_action, exit_of, action_of, may_stop, is_before_instruction}
 use Rattle.brc_model.specs.StepMachine.{StepMachine, of_thread, machine_by, next_machine, machine_after, first_machine, main_actor, worker_actor, at_place, step_actor}
 use Rattle.brc_lang.specs.declared.module.Function.{Function}
 use Rattle.brc_model.proofs.Basics.Lists.{written_actor, either, some_is, slice_get-map}
@@ -25,12 +26,17 @@ use Rattle.brc_model.proofs.Dispatch.Claims.{claimer, stopper}
 use Rattle.brc_model.specs.declared.layout.Layout.{Layout}
 use Rattle.brc_model.specs.declared.duty.Holding.TheVariants.{ByVariable}
 use Rattle.brc_model.proofs.Dispatch.Decided.{stopping_decides, stop_decides, give_up_decides}
-use Rattle.brc_model.proofs.Promises.Leading.{HoldsAfter, dispatch_leads}
+use Rattle.brc_model.proofs.Promises.Leading.{HoldsAtEnd, HoldsAfter, dispatch_leads}
 use Rattle.brc_model.proofs.Promises.Turns.{each_place, TurnsHold, code_here, first_turns, turns_next}
 use Rattle.brc_lang.specs.Grammar.{IsModule, LeadsForward}
 use Rattle.brc_model.proofs.Promises.Emptying.{Empties, behind, IsEmptied, AreEmptied, duty_emptied, ActionSettles, HasNoneBehind, no_chain, from_empty, instruction_empties, inside_empties}
+use Rattle.brc_model.specs.declared.actor.OpenCall.{OpenCall}
 
 -- ---- where nothing is behind
+
+none_at_end : (left : ℕ) (outer : List OpenCall) → HoldsAtEnd HasNoneBehind left outer
+none_at_end left [] = refl
+none_at_end left (o ∷ outer) = (λ row. refl, refl)
 
 none_after : (code : List Instr) (context : Context) (at : ℕ) (variables : List (Option ℕ))
     → HoldsAfter HasNoneBehind code context at variables
@@ -38,7 +44,8 @@ none_after code context at variables = record {
   on = λ next later ahead. refl;
   back = λ to i is less. refl;
   into = λ stage. refl;
-  ends = refl;
+  calls = λ to callee arguments otherwise is. refl;
+  ends = none_at_end context.left context.outer;
 }
 
 -- ---- a thread's action
@@ -92,18 +99,18 @@ dispatch_settles layout t used head code (Stopping (Some row) calls) forward e =
 dispatch_settles layout t used head code (Stopping None calls) forward e = give_up_settles head calls
 
 agenda_settles : (functions : List Function) (layout : Layout) (t : ℕ) (a : StepActor) (agenda : List Duty)
-    → a.actor.agenda ≡ agenda → LeadsForward (code_of (slice_get functions a.function)) → IsEmptied a
+    → a.actor.agenda ≡ agenda → LeadsForward (function_in functions a.function a.place).code → IsEmptied a
     → ActionSettles a.actor.head a.actor.agenda (agenda_action functions layout t a agenda)
 agenda_settles functions layout t a [] is forward e =
-    let x = dispatch layout t a.actor.used (code_of (slice_get functions a.function)) a.place in
+    let x = dispatch layout t a.actor.used (function_in functions a.function a.place).code a.place in
     subst (λ (l : List Duty). ActionSettles a.actor.head l x) (sym is)
-    (dispatch_settles layout t a.actor.used a.actor.head (code_of (slice_get functions a.function)) a.place forward
+    (dispatch_settles layout t a.actor.used a.actor.head (function_in functions a.function a.place).code a.place forward
     (subst (λ (l : List Duty). Empties a.actor.head (l ++ behind a.place)) is e))
 agenda_settles functions layout t a (d ∷ rest) is forward e = λ found.
     subst (λ (l : List Duty). Empties a.actor.head (l ++ behind a.place)) is e
 
 status_settles : (functions : List Function) (layout : Layout) (t : ℕ) (a : StepActor) (status : Status)
-    → LeadsForward (code_of (slice_get functions a.function)) → IsEmptied a
+    → LeadsForward (function_in functions a.function a.place).code → IsEmptied a
     → ActionSettles a.actor.head a.actor.agenda (status_action functions layout t a status)
 status_settles functions layout t a Gone forward e = tt
 status_settles functions layout t a Running forward e = agenda_settles functions layout t a a.actor.agenda refl forward
@@ -122,21 +129,21 @@ stopped_behind None calls = refl
 stopped_behind (Some row) calls = refl
 
 stop_settles : (functions : List Function) (states : ℕ → ℕ → Option State) (a : StepActor) → IsEmptied a
-    → may_stop a ≡ true → ActionSettles a.actor.head a.actor.agenda (stop_action (states a.function) a.place)
+    → may_stop a ≡ true → ActionSettles a.actor.head a.actor.agenda (stop_action functions states a.function a.place)
 stop_settles functions states a e may =
     let stops = stopper a may in
     let agenda : a.actor.agenda ++ behind a.place ≡ [] =
     ap (λ (l : List Duty). l ++ behind a.place) stops.agenda ∙ stopper_none a.place stops.before in
     let none = no_chain a.actor.head (subst (Empties a.actor.head) agenda e) in
-    let x = stop_action (states a.function) a.place in
+    let x = stop_action functions states a.function a.place in
     subst (λ (l : List Duty). ActionSettles a.actor.head l x) (sym stops.agenda)
     (subst (λ (h : ℕ). ActionSettles h [] x) (sym none)
-    (stop_decides (ActionSettles 0 []) (states a.function) a.place tt tt
+    (stop_decides (ActionSettles 0 []) functions states a.function a.place tt tt
     (λ lock calls. stopping_decides (λ (place : Place). Empties 0 (behind place)) lock calls
     (stopped_behind lock calls) refl) refl))
 
 choice_settles : (functions : List Function) (states : ℕ → ℕ → Option State) (layout : Layout) (t : ℕ) (a : StepActor)
-    (choice : Choice) → LeadsForward (code_of (slice_get functions a.function)) → IsEmptied a
+    (choice : Choice) → LeadsForward (function_in functions a.function a.place).code → IsEmptied a
     → ActionSettles a.actor.head a.actor.agenda (action_of functions states layout t a choice)
 choice_settles functions states layout t a Ok forward e = status_settles functions layout t a a.actor.status forward e
 choice_settles functions states layout t a Fault forward e =
@@ -147,7 +154,8 @@ choice_settles functions states layout t a (Claim row) forward e =
     (λ may found. subst (λ (l : List Duty). Empties a.actor.head (l ++ behind a.place))
     (claimer layout t a row may).agenda e) tt
 choice_settles functions states layout t a Stop forward e =
-    either (ActionSettles a.actor.head a.actor.agenda) (may_stop a) (stop_action (states a.function) a.place) Skip
+    either (ActionSettles a.actor.head a.actor.agenda) (may_stop a) (stop_action functions states a.function a.place)
+    Skip
     (stop_settles functions states a e) tt
 
 set_emptied : (actors : List StepActor) (t : ℕ) (a after : StepActor) → slice_get actors t ≡ Some a → IsEmptied after
@@ -181,7 +189,8 @@ thread_emptied : (p : Module) (m : StepMachine) (t : ℕ) (choice : Choice) (o :
 thread_emptied p m t choice None fits holds found = holds.emptied
 thread_emptied p m t choice (Some a) fits holds found =
     action_emptied m t a (exit_of choice) (action_of m.functions m.states m.layout t a choice) holds.emptied found
-    (choice_settles m.functions m.states m.layout t a choice (code_here p m a.function fits holds.turns).forward
+    (choice_settles m.functions m.states m.layout t a choice (code_here p m (number_in a.function a.place) fits
+    holds.turns).forward
     (holds.emptied t a found))
 
 -- ---- every machine that events lead to

@@ -2,7 +2,8 @@
 -- thread that has stopped settles once, behind the last of its releases.
 use Rattle.brc_model.specs.declared.state.Exit.TheVariants.{Success, Fault as FaultExit}
 use Rattle.std.proofs.Common.{◌≡◌, ℕ, zero, suc, Bool, true, false, cond, List, [], ◌∷◌, ◌++◌, Option, None, Some, refl, sym, ap, ◌∙◌, subst}
-use Rattle.std.specs.Prelude.{not, slice_get}
+use Rattle.std.specs.Prelude.{is_some, not, slice_get}
+use Rattle.std.specs.List.{list_all}
 use Rattle.brc_lang.specs.declared.module.Instr.{Instr}
 use Rattle.brc_lang.specs.declared.module.Instr.TheVariants.{Num, List as ListObject, NoneObject, Newref, Move as MoveReference, Drop, Lock, Unlock, Borrow, Fetch, Set, Put, Goto, Again, Ret, Fail, As, Open, Connect, Read, Write, Call}
 use Rattle.brc_model.specs.Threads.{row_of}
@@ -16,13 +17,14 @@ use Rattle.brc_model.specs.declared.actor.Stage.{Stage}
 use Rattle.brc_model.specs.declared.actor.Stage.TheVariants.{InRange, OutOfRange, Found, Retained, Loaded, Lent, Called, Granted}
 use Rattle.brc_model.specs.Machine.{is_running, has_room}
 use Rattle.brc_model.specs.declared.state.Exit.{Exit}
-use Rattle.brc_model.specs.Actions.{StepActor, Action, Skip, Stuck, Silent, Calls, Does, with_row, dispatch_instruction, dispatch_inside}
+use Rattle.brc_model.specs.Actions.{StepActor, Action, Skip, Stuck, Silent, Calls, Does, with_row, dispatch_instruction, dispatch_inside, ret_action, fail_action, argument_rows}
 use Rattle.brc_model.specs.StepMachine.{step_actor}
 use Rattle.brc_model.proofs.Basics.Lists.{either}
 use Rattle.brc_model.proofs.Basics.Continuation.{leaves_chain, fills_chain, may_fill, is_inner, Traits, Continuation, Ends, GoesOn, Frees, Claims, ClaimsNone, Takes, TakesNone, continues}
 use Rattle.brc_model.specs.declared.layout.Layout.{Layout}
 use Rattle.brc_model.proofs.Promises.Turns.{EachPlace}
 use Rattle.std.proofs.lemmas.List.{append-nil, append_assoc}
+use Rattle.brc_model.specs.declared.actor.OpenCall.{OpenCall}
 
 -- ---- agendas
 
@@ -189,6 +191,14 @@ pub row_empties : (o : Option ℕ) (work : ℕ → Action) → ((row : ℕ) → 
 row_empties None work each = tt
 row_empties (Some row) work each = each row
 
+ret_empties : (t left from row : ℕ) (outer : List OpenCall) → ActionEmpties 0 (ret_action t left from row outer)
+ret_empties t left from row [] = refl
+ret_empties t left from row (o ∷ outer) = tt
+
+fail_empties : (left : ℕ) (outer : List OpenCall) → ActionEmpties 0 (fail_action left outer)
+fail_empties left [] = tt
+fail_empties left (o ∷ outer) = tt
+
 -- What an instruction dispatches leaves an empty chain empty once it is done.
 pub instruction_empties : (layout : Layout) (t used : ℕ) (before : Place) (context : Context) (at : ℕ)
     (variables : List (Option ℕ))
@@ -229,12 +239,13 @@ instruction_empties layout t used before context at variables (Some (Write file 
     row_empties (row_of variables number) _ (λ row. refl)
 instruction_empties layout t used before context at variables (Some (As from kind otherwise)) =
     row_empties (row_of variables from) _ (λ row. refl)
-instruction_empties layout t used before context at variables (Some (Call to callee arguments otherwise)) = tt
 instruction_empties layout t used before context at variables (Some (Goto to)) = tt
 instruction_empties layout t used before context at variables (Some (Again to times)) = tt
+instruction_empties layout t used before context at variables (Some (Call to callee arguments otherwise)) =
+    either (ActionEmpties 0) (list_all is_some (argument_rows variables arguments)) _ _ (λ named. tt) tt
 instruction_empties layout t used before context at variables (Some (Ret from)) =
-    row_empties (row_of variables from) _ (λ row. refl)
-instruction_empties layout t used before context at variables (Some Fail) = tt
+    row_empties (row_of variables from) _ (λ row. ret_empties t context.left from row context.outer)
+instruction_empties layout t used before context at variables (Some Fail) = fail_empties context.left context.outer
 
 pub inside_empties : (layout : Layout) (t used : ℕ) (context : Context) (at : ℕ) (variables : List (Option ℕ))
     (stage : Stage) (i : Option Instr)

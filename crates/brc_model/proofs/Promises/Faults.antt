@@ -9,7 +9,8 @@ use Rattle.brc_model.specs.declared.thread.Choice.TheVariants.{Ok, Fault}
 use Rattle.brc_model.specs.declared.state.Exit.{Exit}
 use Rattle.brc_model.specs.declared.state.Exit.TheVariants.{Success, Fault as FaultExit}
 use Rattle.brc_model.specs.Limits.{most_faults}
-use Rattle.brc_model.specs.Actions.{StepActor, Action, Skip, Stuck, Silent, Calls, Does, exit_of, status_action, action_of}
+use Rattle.brc_model.specs.Actions.{StepActor, Action, Skip, Stuck, Silent, Calls, Does}
+use Rattle.brc_model.specs.Dispatch.{exit_of, status_action, action_of}
 use Rattle.brc_model.specs.StepMachine.{StepMachine, of_thread, counted, closes, machine_by, next_machine, first_machine, machine_after}
 use Rattle.brc_model.specs.Progress.{Always}
 use Rattle.brc_model.specs.Faults.{calls_host, closes_resource, acts, count_after, CountsFaults, CountsFit, FaultsAlike}

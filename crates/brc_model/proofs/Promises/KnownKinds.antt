@@ -8,4 +8,4 @@ use Rattle.brc_model.specs.KnownKinds.{KindsAreKnown}
 use Rattle.brc_model.proofs.Promises.RowLaws.{always}
 
 pub kinds_are_known : (p : Module) → IsModule p → IsAcceptable p → Always KindsAreKnown p
-kinds_are_known = always KindsAreKnown (λ p n m whole. whole.kinds.known)
+kinds_are_known = always KindsAreKnown (λ p n m whole t a found. (whole.kinds.known t a found).0)

@@ -20,16 +20,19 @@ use Rattle.brc_model.specs.declared.actor.Stage.{Stage}
 use Rattle.brc_model.specs.declared.actor.Stage.TheVariants.{InRange, OutOfRange, Found, Retained, Loaded, Lent, Called, Granted}
 use Rattle.brc_model.specs.declared.state.Exit.{Exit}
 use Rattle.brc_model.specs.Machine.{has_room}
-use Rattle.brc_model.specs.Actions.{Action, Skip, Stuck, Silent, Calls, Does, with_row, by_range, by_item, birth_action, first_context, turns_at, with_turn, dispatch_instruction, dispatch_inside, dispatch, number_word, list_word, grant_action, lend_action, stopping, holds_some, first_named, give_up_first, give_up, always}
+use Rattle.brc_model.specs.Actions.{Action, Skip, Stuck, Silent, Calls, Does, with_row, by_range, by_item, birth_action, first_context, turns_at, with_turn, dispatch_instruction, dispatch_inside, number_word, list_word, grant_action, lend_action, stopping, holds_some, first_named, give_up_first, give_up, always, waiting_context, callee_context, ret_action, fail_action, passed_variables, argument_rows}
+use Rattle.brc_model.specs.Dispatch.{dispatch}
 use Rattle.brc_model.proofs.Basics.Lists.{either, none_some}
 use Rattle.brc_model.proofs.Dispatch.Decided.{range_decides, item_decides, exit_decides}
 use Rattle.brc_model.specs.Bounded.{times_of}
 use Rattle.brc_model.specs.declared.layout.Layout.{Layout}
 use Rattle.brc_model.specs.Layout.{none_row, row_at}
-use Rattle.std.specs.List.{list_any}
+use Rattle.std.specs.List.{list_all, list_any}
 use Rattle.std.proofs.lemmas.List.Sums.{sum_by-cons}
 use Rattle.brc_model.specs.declared.duty.Holding.TheVariants.{ByVariable}
 use Rattle.brc_model.specs.References.{one_if}
+use Rattle.brc_model.specs.declared.actor.OpenCall.{OpenCall}
+use Rattle.brc_lang.specs.declared.parameter.Argument.{Argument}
 
 -- The property holds of the next place, if the duty goes on; a lock that isn't got leaves the thread at the place.
 abbrev pub Leads : (Place → Type 0) → Place → Duty → ℕ → Place → Type 0
@@ -44,6 +47,14 @@ LeadsTo P place (Silent moves next) = P next
 LeadsTo P place (Calls row next) = (exit : Exit) → P (next exit)
 LeadsTo P place (Does d rest next) = (found : ℕ) → Leads P place d found (next found)
 
+-- The property holds of each place to which the end of a call can lead: to the end of an outermost call, or on in the
+-- call that has made it, past its instruction or at L.
+abbrev pub HoldsAtEnd : (Place → Type 0) → ℕ → List OpenCall → Type 0
+HoldsAtEnd P left [] = P (Idle left)
+HoldsAtEnd P left (o ∷ outer) =
+    ((row : ℕ) → P (InCall (waiting_context left o outer) (o.at + 1) (slice_set o.variables o.to (Some row))))
+    × P (InCall (waiting_context left o outer) o.otherwise o.variables)
+
 -- The property holds of each place to which an instruction at the point of a call can lead.
 pub record HoldsAfter (P : Place → Type 0) (code : List Instr) (context : Context) (at : ℕ)
     (variables : List (Option ℕ)) : Type 0 where
@@ -51,7 +62,11 @@ pub record HoldsAfter (P : Place → Type 0) (code : List Instr) (context : Cont
   pub back : (to : ℕ) (i : Instr) → slice_get code at ≡ Some i → turns_at context at < times_of i
       → P (InCall (with_turn context at) to variables)
   pub into : (stage : Stage) → P (Inside context at variables stage)
-  pub ends : P (Idle context.left)
+  pub calls : (to callee : ℕ) (arguments : List Argument) (otherwise : ℕ)
+      → slice_get code at ≡ Some (Call to callee arguments otherwise)
+      → P (InCall (callee_context context at variables to callee arguments otherwise) 0
+      (passed_variables variables arguments))
+  pub ends : HoldsAtEnd P context.left context.outer
 
 -- The property holds of each place to which a thread inside an instruction can go.
 pub record HoldsWithin (P : Place → Type 0) (context : Context) (at : ℕ) (variables : List (Option ℕ))
@@ -77,6 +92,17 @@ module _ (P : Place → Type 0) (place : Place) where
       → LeadsTo P place (with_row list (λ row. Does (CellLoad row index) [] (by_item empty holds)))
   cell_leads list index empty holds none some =
       row_leads list _ (λ row found. item_decides (λ word next. P next) empty holds none some found)
+
+-- The end of a call leads to one of these places.
+ret_leads : (P : Place → Type 0) (place : Place) (t left from row : ℕ) (outer : List OpenCall)
+    → HoldsAtEnd P left outer → LeadsTo P place (ret_action t left from row outer)
+ret_leads P place t left from row [] ends = λ found. ends
+ret_leads P place t left from row (o ∷ outer) ends = ends.0 row
+
+fail_leads : (P : Place → Type 0) (place : Place) (left : ℕ) (outer : List OpenCall)
+    → HoldsAtEnd P left outer → LeadsTo P place (fail_action left outer)
+fail_leads P place left [] ends = ends
+fail_leads P place left (o ∷ outer) ends = ends.1
 
 module _ (P : Place → Type 0) (place : Place) (code : List Instr) (forward : LeadsForward code) (context : Context)
     (at : ℕ) (variables : List (Option ℕ))
@@ -159,15 +185,19 @@ module _ (P : Place → Type 0) (place : Place) (code : List Instr) (forward : L
           (λ row word. holds.on (cond (same_kind (kind_of_word word) kind) (at + 1) otherwise) variables
           (either (λ (next : ℕ). at < next) (same_kind (kind_of_word word) kind) (at + 1) otherwise
           (λ same. omega arith) (forward at (As from kind otherwise) otherwise is refl).0))
-      instruction_leads (Some (Call to callee arguments otherwise)) is = tt
       instruction_leads (Some (Goto to)) is = holds.on to variables (forward at (Goto to) to is refl).0
       instruction_leads (Some (Again to times)) is =
           either P (nat_lt (turns_at context at) times) (InCall (with_turn context at) to variables)
           (InCall context (at + 1) variables)
           (λ more. holds.back to (Again to times) is (ltb-true (turns_at context at) times more))
           (holds.on (at + 1) variables (omega arith))
-      instruction_leads (Some (Ret from)) is = row_leads P place (row_of variables from) _ (λ row found. holds.ends)
-      instruction_leads (Some Fail) is = holds.ends
+      instruction_leads (Some (Call to callee arguments otherwise)) is =
+          either (LeadsTo P place) (list_all is_some (argument_rows variables arguments)) _ _
+          (λ named. holds.calls to callee arguments otherwise is) tt
+      instruction_leads (Some (Ret from)) is =
+          row_leads P place (row_of variables from) _
+          (λ row. ret_leads P place t context.left from row context.outer holds.ends)
+      instruction_leads (Some Fail) is = fail_leads P place context.left context.outer holds.ends
 
     -- Inside an instruction too, each step leads on: to a later point, or further in.
     pub inside_leads : (layout : Layout) (t used : ℕ) (stage : Stage) (i : Option Instr) → slice_get code at ≡ i

@@ -2,7 +2,8 @@
 -- still at the instruction.
 use Rattle.brc_model.specs.declared.state.Exit.TheVariants.{Success, Fault as FaultExit}
 use Rattle.std.proofs.Common.{◌≡◌, ℕ, zero, suc, ◌+◌, Bool, true, false, cond, List, [], ◌∷◌, Option, None, Some, refl, sym, ap, ◌∙◌, arith}
-use Rattle.std.specs.Prelude.{◌==◌, not, slice_get, slice_set, sum_by}
+use Rattle.std.specs.Prelude.{◌==◌, is_some, not, slice_get, slice_set, sum_by}
+use Rattle.std.specs.List.{list_all}
 use Rattle.std.proofs.Math.Path.{fun_ext}
 use Rattle.std.proofs.lemmas.List.Sums.{sum_by-cons}
 use Rattle.brc_lang.specs.declared.module.Instr.{Instr}
@@ -23,11 +24,12 @@ use Rattle.brc_model.specs.declared.actor.Place.TheVariants.{Idle, InCall, Insid
 use Rattle.brc_model.specs.declared.actor.Stage.{Stage}
 use Rattle.brc_model.specs.declared.actor.Stage.TheVariants.{InRange, OutOfRange, Found, Retained, Loaded, Lent, Called, Granted}
 use Rattle.brc_model.specs.declared.layout.Layout.{Layout}
-use Rattle.brc_model.specs.Threads.{row_of, entry_variables, code_of}
+use Rattle.brc_model.specs.Threads.{row_of, entry_variables, function_in}
 use Rattle.brc_model.specs.Duties.{ready}
 use Rattle.brc_model.specs.Machine.{has_room, written}
 use Rattle.brc_model.specs.declared.state.Exit.{Exit}
-use Rattle.brc_model.specs.Actions.{StepActor, Action, Does, with_row, dispatch_instruction, dispatch_inside, dispatch, agenda_action, status_action, exit_of, action_of, first_context}
+use Rattle.brc_model.specs.Actions.{StepActor, Action, Does, with_row, dispatch_instruction, dispatch_inside, first_context, ret_action, fail_action, argument_rows}
+use Rattle.brc_model.specs.Dispatch.{dispatch, agenda_action, status_action, exit_of, action_of}
 use Rattle.brc_model.specs.StepMachine.{step_actor, machine_by}
 use Rattle.brc_model.specs.World.{World, world_of, machine_of, step, finds_locked, waits_for_lock, IsReachable}
 use Rattle.brc_model.proofs.Basics.Lists.{either, set_found}
@@ -35,6 +37,7 @@ use Rattle.brc_model.proofs.Basics.Written.{written_load}
 use Rattle.brc_model.proofs.Dispatch.AtOnce.{at_once}
 use Rattle.brc_model.proofs.Promises.StepsMove.{after, reached_code, reached_found}
 use Rattle.brc_model.proofs.Dispatch.Decided.{give_up_decides}
+use Rattle.brc_model.specs.declared.actor.OpenCall.{OpenCall}
 
 -- ---- where a thread waits
 
@@ -52,6 +55,15 @@ row_waits : (place : Place) (o : Option ℕ) (work : ℕ → Action) → ((row :
     → WaitsAt place (with_row o work)
 row_waits place None work each = tt
 row_waits place (Some row) work each = each row
+
+ret_waits : (place : Place) (t left from row : ℕ) (outer : List OpenCall)
+    → WaitsAt place (ret_action t left from row outer)
+ret_waits place t left from row [] = tt
+ret_waits place t left from row (o ∷ outer) = tt
+
+fail_waits : (place : Place) (left : ℕ) (outer : List OpenCall) → WaitsAt place (fail_action left outer)
+fail_waits place left [] = tt
+fail_waits place left (o ∷ outer) = tt
 
 instruction_waits : (layout : Layout) (t used : ℕ) (place : Place) (context : Context) (at : ℕ)
     (variables : List (Option ℕ))
@@ -95,12 +107,14 @@ instruction_waits layout t used place context at variables (Some (Write file num
     row_waits place (row_of variables number) _ (λ row. tt)
 instruction_waits layout t used place context at variables (Some (As from kind otherwise)) =
     row_waits place (row_of variables from) _ (λ row. tt)
-instruction_waits layout t used place context at variables (Some (Call to callee arguments otherwise)) = tt
 instruction_waits layout t used place context at variables (Some (Goto to)) = tt
 instruction_waits layout t used place context at variables (Some (Again to times)) = tt
+instruction_waits layout t used place context at variables (Some (Call to callee arguments otherwise)) =
+    either (WaitsAt place) (list_all is_some (argument_rows variables arguments)) _ _ (λ named. tt) tt
 instruction_waits layout t used place context at variables (Some (Ret from)) =
-    row_waits place (row_of variables from) _ (λ row. tt)
-instruction_waits layout t used place context at variables (Some Fail) = tt
+    row_waits place (row_of variables from) _ (λ row. ret_waits place t context.left from row context.outer)
+instruction_waits layout t used place context at variables (Some Fail) =
+    fail_waits place context.left context.outer
 
 inside_waits : (place : Place) (layout : Layout) (t used : ℕ) (context : Context) (at : ℕ)
     (variables : List (Option ℕ)) (stage : Stage)
@@ -163,7 +177,7 @@ agenda_waits : (functions : List Function) (layout : Layout) (t : ℕ) (a : Step
     → a.actor.agenda ≡ agenda → sum_by at_once agenda ≡ 0 → WaitsIdly a (agenda_action functions layout t a agenda)
 agenda_waits functions layout t a [] is plain =
     with_none a (agenda_action functions layout t a []) is
-    (dispatch_waits layout t a.actor.used (code_of (slice_get functions a.function)) a.place)
+    (dispatch_waits layout t a.actor.used (function_in functions a.function a.place).code a.place)
 agenda_waits functions layout t a (LockGate x ∷ rest) is plain =
     absurd (omega (arith, plain, sum_by-cons at_once (LockGate x) rest))
 agenda_waits functions layout t a (d ∷ rest) is plain = tt

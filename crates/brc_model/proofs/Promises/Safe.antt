@@ -23,6 +23,7 @@ use Rattle.brc_model.proofs.Promises.AtTheEnd.{AreAtEnd, left_in_lists, born_clo
 use Rattle.brc_model.proofs.Promises.Agreeing.{agrees_at, is_free_of}
 use Rattle.brc_model.proofs.Keeping.FirstMachine.{first_accounts, first_kept, first_coded}
 use Rattle.brc_model.proofs.Keeping.KindsHold.{first_holds}
+use Rattle.brc_model.proofs.Keeping.Sound.{module_sound}
 use Rattle.brc_model.proofs.Keeping.ItemsHold.{first_items}
 use Rattle.brc_model.proofs.Keeping.RoomsHold.{first_rooms}
 use Rattle.brc_model.proofs.Keeping.CodeInvariant.{CodeInvariant}
@@ -88,12 +89,13 @@ first_code_invariant m states rows calls fits accepted states_true are_calls som
   kept = first_kept m states rows calls are_calls some few;
   functions = refl;
   states_true = states_true;
+  sound = module_sound m m.version states fits.functions fits.calls accepted states_true;
   mortal = refl;
   wide = omega arith;
   kinds = first_holds m states rows calls;
   items = first_items m states rows calls;
   rooms = first_rooms m states rows calls;
-  coded = λ t a is. first_coded m calls t a fits accepted are_calls is;
+  coded = λ t a is. first_coded m states calls t a are_calls is;
 }
 
 -- Each acceptable module is safe.

@@ -1,7 +1,7 @@
 -- Which steps change the world: every step of a thread that isn't gone, except for a claim that isn't allowed or finds
 -- no mark, and for a lock that another thread holds (`LocksWait`).
 use Rattle.std.proofs.Common.{◌≡◌, ◌≢◌, ℕ, ◌+◌, Bool, true, false, cond, List, [], ◌∷◌, ◌++◌, length, inl, inr, Option, Some, refl, sym, ap, ◌∙◌, subst, ◌⊎◌, suc, None}
-use Rattle.std.specs.Prelude.{◌==◌, slice_get, slice_set, map}
+use Rattle.std.specs.Prelude.{◌==◌, slice_get, slice_set}
 use Rattle.std.proofs.Math.Path.{fun_ext}
 use Rattle.std.proofs.lemmas.Option.{slice_get_within}
 use Rattle.std.proofs.lemmas.Bool.{eqb-true, not-false}
@@ -10,7 +10,7 @@ use Rattle.brc_lang.specs.declared.module.Module.{Module}
 use Rattle.brc_model.specs.declared.thread.Choice.{Choice}
 use Rattle.brc_model.specs.declared.thread.Choice.TheVariants.{Ok, Fault, Claim, Stop}
 use Rattle.brc_word.specs.Words.{free_word, unmarked_word}
-use Rattle.brc_model.specs.Threads.{code_of}
+use Rattle.brc_model.specs.Threads.{function_in, number_under, number_in}
 use Rattle.brc_model.specs.declared.duty.Reason.TheVariants.{Handed}
 use Rattle.brc_model.specs.declared.duty.Duty.{Duty}
 use Rattle.brc_model.specs.declared.duty.Duty.TheVariants.{MergeSwap, Settle, TakeFound, ClaimMark, LockGate}
@@ -23,7 +23,8 @@ use Rattle.brc_model.specs.declared.actor.Place.{Place}
 use Rattle.brc_model.specs.Machine.{Machine, is_running, written, mark_of}
 use Rattle.brc_model.specs.declared.state.Exit.{Exit}
 use Rattle.brc_model.specs.declared.state.Exit.TheVariants.{Success}
-use Rattle.brc_model.specs.Actions.{StepActor, Action, Skip, Stuck, Silent, Calls, Does, always, may_claim, agenda_action, status_action, exit_of, action_of, is_before_instruction, may_stop, stop_action, stop_in_call, row_locked, owned_rows, none_of}
+use Rattle.brc_model.specs.Actions.{StepActor, Action, Skip, Stuck, Silent, Calls, Does, always, stop_action, stop_in_call, row_locked, owned_rows, given_up}
+use Rattle.brc_model.specs.Dispatch.{may_claim, agenda_action, status_action, exit_of, action_of, is_before_instruction, may_stop}
 use Rattle.brc_model.specs.StepMachine.{StepMachine, of_thread, at_place, step_actor, does_by, machine_by, next_machine, first_machine, machine_after}
 use Rattle.brc_model.specs.World.{World, world_of, machine_of, step, finds_locked, waits_for_lock, IsReachable}
 use Rattle.brc_model.proofs.Basics.Lists.{some_is, slice_get-set_same, set_found}
@@ -81,16 +82,16 @@ elsewhere_moves a (Does d rest place) elsewhere = inl elsewhere
 
 agenda_moves_on : (functions : List Function) (layout : Layout) (t : ℕ) (a : StepActor) (agenda : List Duty)
     → a.actor.agenda ≡ agenda
-    → FitsCode (code_of (slice_get functions a.function)) → CountsTurns a.place
+    → FitsCode (function_in functions a.function a.place).code → CountsTurns functions a.function a.place
     → Moves a (agenda_action functions layout t a agenda)
 agenda_moves_on functions layout t a [] is fits all =
     elsewhere_moves a (agenda_action functions layout t a [])
-    (dispatch_elsewhere layout t a.actor.used (code_of (slice_get functions a.function)) a.place fits all)
+    (dispatch_elsewhere functions a.function layout t a.actor.used a.place fits all)
 agenda_moves_on functions layout t a (d ∷ rest) is fits all = inr is
 
 status_moves_on : (functions : List Function) (layout : Layout) (t : ℕ) (a : StepActor) (status : Status)
     → status ≢ Gone
-    → FitsCode (code_of (slice_get functions a.function)) → CountsTurns a.place
+    → FitsCode (function_in functions a.function a.place).code → CountsTurns functions a.function a.place
     → Moves a (status_action functions layout t a status)
 status_moves_on functions layout t a Gone alive fits all = absurd (alive refl)
 status_moves_on functions layout t a Running alive fits all =
@@ -114,20 +115,20 @@ finds_marks {a = a} (TakeFound w marks) rest doing =
     (head_of here, marks_fit marks a.used w (agenda_here here doing.alive).1)
 finds_marks _ rest doing = tt
 
-action_moves : (p : Module) (c : Accounts) (n : ℕ) (m : StepMachine) (t : ℕ) (a : StepActor) (exit : Exit)
+action_moves : (c : Accounts) (n : ℕ) (m : StepMachine) (t : ℕ) (a : StepActor) (exit : Exit)
     (x : Action)
-    → slice_get m.actors t ≡ Some a → finds_locked m.memory x ≡ false → ActionFits p c n m t a x → Moves a x
+    → slice_get m.actors t ≡ Some a → finds_locked m.memory x ≡ false → ActionFits c n m t a x → Moves a x
     → world_of (machine_by m t a exit x) ≢ world_of m
-action_moves p c n m t a exit Skip found free fits moves = absurd moves
-action_moves p c n m t a exit Stuck found free fits moves = absurd fits
-action_moves p c n m t a exit (Silent refs place) found free fits moves =
+action_moves c n m t a exit Skip found free fits moves = absurd moves
+action_moves c n m t a exit Stuck found free fits moves = absurd fits
+action_moves c n m t a exit (Silent refs place) found free fits moves =
     actor_apart (world_of (machine_by m t a exit (Silent refs place))) (world_of m) t a (at_place a place) found refl
     (λ e. moves (ap (λ (c : StepActor). c.place) e))
-action_moves p c n m t a exit (Calls row place) found free fits moves =
+action_moves c n m t a exit (Calls row place) found free fits moves =
     actor_apart (world_of (machine_by m t a exit (Calls row place))) (world_of m) t a (at_place a (place exit)) found
     refl
     (λ e. moves exit (ap (λ (c : StepActor). c.place) e))
-action_moves p c n m t a exit (Does d rest place) found free fits moves =
+action_moves c n m t a exit (Does d rest place) found free fits moves =
     let word = m.memory (address_of m.layout t a.actor.head d) in
     actor_apart (world_of (machine_by m t a exit (Does d rest place))) (world_of m) t a
     (step_actor m.layout t a d rest (place word) word) found refl (λ e. elim moves [
@@ -152,11 +153,11 @@ machine_moves : (p : Module) (n : ℕ) (m : StepMachine) (t : ℕ) (a : StepActo
     → TurnsHold p m → slice_get m.actors t ≡ Some a
     → (a.actor.status ≡ Gone → ⊥) → waits_for_lock (world_of m) t a ≡ false → BothMove (world_of m) t
 machine_moves p n m t a whole is_module turns found alive free =
-    let fits = code_here p m a.function is_module turns in
+    let fits = code_here p m (number_in a.function a.place) is_module turns in
     let all = turns.counts t a found in
     let acting : (exit : Exit)
     → world_of (machine_by m t a exit (action_of m.functions m.states m.layout t a Ok)) ≢ world_of m =
-    λ exit. action_moves p whole.accounts n m t a exit (action_of m.functions m.states m.layout t a Ok) found free
+    λ exit. action_moves whole.accounts n m t a exit (action_of m.functions m.states m.layout t a Ok) found free
     (action_fits p n m t a Ok whole found) (status_moves_on m.functions m.layout t a a.actor.status alive fits all) in
     let by_ok : world_of (next_machine m (t, Ok)) ≢ world_of m =
     subst (λ (o : Option StepActor). world_of (after m t Ok o) ≢ world_of m) (sym found) (acting (exit_of Ok)) in
@@ -261,7 +262,7 @@ claim_stays w t a row found may = claim_is w t a row false found may
 
 -- The action of a stop.
 abbrev stopped : World → StepActor → Bool → Action
-stopped w a may = cond may (stop_action (w.states a.function) a.place) Skip
+stopped w a may = cond may (stop_action w.functions w.states a.function a.place) Skip
 
 stop_is : (w : World) (t : ℕ) (a : StepActor) (may : Bool) → slice_get w.actors t ≡ Some a → may_stop a ≡ may
     → step w t Stop ≡ world_of (machine_by (machine_of w) t a Success (stopped w a may))
@@ -270,26 +271,30 @@ stop_is w t a may found is =
     ∙ ap (λ (b : Bool). world_of (machine_by (machine_of w) t a Success (stopped w a b))) is
 
 -- A stop that acts leads the thread to another place.
-stop_elsewhere : (states : ℕ → Option State) (place : Place) → is_before_instruction place ≡ true
-    → IsElsewhere place (stop_action states place)
-stop_elsewhere states (Idle (suc left)) before = λ e. cc
-stop_elsewhere states (InCall context at variables) before =
-    elim (states at) as (λ o. IsElsewhere (InCall context at variables) (stop_in_call context variables o)) [
+stop_elsewhere : (functions : List Function) (states : ℕ → ℕ → Option State) (first : ℕ) (place : Place)
+    → is_before_instruction place ≡ true → IsElsewhere place (stop_action functions states first place)
+stop_elsewhere functions states first (Idle (suc left)) before = λ e. cc
+stop_elsewhere functions states first (InCall context at variables) before =
+    let outer = given_up functions states first context.outer in
+    elim (states (number_under first context.outer) at) as
+    (λ o. IsElsewhere (InCall context at variables) (stop_in_call outer variables o)) [
       | None ↦ tt
       | Some s ↦
           stopping_decides (λ (next : Place). next ≢ InCall context at variables) (row_locked s.locked variables)
-          (owned_rows s.vars variables ∷ map none_of context.outer) (λ e. cc) (λ e. cc)
+          (owned_rows s.vars variables ∷ outer) (λ e. cc) (λ e. cc)
     ]
-stop_elsewhere states _ before = cc
+stop_elsewhere functions states first _ before = cc
 
 -- A thread that stops takes no lock.
-stop_free : (memory : Address → ℕ) (states : ℕ → Option State) (place : Place)
-    → finds_locked memory (stop_action states place) ≡ false
-stop_free memory states place =
-    stop_decides (λ (x : Action). finds_locked memory x ≡ false) states place refl refl (λ lock calls. refl) refl
+stop_free : (memory : Address → ℕ) (functions : List Function) (states : ℕ → ℕ → Option State) (first : ℕ)
+    (place : Place) → finds_locked memory (stop_action functions states first place) ≡ false
+stop_free memory functions states first place =
+    stop_decides (λ (x : Action). finds_locked memory x ≡ false) functions states first place refl refl
+    (λ lock calls. refl) refl
 
 pub world_stops : (m : StepMachine) (t : ℕ) (a : StepActor) → slice_get m.actors t ≡ Some a → may_stop a ≡ true
-    → step (world_of m) t Stop ≡ world_of (machine_by m t a Success (stop_action (m.states a.function) a.place))
+    → step (world_of m) t Stop ≡ world_of (machine_by m t a Success (stop_action m.functions m.states a.function
+    a.place))
 world_stops m t a found may =
     sym (worlds_follow m (t, Stop)) ∙ ap (λ (o : Option StepActor). world_of (after m t Stop o)) found
     ∙ ap (λ (b : Bool). world_of (machine_by m t a Success (stopped (world_of m) a b))) may
@@ -297,11 +302,12 @@ world_stops m t a found may =
 stop_moves_in : (p : Module) (n : ℕ) (m : StepMachine) (t : ℕ) (a : StepActor) → CodeInvariant p n m
     → slice_get m.actors t ≡ Some a → may_stop a ≡ true → step (world_of m) t Stop ≢ world_of m
 stop_moves_in p n m t a whole found may e =
-    let x = stop_action (m.states a.function) a.place in
-    let fits = subst (λ (b : Bool). ActionFits p whole.accounts n m t a (cond b x Skip)) may
+    let x = stop_action m.functions m.states a.function a.place in
+    let fits = subst (λ (b : Bool). ActionFits whole.accounts n m t a (cond b x Skip)) may
     (action_fits p n m t a Stop whole found) in
-    action_moves p whole.accounts n m t a Success x found (stop_free m.memory (m.states a.function) a.place) fits
-    (elsewhere_moves a x (stop_elsewhere (m.states a.function) a.place (stopper a may).before))
+    action_moves whole.accounts n m t a Success x found (stop_free m.memory m.functions m.states a.function a.place)
+    fits
+    (elsewhere_moves a x (stop_elsewhere m.functions m.states a.function a.place (stopper a may).before))
     (sym (world_stops m t a found may) ∙ e)
 
 pub stop_moves : (p : Module) (w : World) (t : ℕ) (a : StepActor) → IsReachable p w → slice_get w.actors t ≡ Some a

@@ -1,7 +1,7 @@
 -- Where a thread stops in a call, it has to unlock what it has locked, and to give up just what its variables own.
 -- Where it stops between two calls, it has nothing to give up.
-use Rattle.std.proofs.Common.{◌≡◌, ℕ, suc, true, List, ◌∷◌, length, Option, Some, refl, sym, ap, ◌∙◌, subst, ◌+◌}
-use Rattle.std.specs.Prelude.{map, slice_get}
+use Rattle.std.proofs.Common.{◌≡◌, ℕ, suc, true, List, [], ◌∷◌, length, Option, Some, sym, ap, ◌∙◌, subst, ◌+◌}
+use Rattle.std.specs.Prelude.{◌↔◌, slice_get}
 use Rattle.std.proofs.lemmas.Option.{slice_get_within}
 use Rattle.brc_lang.specs.declared.module.Module.{Module}
 use Rattle.brc_model.specs.declared.state.State.{State}
@@ -10,46 +10,74 @@ use Rattle.brc_model.specs.declared.actor.Place.{Place}
 use Rattle.brc_model.specs.declared.actor.Place.TheVariants.{Idle, InCall}
 use Rattle.brc_model.specs.declared.state.Exit.TheVariants.{Success}
 use Rattle.brc_model.specs.declared.thread.Choice.TheVariants.{Stop}
-use Rattle.brc_model.specs.Threads.{code_of}
-use Rattle.brc_model.specs.Actions.{StepActor, may_stop, stop_in_call, stop_action, stopping, owned_rows, none_of, row_locked}
+use Rattle.brc_model.specs.Threads.{number_under, row_of}
+use Rattle.brc_model.specs.Actions.{StepActor, stop_in_call, stop_action, stopping, owned_rows, row_locked, given_up}
+use Rattle.brc_model.specs.Dispatch.{may_stop}
 use Rattle.brc_model.specs.StepMachine.{StepMachine, at_place, machine_by, machine_after, first_machine}
 use Rattle.brc_model.specs.World.{World, world_of, step, IsReachable}
-use Rattle.brc_model.specs.StopLaws.{GivesUpOwned}
+use Rattle.brc_model.specs.StopLaws.{CallGivesUp, EachGivesUp, GivesUpOwned}
 use Rattle.brc_model.proofs.Basics.Lists.{slice_get-set_same}
-use Rattle.brc_model.proofs.Dispatch.Actions.{state_there}
 use Rattle.brc_model.proofs.Dispatch.Coded.{PlaceSays}
-use Rattle.brc_model.proofs.Dispatch.Passing.{passes_on}
 use Rattle.brc_model.proofs.Dispatch.Stopped.{stop_lock, owned_exactly}
 use Rattle.brc_model.proofs.Keeping.CodeInvariant.{CodeInvariant}
 use Rattle.brc_model.proofs.Promises.StepsMove.{world_stops, reached_code, reached_found}
+use Rattle.brc_model.proofs.Dispatch.Programs.{number_of, program_of, Program}
+use Rattle.brc_model.proofs.Dispatch.Grounded.{number_there, IsWaiting, AreOpen, left_by, waiting_is}
+use Rattle.brc_model.proofs.Dispatch.Holds.{activation}
+use Rattle.brc_model.specs.declared.actor.OpenCall.{OpenCall}
+use Rattle.brc_model.specs.VarStates.{is_owned, var_of}
+use Rattle.brc_model.specs.Stops.{owned_by}
 
 stop_leads : (m : StepMachine) (t at : ℕ) (a : StepActor) (context : Context) (variables : List (Option ℕ)) (s : State)
     → slice_get m.actors t ≡ Some a → may_stop a ≡ true → a.place ≡ InCall context at variables
-    → m.states a.function at ≡ Some s → a.actor.locked ≡ row_locked s.locked variables
+    → m.states (number_under a.function context.outer) at ≡ Some s → a.actor.locked ≡ row_locked s.locked variables
     → slice_get (step (world_of m) t Stop).actors t
-    ≡ Some (at_place a (stopping a.actor.locked (owned_rows s.vars variables ∷ map none_of context.outer)))
+    ≡ Some (at_place a (stopping a.actor.locked
+    (owned_rows s.vars variables ∷ given_up m.functions m.states a.function context.outer)))
 stop_leads m t at a context variables s found may is known lock =
-    let calls = owned_rows s.vars variables ∷ map none_of context.outer in
+    let outer = given_up m.functions m.states a.function context.outer in
+    let calls = owned_rows s.vars variables ∷ outer in
     let there : Place → List StepActor = λ place.
-    (machine_by m t a Success (stop_action (m.states a.function) place)).actors in
+    (machine_by m t a Success (stop_action m.functions m.states a.function place)).actors in
     ap (λ (w : World). slice_get w.actors t) (world_stops m t a found may)
     ∙ ap (λ (place : Place). slice_get (there place) t) is
-    ∙ ap (λ (o : Option State). slice_get (machine_by m t a Success (stop_in_call context variables o)).actors t) known
+    ∙ ap (λ (o : Option State). slice_get (machine_by m t a Success (stop_in_call outer variables o)).actors t) known
     ∙ slice_get-set_same m.actors t (at_place a (stopping (row_locked s.locked variables) calls))
     (slice_get_within m.actors t a found)
     ∙ ap (λ (o : Option ℕ). Some (at_place a (stopping o calls))) (sym lock)
+
+-- Each call that is open gives up what it owns.
+call_gives_up : (program : Program) (outer : List OpenCall) (o : OpenCall) → IsWaiting (activation program outer) o
+    → CallGivesUp program.functions program.states (number_of program outer) o
+call_gives_up program outer o waits =
+    let state = left_by o waits.arguments waits.state in
+    let known = waiting_is (activation program outer) o waits in
+    record {
+      state = state;
+      is_state = known;
+      owned = λ v x.
+          subst (λ (w : Option State). (row_of (owned_by w o.variables) v ≡ Some x)
+          ↔ ((is_owned (var_of state v) ≡ true) × (row_of o.variables v ≡ Some x))) (sym known)
+          (owned_exactly state.vars o.variables v x);
+    }
+
+each_gives_up : (program : Program) (outer : List OpenCall) → AreOpen program outer
+    → EachGivesUp program.functions program.states program.first outer
+each_gives_up program [] opened = tt
+each_gives_up program (o ∷ outer) opened =
+    (call_gives_up program outer o opened.0, each_gives_up program outer opened.1)
 
 gives_up : (p : Module) (n : ℕ) (m : StepMachine) (t at : ℕ) (a : StepActor) (context : Context)
     (variables : List (Option ℕ)) → CodeInvariant p n m → slice_get m.actors t ≡ Some a → may_stop a ≡ true
     → a.place ≡ InCall context at variables → GivesUpOwned (world_of m) t at a context variables
 gives_up p n m t at a context variables whole found may is =
-    let code = code_of (slice_get p.functions a.function) in
+    let program = program_of m.functions m.states a in
     let own = whole.coded t a found in
-    let says = subst (λ (place : Place). PlaceSays code place a.actor.locked (whole.accounts t)) is own.says in
+    let says = subst (λ (place : Place). PlaceSays program place a.actor.locked (whole.accounts t)) is own.says in
     let s = says.0 in
-    let on = passes_on code says.1.exits at s own.accepted says.1.arrived in
     let known =
-    state_there p m.states a.function at s on.here (slice_get p.functions a.function) whole.states_true refl on.found
+    whole.sound.states_true (number_of program context.outer) at s
+    (number_there program context.outer says.1.is_call.open_calls)
     (record { exits = says.1.exits; reaches = says.1.arrived }) in
     let lock = stop_lock s variables s.locked a.actor.locked says.2 in
     record {
@@ -57,6 +85,7 @@ gives_up p n m t at a context variables whole found may is =
       is_state = known;
       lock = lock;
       owned = owned_exactly s.vars variables;
+      outer = each_gives_up program context.outer says.1.is_call.open_calls;
       leads = stop_leads m t at a context variables s found may is known lock;
     }
 
@@ -75,7 +104,7 @@ idle_leads : (m : StepMachine) (t left : ℕ) (a : StepActor) → slice_get m.ac
     → a.place ≡ Idle (suc left) → slice_get (step (world_of m) t Stop).actors t ≡ Some (at_place a (Idle 0))
 idle_leads m t left a found may is =
     let there : Place → List StepActor = λ place.
-    (machine_by m t a Success (stop_action (m.states a.function) place)).actors in
+    (machine_by m t a Success (stop_action m.functions m.states a.function place)).actors in
     ap (λ (w : World). slice_get w.actors t) (world_stops m t a found may)
     ∙ ap (λ (place : Place). slice_get (there place) t) is
     ∙ slice_get-set_same m.actors t (at_place a (Idle 0)) (slice_get_within m.actors t a found)

@@ -16,8 +16,10 @@ use Rattle.brc_model.specs.Actions.{StepActor}
 use Rattle.brc_model.specs.StepMachine.{StepMachine, first_machine, machine_after}
 
 smallest : Module
-smallest =
-    record { version = One; functions = record { name = 102 ∷ []; parameters = []; code = Fail ∷ [] } ∷ [] }
+smallest = record {
+  version = One;
+  functions = record { name = 102 ∷ []; parameters = []; code = Fail ∷ [] } ∷ [];
+}
 
 one_call : List Call
 one_call = record { function = 0; times = 1 } ∷ []

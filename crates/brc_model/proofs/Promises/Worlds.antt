@@ -11,7 +11,8 @@ use Rattle.brc_model.specs.Paths.{IsAcceptable}
 use Rattle.brc_model.specs.Tables.{AreTrueWhereReached}
 use Rattle.brc_model.specs.Safety.{AreCalls}
 use Rattle.brc_model.specs.declared.state.Exit.{Exit}
-use Rattle.brc_model.specs.Actions.{StepActor, Action, Skip, exit_of, action_of}
+use Rattle.brc_model.specs.Actions.{StepActor, Action, Skip}
+use Rattle.brc_model.specs.Dispatch.{exit_of, action_of}
 use Rattle.brc_model.specs.StepMachine.{StepMachine, of_thread, machine_by, next_machine, first_machine, machine_after}
 use Rattle.brc_model.specs.World.{World, world_of, machine_of, first_world, step, IsReachable}
 use Rattle.brc_model.specs.Limits.{row_limit}

@@ -1,8 +1,7 @@
 -- One duty of a hand is one of its thread, though the thread holds a reference otherwise.
 use Rattle.std.proofs.Common.{◌≡◌, ℕ, zero, suc, Bool, true, false, List, [], ◌∷◌, ◌++◌, None, refl, sym, ap, subst}
 use Rattle.std.specs.Prelude.{◌&&◌}
-use Rattle.brc_lang.specs.declared.module.Instr.{Instr}
-use Rattle.brc_model.specs.Actions.{Does, dispatch}
+use Rattle.brc_model.specs.Actions.{Does}
 use Rattle.brc_model.specs.Duties.{continuation, new_head, ready}
 use Rattle.brc_model.specs.declared.actor.Actor.{Actor}
 use Rattle.brc_model.specs.Machine.{is_running, status_by, used_by, locked_by, lent_by, actor_by}
@@ -13,7 +12,7 @@ use Rattle.brc_model.specs.declared.event.WordEvent.{WordEvent}
 use Rattle.brc_table.specs.declared.view.View.{View}
 use Rattle.brc_table.specs.Views.{view_by, view_after, event_of}
 use Rattle.brc_model.specs.Trace.{events_of}
-use Rattle.brc_work.specs.Traces.{Makes, Refl, Dispatches, Continues, Traces, thread_with, begun_by, is_birth, is_close, has_read}
+use Rattle.brc_work.specs.Traces.{Program, dispatch_in, Makes, Refl, Dispatches, Continues, Traces, thread_with, begun_by, is_birth, is_close, has_read}
 use Rattle.brc_work.proofs.Traces.Joining.{only_these}
 
 -- ---- agendas
@@ -57,7 +56,7 @@ next_duties u d rest found =
     ready (new_head u.actor.head d found)
     (continuation u.layout u.thread (is_running u.actor.status) u.actor.head d found ++ rest)
 
-module _ (code : List Instr) (q : Place) (u : View) (d e : Duty) (rest behind : List Duty) (found : ℕ)
+module _ (program : Program) (q : Place) (u : View) (d e : Duty) (rest behind : List Duty) (found : ℕ)
     (same : IsSame u d e found) where
   pub same_thread : actor_by u.layout u.thread (thread_with u []) d rest found
       ≡ thread_with (view_by u (e ∷ behind) found) (next_duties u d rest found)
@@ -72,15 +71,15 @@ module _ (code : List Instr) (q : Place) (u : View) (d e : Duty) (rest behind : 
   }
 
   -- The duty is the first one of an instruction,
-  pub starts_with : (next : ℕ → Place) → dispatch u.layout u.thread u.actor.used code q ≡ Does d rest next
-      → (is_birth d && has_read code q) ≡ false
-      → Traces (begun_by q d found) [] code q [] u (next found) (next_duties u d rest found)
+  pub starts_with : (next : ℕ → Place) → dispatch_in u.layout u.thread u.actor.used program q ≡ Does d rest next
+      → (is_birth d && has_read program q) ≡ false
+      → Traces (begun_by q d found) [] program q [] u (next found) (next_duties u d rest found)
       (view_by u (e ∷ behind) found)
   starts_with next is new = record {
     events = events_of u.layout u.thread (thread_with u []) d found;
     trace = ap (λ (es : List WordEvent). u.trace ++ es) (sym same.event);
     makes = subst (λ (a : Actor).
-        Makes u.layout u.thread code q (thread_with u []) (begun_by q d found) []
+        Makes u.layout u.thread program q (thread_with u []) (begun_by q d found) []
         (events_of u.layout u.thread (thread_with u []) d found) (next found) a) same_thread
         (only_these (Dispatches 0 [] [] q (thread_with u []) d rest next found Refl refl is new));
     layout = refl;
@@ -89,12 +88,12 @@ module _ (code : List Instr) (q : Place) (u : View) (d e : Duty) (rest behind : 
 
   -- or the first one of the thread's agenda.
   pub continues_with : is_close d ≡ false
-      → Traces 0 [] code q (d ∷ rest) u q (next_duties u d rest found) (view_by u (e ∷ behind) found)
+      → Traces 0 [] program q (d ∷ rest) u q (next_duties u d rest found) (view_by u (e ∷ behind) found)
   continues_with off = record {
     events = events_of u.layout u.thread (thread_with u []) d found;
     trace = ap (λ (es : List WordEvent). u.trace ++ es) (sym same.event);
     makes = subst (λ (a : Actor).
-        Makes u.layout u.thread code q (thread_with u (d ∷ rest)) 0 []
+        Makes u.layout u.thread program q (thread_with u (d ∷ rest)) 0 []
         (events_of u.layout u.thread (thread_with u []) d found) q a) same_thread
         (Continues 0 [] [] q (thread_with u (d ∷ rest)) d rest found Refl refl off);
     layout = refl;

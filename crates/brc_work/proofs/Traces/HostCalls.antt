@@ -8,7 +8,7 @@ use Rattle.brc_host.specs.HostCalls as asked
 use Rattle.brc_lang.specs.declared.mode.Mode.{Mode}
 use Rattle.brc_lang.specs.declared.module.Instr.{Instr}
 use Rattle.brc_lang.specs.declared.module.Instr.TheVariants as instructions
-use Rattle.brc_model.specs.Actions.{Silent, Calls, Does, always, by_exit, with_row, number_word, file_word, sock_word, grant_action, granted_birth, lend_action, return_action, dispatch, dispatch_instruction, dispatch_inside, by_variable}
+use Rattle.brc_model.specs.Actions.{Silent, Calls, Does, always, by_exit, with_row, number_word, file_word, sock_word, grant_action, granted_birth, lend_action, return_action, dispatch_instruction, dispatch_inside, by_variable}
 use Rattle.brc_model.specs.declared.actor.Actor.{Actor}
 use Rattle.brc_model.specs.Machine.{has_room, actor_by}
 use Rattle.brc_model.specs.VarStates.{target}
@@ -25,7 +25,7 @@ use Rattle.brc_model.specs.declared.state.Exit.TheVariants.{Success, Fault}
 use Rattle.brc_model.specs.declared.event.WordEvent.{WordEvent}
 use Rattle.brc_table.specs.declared.view.View.{View}
 use Rattle.brc_table.specs.Views.{view_after, asking, next_row}
-use Rattle.brc_work.specs.Traces.{Makes, Asks, Dispatches, Requests, ForBytes, ForLine, MakesTrace, thread_with, exit_of, begun_at, is_read}
+use Rattle.brc_work.specs.Traces.{Program, function_under, dispatch_in, Makes, Asks, Dispatches, Requests, ForBytes, ForLine, MakesTrace, thread_with, exit_of, begun_at, is_read}
 use Rattle.brc_work.specs.Performs.{IsBefore, Performs, MakesBirth, place_after}
 use Rattle.brc_work.proofs.Traces.Joining.{no_trace, traces_behind}
 use Rattle.brc_work.proofs.Traces.Duties.{no_duty}
@@ -72,14 +72,14 @@ module _ (i : Instr) (to otherwise word : ℕ) (is : AsksFor i to otherwise word
     (v : View) where
   -- If the hand's block has room for the object, the thread calls the host, and goes on where the answer says.
   asks_host : has_room v.layout v.thread v.actor.used ≡ true → (call : HostCall) → Requests [] i call
-      → (code : List Instr) (place : Place) (context : Context) (at : ℕ) → IsBefore i code place context at rows
-      → MakesTrace 1 (call ∷ []) code place v
+      → (program : Program) (place : Place) (context : Context) (at : ℕ) → IsBefore i program place context at rows
+      → MakesTrace 1 (call ∷ []) program place v
       (by_exit (Inside context at rows Granted) (InCall context otherwise (slice_set rows to None)) (exit_of call)) v
-  asks_host room call asks code place context at before =
+  asks_host room call asks program place context at before =
       let after =
       by_exit (Inside context at rows Granted) (InCall context otherwise (slice_set rows to None)) in
-      begins_one before (calls_host code place v None after i call
-      (begins i code place context at rows before v.layout v.thread v.actor.used
+      begins_one before (calls_host program place v None after i call
+      (begins i program place context at rows before v.layout v.thread v.actor.used
       ∙ (is.asks v.layout v.thread v.actor.used place context at rows
       ∙ ap (λ (b : Bool). cond b (Calls None after) (Silent [] (InCall context otherwise (slice_set rows to None))))
       room))
@@ -89,19 +89,20 @@ module _ (i : Instr) (to otherwise word : ℕ) (is : AsksFor i to otherwise word
   pub grants : (u : View) (call : HostCall) → Requests [] i call → has_failed call ≡ false
       → has_room v.layout v.thread v.actor.used ≡ true → MakesBirth to word rows v after_rows u
       → Performs (call ∷ []) i Success rows v after_rows u
-  grants u call asks succeeds room birth = λ code place context at before.
+  grants u call asks succeeds room birth = λ program place context at before.
       let granted = Inside context at rows Granted in
       let refused = InCall context otherwise (slice_set rows to None) in
       let next = λ (rs : List (Option ℕ)). InCall context (at + 1) rs in
       let calls = call ∷ [] in
-      subst (λ (o : Option ℕ). MakesTrace 1 calls code place v (place_after context o after_rows) u)
+      subst (λ (o : Option ℕ). MakesTrace 1 calls program place v (place_after context o after_rows) u)
       (sym (is.succeeds at))
-      (subst (λ (rs : List (Option ℕ)). MakesTrace 1 calls code place v (next rs) u) (sym birth.named)
-      (traces_behind code place granted (next (slice_set rows to (Some (next_row v)))) [] [] [] v v u
-      (subst (λ (b : Bool). MakesTrace 1 calls code place v (by_exit granted refused (cond b Fault Success)) v) succeeds
-      (asks_host room call asks code place context at before))
-      (birth.first code granted (next (slice_set rows to (Some (next_row v)))) (by_variable context to)
-      (goes_on i code place context at rows before v.layout v.thread v.actor.used Granted
+      (subst (λ (rs : List (Option ℕ)). MakesTrace 1 calls program place v (next rs) u) (sym birth.named)
+      (traces_behind program place granted (next (slice_set rows to (Some (next_row v)))) [] [] [] v v u
+      (subst (λ (b : Bool). MakesTrace 1 calls program place v (by_exit granted refused
+      (cond b Fault Success)) v) succeeds
+      (asks_host room call asks program place context at before))
+      (birth.first program granted (next (slice_set rows to (Some (next_row v)))) (by_variable context to)
+      (goes_on i program place context at rows before v.layout v.thread v.actor.used Granted
       ∙ is.bears v.layout v.thread v.actor.used context at rows)
       (ap is_read before.found ∙ is.reads_nothing))))
 
@@ -109,23 +110,24 @@ module _ (i : Instr) (to otherwise word : ℕ) (is : AsksFor i to otherwise word
   pub refuses : (call : HostCall) → Requests [] i call → has_failed call ≡ true
       → has_room v.layout v.thread v.actor.used ≡ true → after_rows ≡ slice_set rows to None
       → Performs (call ∷ []) i Fault rows v after_rows v
-  refuses call asks fails room named = λ code place context at before.
+  refuses call asks fails room named = λ program place context at before.
       let granted = Inside context at rows Granted in
       let refused = InCall context otherwise (slice_set rows to None) in
       let calls = call ∷ [] in
-      subst (λ (o : Option ℕ). MakesTrace 1 calls code place v (place_after context o after_rows) v)
+      subst (λ (o : Option ℕ). MakesTrace 1 calls program place v (place_after context o after_rows) v)
       (sym (is.faults at))
-      (subst (λ (rs : List (Option ℕ)). MakesTrace 1 calls code place v (InCall context otherwise rs) v) (sym named)
-      (subst (λ (b : Bool). MakesTrace 1 calls code place v (by_exit granted refused (cond b Fault Success)) v) fails
-      (asks_host room call asks code place context at before)))
+      (subst (λ (rs : List (Option ℕ)). MakesTrace 1 calls program place v (InCall context otherwise rs) v) (sym named)
+      (subst (λ (b : Bool). MakesTrace 1 calls program place v (by_exit granted refused (cond b Fault Success)) v) fails
+      (asks_host room call asks program place context at before)))
 
   -- or isn't asked, since there is no room for the object.
   pub asks_nothing : has_room v.layout v.thread v.actor.used ≡ false → after_rows ≡ slice_set rows to None
       → Performs [] i Fault rows v after_rows v
-  asks_nothing room named = λ code place context at before.
-      subst (λ (o : Option ℕ). MakesTrace 1 [] code place v (place_after context o after_rows) v) (sym (is.faults at))
-      (begins_one before (makes_no_object to otherwise rows after_rows v room named _ code place context
-      (begins i code place context at rows before v.layout v.thread v.actor.used
+  asks_nothing room named = λ program place context at before.
+      subst (λ (o : Option ℕ). MakesTrace 1 [] program place v (place_after context o after_rows) v) (sym
+      (is.faults at))
+      (begins_one before (makes_no_object to otherwise rows after_rows v room named _ program place context
+      (begins i program place context at rows before v.layout v.thread v.actor.used
       ∙ is.asks v.layout v.thread v.actor.used place context at rows)))
 
 -- ---- a resource that is lent
@@ -133,19 +135,19 @@ module _ (i : Instr) (to otherwise word : ℕ) (is : AsksFor i to otherwise word
 no_more_begins : (n : ℕ) → (n + 0) + 0 ≡ n
 no_more_begins n = omega arith
 
-module _ (code : List Instr) (context : Context) (at : ℕ) (rows : List (Option ℕ)) (file row : ℕ)
+module _ (program : Program) (context : Context) (at : ℕ) (rows : List (Option ℕ)) (file row : ℕ)
     (names : row_of rows file ≡ Some row) (v u : View) where
   -- A thread takes the resource out of its slot for a call of the host, and puts it back however the call ends. Its
   -- hand makes no step on a word meanwhile. If the thread is before an instruction, that has begun with it.
-  lends : {n : ℕ} (start p q : Place) (i : Instr) (call : HostCall) (one : MakesTrace n [] code start v p u)
-      → slice_get code at ≡ Some i → Requests one.events i call
-      → dispatch v.layout v.thread u.actor.used code p ≡ lend_action context at rows file
-      → dispatch v.layout v.thread u.actor.used code (Inside context at rows Lent)
+  lends : {n : ℕ} (start p q : Place) (i : Instr) (call : HostCall) (one : MakesTrace n [] program start v p u)
+      → slice_get (function_under program context.outer).code at ≡ Some i → Requests one.events i call
+      → dispatch_in v.layout v.thread u.actor.used program p ≡ lend_action context at rows file
+      → dispatch_in v.layout v.thread u.actor.used program (Inside context at rows Lent)
       ≡ Calls (row_of rows file) (λ e. Inside context at rows (Called e))
-      → dispatch v.layout v.thread u.actor.used code (Inside context at rows (Called (exit_of call)))
+      → dispatch_in v.layout v.thread u.actor.used program (Inside context at rows (Called (exit_of call)))
       ≡ return_action rows
       file q
-      → MakesTrace (n + begun_at p) (call ∷ []) code start v q u
+      → MakesTrace (n + begun_at p) (call ∷ []) program start v q u
   lends {n} start p q i call one found asks takes calls puts =
       let lent = Inside context at rows Lent in
       let called = λ (e : Exit). Inside context at rows (Called e) in
@@ -156,27 +158,28 @@ module _ (code : List Instr) (context : Context) (at : ℕ) (rows : List (Option
       let same : actor_by v.layout v.thread b (ReturnSlot row) [] 0 ≡ a =
       λ i. record (thread_with u []) { agenda = no_duty u.actor.head i } in
       let no_more : one.events ++ [] ≡ one.events = append-nil one.events in
-      let takes_it : Makes v.layout v.thread code start (thread_with v []) begun [] (one.events ++ []) lent b =
+      let takes_it : Makes v.layout v.thread program start (thread_with v []) begun [] (one.events ++ []) lent b =
       Dispatches n [] one.events p a (LendSlot row) [] (always lent) 1 one.makes refl
       (takes ∙ ap (works LendSlot lent) names) refl in
-      let asks_it : Makes v.layout v.thread code start (thread_with v []) (begun + 0) (call ∷ []) one.events
+      let asks_it : Makes v.layout v.thread program start (thread_with v []) (begun + 0) (call ∷ []) one.events
       (called (exit_of call)) b =
       Asks begun [] one.events lent b (row_of rows file) called i call
-      (subst (λ (es : List WordEvent). Makes v.layout v.thread code start (thread_with v []) begun [] es lent b) no_more
+      (subst (λ (es : List WordEvent). Makes v.layout v.thread program start
+      (thread_with v []) begun [] es lent b) no_more
       takes_it)
       (no_duty u.actor.head) calls found asks in
-      let puts_it : Makes v.layout v.thread code start (thread_with v []) ((begun + 0) + 0) (call ∷ [])
+      let puts_it : Makes v.layout v.thread program start (thread_with v []) ((begun + 0) + 0) (call ∷ [])
       (one.events ++ []) q (actor_by v.layout v.thread b (ReturnSlot row) [] 0) =
       Dispatches (begun + 0) (call ∷ []) one.events (called (exit_of call)) b (ReturnSlot row) [] (always q) 0 asks_it
       (no_duty u.actor.head) (puts ∙ ap (works ReturnSlot q) names) refl in
       record {
         events = one.events;
         trace = one.trace;
-        makes = subst (λ (m : ℕ). Makes v.layout v.thread code start (thread_with v []) m (call ∷ []) one.events q a)
+        makes = subst (λ (m : ℕ). Makes v.layout v.thread program start (thread_with v []) m (call ∷ []) one.events q a)
             (no_more_begins begun)
             (subst (λ (c : Actor).
-            Makes v.layout v.thread code start (thread_with v []) ((begun + 0) + 0) (call ∷ []) one.events q c) same
-            (subst (λ (es : List WordEvent). Makes v.layout v.thread code start (thread_with v []) ((begun + 0) + 0)
+            Makes v.layout v.thread program start (thread_with v []) ((begun + 0) + 0) (call ∷ []) one.events q c) same
+            (subst (λ (es : List WordEvent). Makes v.layout v.thread program start (thread_with v []) ((begun + 0) + 0)
             (call ∷ []) es q (actor_by v.layout v.thread b (ReturnSlot row) [] 0)) no_more puts_it));
         layout = one.layout;
         thread = one.thread;
@@ -188,30 +191,30 @@ module _ (code : List Instr) (context : Context) (at : ℕ) (rows : List (Option
 pub reads_nothing : (to file most otherwise : ℕ) (rows after_rows : List (Option ℕ)) (v : View)
     → has_room v.layout v.thread v.actor.used ≡ false → after_rows ≡ slice_set rows to None
     → Performs [] (instructions.Read to file most otherwise) Fault rows v after_rows v
-reads_nothing to file most otherwise rows after_rows v room named = λ code place context at before.
-    begins_one before (makes_no_object to otherwise rows after_rows v room named _ code place context
-    (begins (instructions.Read to file most otherwise) code place context at rows before v.layout v.thread
+reads_nothing to file most otherwise rows after_rows v room named = λ program place context at before.
+    begins_one before (makes_no_object to otherwise rows after_rows v room named _ program place context
+    (begins (instructions.Read to file most otherwise) program place context at rows before v.layout v.thread
     v.actor.used))
 
 module _ (to file most otherwise row : ℕ) (rows after_rows : List (Option ℕ)) (v : View)
     (names : row_of rows file ≡ Some row) (room : has_room v.layout v.thread v.actor.used ≡ true) where
   -- The thread goes on where the host's answer says.
-  asks_read : (got : Option ℕ) (q : Place) (code : List Instr) (place : Place) (context : Context) (at : ℕ)
-      → IsBefore (instructions.Read to file most otherwise) code place context at rows
+  asks_read : (got : Option ℕ) (q : Place) (program : Program) (place : Place) (context : Context) (at : ℕ)
+      → IsBefore (instructions.Read to file most otherwise) program place context at rows
       → dispatch_inside v.layout v.thread v.actor.used context at rows (Called (exit_of (asked.Read most got)))
       (Some (instructions.Read to file most otherwise))
       ≡ return_action rows file q
-      → MakesTrace 1 (asked.Read most got ∷ []) code place v q v
-  asks_read got q code place context at before puts =
+      → MakesTrace 1 (asked.Read most got ∷ []) program place v q v
+  asks_read got q program place context at before puts =
       let i = instructions.Read to file most otherwise in
       let goes = λ (b : Bool).
       cond b (lend_action context at rows file) (Silent [] (InCall context otherwise (slice_set rows to None))) in
-      subst (λ (n : ℕ). MakesTrace (0 + n) (asked.Read most got ∷ []) code place v q v) before.comes.begun
-      (lends code context at rows file row names v v place place q i (asked.Read most got)
-      (no_trace code place [] v) before.found (ForBytes to file most otherwise got)
-      (begins i code place context at rows before v.layout v.thread v.actor.used ∙ ap goes room)
-      (goes_on i code place context at rows before v.layout v.thread v.actor.used Lent)
-      (goes_on i code place context at rows before v.layout v.thread v.actor.used
+      subst (λ (n : ℕ). MakesTrace (0 + n) (asked.Read most got ∷ []) program place v q v) before.comes.begun
+      (lends program context at rows file row names v v place place q i (asked.Read most got)
+      (no_trace program place [] v) before.found (ForBytes to file most otherwise got)
+      (begins i program place context at rows before v.layout v.thread v.actor.used ∙ ap goes room)
+      (goes_on i program place context at rows before v.layout v.thread v.actor.used Lent)
+      (goes_on i program place context at rows before v.layout v.thread v.actor.used
       (Called (exit_of (asked.Read most got)))
       ∙ puts))
 
@@ -220,17 +223,17 @@ module _ (to file most otherwise row : ℕ) (rows after_rows : List (Option ℕ)
       → MakesBirth to word rows v after_rows u
       → Performs (asked.Read most (Some count) ∷ []) (instructions.Read to file most otherwise) Success rows v
       after_rows u
-  makes_read word count u few counts birth = λ code place context at before.
-      birth.read code place context at file most otherwise count before.found few counts
-      (asks_read (Some count) (Inside context at rows Granted) code place context at before refl)
+  makes_read word count u few counts birth = λ program place context at before.
+      birth.read program place context at file most otherwise count before.found few counts
+      (asks_read (Some count) (Inside context at rows Granted) program place context at before refl)
 
   -- or the host has failed.
   pub fails_to_read : after_rows ≡ slice_set rows to None
       → Performs (asked.Read most None ∷ []) (instructions.Read to file most otherwise) Fault rows v after_rows v
-  fails_to_read named = λ code place context at before.
+  fails_to_read named = λ program place context at before.
       subst (λ (rs : List (Option ℕ)).
-      MakesTrace 1 (asked.Read most None ∷ []) code place v (InCall context otherwise rs) v) (sym named)
-      (asks_read None (InCall context otherwise (slice_set rows to None)) code place context at before refl)
+      MakesTrace 1 (asked.Read most None ∷ []) program place v (InCall context otherwise rs) v) (sym named)
+      (asks_read None (InCall context otherwise (slice_set rows to None)) program place context at before refl)
 
 -- ---- write
 
@@ -242,33 +245,34 @@ module _ (file number otherwise object row word : ℕ) (rows : List (Option ℕ)
     (names_number : row_of rows number ≡ Some object) (names_file : row_of rows file ≡ Some row)
     (is : u ≡ view_after (asking v object) word) where
   -- The thread loads the number's kind word, and goes on where the host's answer says.
-  asks_write : (failed : Bool) (q : Place) (code : List Instr) (place : Place) (context : Context) (at : ℕ)
-      → IsBefore (instructions.Write file number otherwise) code place context at rows
+  asks_write : (failed : Bool) (q : Place) (program : Program) (place : Place) (context : Context) (at : ℕ)
+      → IsBefore (instructions.Write file number otherwise) program place context at rows
       → dispatch_inside v.layout v.thread v.actor.used context at rows (Called (exit_of (sends word failed)))
       (Some (instructions.Write file number otherwise))
       ≡ return_action rows file q
-      → MakesTrace 1 (sends word failed ∷ []) code place v q u
-  asks_write failed q code place context at before puts =
+      → MakesTrace 1 (sends word failed ∷ []) program place v q u
+  asks_write failed q program place context at before puts =
       let i = instructions.Write file number otherwise in
       let loaded = Inside context at rows Loaded in
-      let one = asks_kind_once code place (always loaded) v idle object word
-      (begins_with i code place context at rows before v.layout v.thread v.actor.used number object
+      let one = asks_kind_once program place (always loaded) v idle object word
+      (begins_with i program place context at rows before v.layout v.thread v.actor.used number object
       (λ x. Does (KindLoad x) [] (always loaded)) refl names_number) in
-      subst (λ (n : ℕ). MakesTrace (n + 0) (sends word failed ∷ []) code place v q u) before.comes.begun
-      (subst (MakesTrace (begun_at place + 0) (sends word failed ∷ []) code place v q) (sym is)
-      (lends code context at rows file row names_file v (view_after (asking v object) word) place loaded q i
+      subst (λ (n : ℕ). MakesTrace (n + 0) (sends word failed ∷ []) program place v q u) before.comes.begun
+      (subst (MakesTrace (begun_at place + 0) (sends word failed ∷ []) program place v q) (sym is)
+      (lends program context at rows file row names_file v (view_after (asking v object) word) place loaded q i
       (sends word failed) one.0 before.found (ForLine file number otherwise [] (kind_event object word) failed one.1)
-      (goes_on i code place context at rows before v.layout v.thread v.actor.used Loaded)
-      (goes_on i code place context at rows before v.layout v.thread v.actor.used Lent)
-      (goes_on i code place context at rows before v.layout v.thread v.actor.used (Called (exit_of (sends word failed)))
+      (goes_on i program place context at rows before v.layout v.thread v.actor.used Loaded)
+      (goes_on i program place context at rows before v.layout v.thread v.actor.used Lent)
+      (goes_on i program place context at rows before v.layout v.thread v.actor.used (Called (exit_of
+      (sends word failed)))
       ∙ puts)))
 
   -- The host has written the number,
   pub makes_write : Performs (sends word false ∷ []) (instructions.Write file number otherwise) Success rows v rows u
-  makes_write = λ code place context at before.
-      asks_write false (InCall context (at + 1) rows) code place context at before refl
+  makes_write = λ program place context at before.
+      asks_write false (InCall context (at + 1) rows) program place context at before refl
 
   -- or has failed.
   pub fails_to_write : Performs (sends word true ∷ []) (instructions.Write file number otherwise) Fault rows v rows u
-  fails_to_write = λ code place context at before.
-      asks_write true (InCall context otherwise rows) code place context at before refl
+  fails_to_write = λ program place context at before.
+      asks_write true (InCall context otherwise rows) program place context at before refl

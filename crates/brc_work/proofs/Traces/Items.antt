@@ -23,7 +23,7 @@ use Rattle.brc_table.specs.declared.view.View.{View}
 use Rattle.brc_table.specs.Views.{view_after, asking, loading_cell}
 use Rattle.brc_heap.specs.Calls.{retained}
 use Rattle.brc_list.specs.Calls.{row_in}
-use Rattle.brc_work.specs.Traces.{MakesTrace}
+use Rattle.brc_work.specs.Traces.{Program, MakesTrace}
 use Rattle.brc_work.specs.Performs.{IsBefore, Performs, GivesUp, MakesSwap}
 use Rattle.brc_work.proofs.Traces.Joining.{traces_then}
 use Rattle.brc_work.proofs.Traces.Duties.{no_duty}
@@ -63,8 +63,8 @@ module _ (list row index cell size word : ℕ) (rows : List (Option ℕ)) (v mid
   idle : mid.actor.agenda ≡ []
   idle = ap (λ (u : View). u.actor.agenda) sized.view_is ∙ no_duty v.actor.head
 
-  module _ (i : Instr) (code : List Instr) (place : Place) (context : Context) (at : ℕ)
-      (before : IsBefore i code place context at rows) (outside : Place) where
+  module _ (i : Instr) (program : Program) (place : Place) (context : Context) (at : ℕ)
+      (before : IsBefore i program place context at rows) (outside : Place) where
     -- where the thread is if the list has the cell
     abbrev inside : Place
     inside = Inside context at rows InRange
@@ -81,48 +81,48 @@ module _ (list row index cell size word : ℕ) (rows : List (Option ℕ)) (v mid
 
     -- The word found decides where the thread is.
     asks : (b : Bool) → nat_lt index (cells_of word) ≡ b → LooksFirst
-        → MakesTrace 1 [] code place v (cond b inside outside) mid
+        → MakesTrace 1 [] program place v (cond b inside outside) mid
     asks b answer is =
         let next = by_range index inside outside in
-        subst (λ (q : Place). MakesTrace 1 [] code place v q mid) (ap (λ (c : Bool). cond c inside outside) answer)
-        (subst (MakesTrace 1 [] code place v (next word)) (sym sized.view_is)
-        (begins_one before (asks_kind code place next v sized.none row word
-        (begins_with i code place context at rows before v.layout v.thread v.actor.used list row
+        subst (λ (q : Place). MakesTrace 1 [] program place v q mid) (ap (λ (c : Bool). cond c inside outside) answer)
+        (subst (MakesTrace 1 [] program place v (next word)) (sym sized.view_is)
+        (begins_one before (asks_kind program place next v sized.none row word
+        (begins_with i program place context at rows before v.layout v.thread v.actor.used list row
         (λ x. Does (KindLoad x) [] next) is sized.names))))
 
     -- The list has no such cell,
-    no_cell : size ≤ cell → LooksFirst → MakesTrace 1 [] code place v outside mid
+    no_cell : size ≤ cell → LooksFirst → MakesTrace 1 [] program place v outside mid
     no_cell high is = asks false (le-ltb index (cells_of word) (omega (arith, sized.same, sized.size_is, high))) is
 
     -- or it has the cell.
-    has_cell : cell < size → LooksFirst → MakesTrace 1 [] code place v inside mid
+    has_cell : cell < size → LooksFirst → MakesTrace 1 [] program place v inside mid
     has_cell low is = asks true (lt-ltb index (cells_of word) (omega (arith, sized.same, sized.size_is, low))) is
 
     -- With the cell the thread goes on, and the cell's word decides where it is then.
     looks : (w : ℕ) (u : View) (holds : ℕ → Place) → u ≡ view_after (loading_cell mid row cell) w → LooksInto holds
-        → MakesTrace 0 [] code inside mid (by_item outside holds w) u
+        → MakesTrace 0 [] program inside mid (by_item outside holds w) u
     looks w u holds view_is is =
         let next = by_item outside holds in
-        subst (MakesTrace 0 [] code inside mid (next w))
+        subst (MakesTrace 0 [] program inside mid (next w))
         (sym (view_is ∙ ap (λ (n : ℕ). view_after (loading_cell mid row n) w) sized.same))
-        (looks_in code inside next mid idle row index w
-        (goes_on_with i code place context at rows before mid.layout mid.thread mid.actor.used InRange list row
+        (looks_in program inside next mid idle row index w
+        (goes_on_with i program place context at rows before mid.layout mid.thread mid.actor.used InRange list row
         (λ x. Does (CellLoad x index) [] next) is sized.names))
 
     -- The cell is empty,
     finds_none : (w : ℕ) (u : View) (holds : ℕ → Place) → cell < size → HasFound row cell w None mid u → LooksFirst
-        → LooksInto holds → MakesTrace 1 [] code place v outside u
+        → LooksInto holds → MakesTrace 1 [] program place v outside u
     finds_none w u holds low found first then_into =
-        traces_then code place inside outside [] [] [] v mid u (has_cell low first)
-        (subst (λ (q : Place). MakesTrace 0 [] code inside mid q u) (at_none outside holds w found.item_is)
+        traces_then program place inside outside [] [] [] v mid u (has_cell low first)
+        (subst (λ (q : Place). MakesTrace 0 [] program inside mid q u) (at_none outside holds w found.item_is)
         (looks w u holds found.view_is then_into))
 
     -- or there is an item in it.
     finds_item : (w item : ℕ) (u : View) (holds : ℕ → Place) → cell < size → HasFound row cell w (Some item) mid u
-        → LooksFirst → LooksInto holds → MakesTrace 1 [] code place v (holds item) u
+        → LooksFirst → LooksInto holds → MakesTrace 1 [] program place v (holds item) u
     finds_item w item u holds low found first then_into =
-        traces_then code place inside (holds item) [] [] [] v mid u (has_cell low first)
-        (subst (λ (q : Place). MakesTrace 0 [] code inside mid q u) (at_item outside holds w item found.item_is)
+        traces_then program place inside (holds item) [] [] [] v mid u (has_cell low first)
+        (subst (λ (q : Place). MakesTrace 0 [] program inside mid q u) (at_item outside holds w item found.item_is)
         (looks w u holds found.view_is then_into))
 
   -- ---- items that are borrowed or fetched
@@ -138,44 +138,46 @@ module _ (list row index cell size word : ℕ) (rows : List (Option ℕ)) (v mid
     -- `borrow`, of a cell that the list doesn't have,
     pub borrows_outside : size ≤ cell → after_rows ≡ slice_set rows to None
         → Performs [] (instructions.Borrow to list index otherwise) Fault rows v after_rows mid
-    borrows_outside high named = λ code place context at before.
-        subst (λ (rs : List (Option ℕ)). MakesTrace 1 [] code place v (InCall context otherwise rs) mid) (sym named)
-        (no_cell (instructions.Borrow to list index otherwise) code place context at before (place_without context)
+    borrows_outside high named = λ program place context at before.
+        subst (λ (rs : List (Option ℕ)). MakesTrace 1 [] program place v (InCall context otherwise rs) mid) (sym named)
+        (no_cell (instructions.Borrow to list index otherwise) program place context at before (place_without context)
         high refl)
 
     -- of an empty cell,
     pub borrows_none : (w : ℕ) (u : View) → cell < size → HasFound row cell w None mid u
         → after_rows ≡ slice_set rows to None
         → Performs [] (instructions.Borrow to list index otherwise) Fault rows v after_rows u
-    borrows_none w u low found named = λ code place context at before.
-        subst (λ (rs : List (Option ℕ)). MakesTrace 1 [] code place v (InCall context otherwise rs) u) (sym named)
-        (finds_none (instructions.Borrow to list index otherwise) code place context at before (place_without context)
+    borrows_none w u low found named = λ program place context at before.
+        subst (λ (rs : List (Option ℕ)). MakesTrace 1 [] program place v (InCall context otherwise rs) u) (sym named)
+        (finds_none (instructions.Borrow to list index otherwise) program place context at before
+        (place_without context)
         w u (place_with context at) low found refl refl)
 
     -- and of one with an item.
     pub borrows_item : (w item : ℕ) (u : View) → cell < size → HasFound row cell w (Some item) mid u
         → after_rows ≡ slice_set rows to (Some item)
         → Performs [] (instructions.Borrow to list index otherwise) Success rows v after_rows u
-    borrows_item w item u low found named = λ code place context at before.
-        subst (λ (rs : List (Option ℕ)). MakesTrace 1 [] code place v (InCall context (at + 1) rs) u) (sym named)
-        (finds_item (instructions.Borrow to list index otherwise) code place context at before (place_without context)
+    borrows_item w item u low found named = λ program place context at before.
+        subst (λ (rs : List (Option ℕ)). MakesTrace 1 [] program place v (InCall context (at + 1) rs) u) (sym named)
+        (finds_item (instructions.Borrow to list index otherwise) program place context at before
+        (place_without context)
         w item u (place_with context at) low found refl refl)
 
     -- `fetch`, of a cell that the list doesn't have,
     pub fetches_outside : size ≤ cell → after_rows ≡ slice_set rows to None
         → Performs [] (instructions.Fetch to list index otherwise) Fault rows v after_rows mid
-    fetches_outside high named = λ code place context at before.
-        subst (λ (rs : List (Option ℕ)). MakesTrace 1 [] code place v (InCall context otherwise rs) mid) (sym named)
-        (no_cell (instructions.Fetch to list index otherwise) code place context at before (place_without context)
+    fetches_outside high named = λ program place context at before.
+        subst (λ (rs : List (Option ℕ)). MakesTrace 1 [] program place v (InCall context otherwise rs) mid) (sym named)
+        (no_cell (instructions.Fetch to list index otherwise) program place context at before (place_without context)
         high refl)
 
     -- of an empty cell,
     pub fetches_none : (w : ℕ) (u : View) → cell < size → HasFound row cell w None mid u
         → after_rows ≡ slice_set rows to None
         → Performs [] (instructions.Fetch to list index otherwise) Fault rows v after_rows u
-    fetches_none w u low found named = λ code place context at before.
-        subst (λ (rs : List (Option ℕ)). MakesTrace 1 [] code place v (InCall context otherwise rs) u) (sym named)
-        (finds_none (instructions.Fetch to list index otherwise) code place context at before (place_without context)
+    fetches_none w u low found named = λ program place context at before.
+        subst (λ (rs : List (Option ℕ)). MakesTrace 1 [] program place v (InCall context otherwise rs) u) (sym named)
+        (finds_none (instructions.Fetch to list index otherwise) program place context at before (place_without context)
         w u (λ item. Inside context at rows (Found item)) low found refl refl)
 
     -- and of one with an item, which is retained.
@@ -183,18 +185,18 @@ module _ (list row index cell size word : ℕ) (rows : List (Option ℕ)) (v mid
         → HasFound row cell w (Some item) mid seen → u ≡ retained seen item local shared
         → after_rows ≡ slice_set rows to (Some item)
         → Performs [] (instructions.Fetch to list index otherwise) Success rows v after_rows u
-    fetches_item w item local shared seen u low found is named = λ code place context at before.
+    fetches_item w item local shared seen u low found is named = λ program place context at before.
         let i = instructions.Fetch to list index otherwise in
         let holds = λ (x : ℕ). Inside context at rows (Found x) in
         let last = place_with context at item in
-        subst (λ (rs : List (Option ℕ)). MakesTrace 1 [] code place v (InCall context (at + 1) rs) u) (sym named)
-        (traces_then code place (holds item) last [] [] [] v seen u
-        (finds_item i code place context at before (place_without context) w item seen holds low found refl refl)
-        (subst (MakesTrace 0 [] code (holds item) seen last) (sym is)
-        (retains code (holds item) (always last) seen (ap (λ (x : View). x.actor.agenda) found.view_is
+        subst (λ (rs : List (Option ℕ)). MakesTrace 1 [] program place v (InCall context (at + 1) rs) u) (sym named)
+        (traces_then program place (holds item) last [] [] [] v seen u
+        (finds_item i program place context at before (place_without context) w item seen holds low found refl refl)
+        (subst (MakesTrace 0 [] program (holds item) seen last) (sym is)
+        (retains program (holds item) (always last) seen (ap (λ (x : View). x.actor.agenda) found.view_is
         ∙ no_duty mid.actor.head)
         item local shared (by_variable context to)
-        (goes_on i code place context at rows before seen.layout seen.thread seen.actor.used (Found item)))))
+        (goes_on i program place context at rows before seen.layout seen.thread seen.actor.used (Found item)))))
 
   -- ---- items that are stored
 
@@ -203,32 +205,32 @@ module _ (list row index cell size word : ℕ) (rows : List (Option ℕ)) (v mid
     pub sets_outside : {cs : List HostCall} (after_rows : List (Option ℕ)) (u : View) → size ≤ cell
         → GivesUp cs from rows mid after_rows u → Performs cs (instructions.Set list index from otherwise) Fault rows v
         after_rows u
-    sets_outside {cs} after_rows u high gives = λ code place context at before.
+    sets_outside {cs} after_rows u high gives = λ program place context at before.
         let i = instructions.Set list index from otherwise in
         let outside = Inside context at rows OutOfRange in
         let last = InCall context otherwise (slice_set rows from None) in
-        subst (λ (rs : List (Option ℕ)). MakesTrace 1 cs code place v (InCall context otherwise rs) u) (sym
+        subst (λ (rs : List (Option ℕ)). MakesTrace 1 cs program place v (InCall context otherwise rs) u) (sym
         gives.emptied)
-        (traces_then code place outside last [] [] [] v mid u
-        (no_cell i code place context at before outside high refl)
-        (gives.makes code outside last (by_variable context from)
-        (λ layout t used. goes_on i code place context at rows before layout t used OutOfRange)))
+        (traces_then program place outside last [] [] [] v mid u
+        (no_cell i program place context at before outside high refl)
+        (gives.makes program outside last (by_variable context from)
+        (λ layout t used. goes_on i program place context at rows before layout t used OutOfRange)))
 
     -- At the stage the thread puts the variable's item into the cell.
-    puts_in : {cs : List HostCall} (i : Instr) (stage : Stage) (holding : Holding) (item : ℕ) (code : List Instr)
+    puts_in : {cs : List HostCall} (i : Instr) (stage : Stage) (holding : Holding) (item : ℕ) (program : Program)
         (place last : Place)
-        (context : Context) (at : ℕ) → IsBefore i code place context at rows → row_of rows from ≡ Some item
+        (context : Context) (at : ℕ) → IsBefore i program place context at rows → row_of rows from ≡ Some item
         → ((layout : Layout) (t used : ℕ) → dispatch_inside layout t used context at rows stage (Some i)
         ≡ with_row (row_of rows list)
         (λ x. with_row (row_of rows from) (λ y. Does (CellSwap x index y holding) (Settle ∷ []) (always last))))
         → (held u : View) → MakesSwap cs row cell item held u
-        → MakesTrace 0 cs code (Inside context at rows stage) held last u
-    puts_in {cs} i stage holding item code place last context at before is does held u swap =
+        → MakesTrace 0 cs program (Inside context at rows stage) held last u
+    puts_in {cs} i stage holding item program place last context at before is does held u swap =
         let puts = λ (x y : ℕ). Does (CellSwap x index y holding) (Settle ∷ []) (always last) in
-        subst (λ (n : ℕ). MakesSwap cs row n item held u) sized.same swap code (Inside context at rows stage) last
+        subst (λ (n : ℕ). MakesSwap cs row n item held u) sized.same swap program (Inside context at rows stage) last
         holding
         (λ layout t used.
-        goes_on_with i code place context at rows before layout t used stage list row
+        goes_on_with i program place context at rows before layout t used stage list row
         (λ x. with_row (row_of rows from) (puts x)) (does layout t used) sized.names
         ∙ ap (λ (o : Option ℕ). with_row o (puts row)) is)
 
@@ -236,20 +238,21 @@ module _ (list row index cell size word : ℕ) (rows : List (Option ℕ)) (v mid
     pub sets_item : {cs : List HostCall} (after_rows : List (Option ℕ)) (item : ℕ) (u : View) → cell < size
         → row_of rows from ≡ Some item → MakesSwap cs row cell item mid u → after_rows ≡ slice_set rows from None
         → Performs cs (instructions.Set list index from otherwise) Success rows v after_rows u
-    sets_item {cs} after_rows item u low is swap emptied = λ code place context at before.
+    sets_item {cs} after_rows item u low is swap emptied = λ program place context at before.
         let i = instructions.Set list index from otherwise in
         let last = InCall context (at + 1) (slice_set rows from None) in
-        subst (λ (rs : List (Option ℕ)). MakesTrace 1 cs code place v (InCall context (at + 1) rs) u) (sym emptied)
-        (traces_then code place (Inside context at rows InRange) last [] [] [] v mid u
-        (has_cell i code place context at before (Inside context at rows OutOfRange) low refl)
-        (puts_in i InRange (by_variable context from) item code place last context at before is (λ layout t used. refl)
+        subst (λ (rs : List (Option ℕ)). MakesTrace 1 cs program place v (InCall context (at + 1) rs) u) (sym emptied)
+        (traces_then program place (Inside context at rows InRange) last [] [] [] v mid u
+        (has_cell i program place context at before (Inside context at rows OutOfRange) low refl)
+        (puts_in i InRange (by_variable context from) item program place last context at before is
+        (λ layout t used. refl)
         mid u
         swap))
 
     -- `put`, of a cell that the list doesn't have,
     pub puts_outside : size ≤ cell → Performs [] (instructions.Put list index from otherwise) Fault rows v rows mid
-    puts_outside high = λ code place context at before.
-        no_cell (instructions.Put list index from otherwise) code place context at before
+    puts_outside high = λ program place context at before.
+        no_cell (instructions.Put list index from otherwise) program place context at before
         (InCall context otherwise rows) high refl
 
     -- and of one that it has. The new reference is in flight until it is in the cell.
@@ -257,16 +260,16 @@ module _ (list row index cell size word : ℕ) (rows : List (Option ℕ)) (v mid
         → row_of rows from ≡ Some item
         → held ≡ retained mid item local shared → MakesSwap cs row cell item held u
         → Performs cs (instructions.Put list index from otherwise) Success rows v rows u
-    puts_item item local shared held u low is holds swap = λ code place context at before.
+    puts_item item local shared held u low is holds swap = λ program place context at before.
         let i = instructions.Put list index from otherwise in
         let in_range = Inside context at rows InRange in
         let holding = Inside context at rows Retained in
         let last = InCall context (at + 1) rows in
-        traces_then code place in_range last [] [] [] v mid u
-        (has_cell i code place context at before (InCall context otherwise rows) low refl)
-        (traces_then code in_range holding last [] [] [] mid held u
-        (subst (MakesTrace 0 [] code in_range mid holding) (sym holds)
-        (retains code in_range (always holding) mid idle item local shared InFlight
-        (goes_on_with i code place context at rows before mid.layout mid.thread mid.actor.used InRange from item
+        traces_then program place in_range last [] [] [] v mid u
+        (has_cell i program place context at before (InCall context otherwise rows) low refl)
+        (traces_then program in_range holding last [] [] [] mid held u
+        (subst (MakesTrace 0 [] program in_range mid holding) (sym holds)
+        (retains program in_range (always holding) mid idle item local shared InFlight
+        (goes_on_with i program place context at rows before mid.layout mid.thread mid.actor.used InRange from item
         (λ y. Does (RetainLoad y InFlight) [] (always holding)) refl is)))
-        (puts_in i Retained InFlight item code place last context at before is (λ layout t used. refl) held u swap))
+        (puts_in i Retained InFlight item program place last context at before is (λ layout t used. refl) held u swap))

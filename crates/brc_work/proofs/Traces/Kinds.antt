@@ -2,7 +2,6 @@
 use Rattle.std.proofs.Common.{◌≡◌, ◌≢◌, ℕ, ◌+◌, Bool, true, false, cond, List, [], Option, Some, refl, sym, ap, ◌∙◌, subst}
 use Rattle.std.proofs.lemmas.Bool.{eq-eqb, ne_eqb}
 use Rattle.brc_lang.specs.declared.kind.Kind.{Kind}
-use Rattle.brc_lang.specs.declared.module.Instr.{Instr}
 use Rattle.brc_lang.specs.declared.module.Instr.TheVariants as instructions
 use Rattle.brc_model.specs.Actions.{Does}
 use Rattle.brc_model.specs.Kinds.{kind_number, kind_of_word, same_kind}
@@ -14,7 +13,7 @@ use Rattle.brc_model.specs.declared.duty.Duty.TheVariants.{KindLoad}
 use Rattle.brc_model.specs.declared.state.Exit.TheVariants.{Success, Fault}
 use Rattle.brc_table.specs.declared.view.View.{View}
 use Rattle.brc_table.specs.Views.{view_after, asking}
-use Rattle.brc_work.specs.Traces.{MakesTrace}
+use Rattle.brc_work.specs.Traces.{Program, MakesTrace}
 use Rattle.brc_work.specs.Performs.{IsBefore, Performs}
 use Rattle.brc_work.proofs.Traces.Places.{begins_with, begins_one}
 use Rattle.brc_work.proofs.Traces.Starting.{asks_kind}
@@ -24,18 +23,18 @@ module _ (from row word otherwise : ℕ) (kind seen : Kind) (rows : List (Option
     (names : row_of rows from ≡ Some row) (is : u ≡ view_after (asking v row) word) (sees : seen ≡ kind_of_word word)
   where
     -- The thread goes on where the word found says.
-    asked : (b : Bool) → same_kind seen kind ≡ b → (code : List Instr) (place : Place) (context : Context) (at : ℕ)
-        → IsBefore (instructions.As from kind otherwise) code place context at rows
-        → MakesTrace 1 [] code place v (InCall context (cond b (at + 1) otherwise) rows) u
-    asked b answer code place context at before =
+    asked : (b : Bool) → same_kind seen kind ≡ b → (program : Program) (place : Place) (context : Context) (at : ℕ)
+        → IsBefore (instructions.As from kind otherwise) program place context at rows
+        → MakesTrace 1 [] program place v (InCall context (cond b (at + 1) otherwise) rows) u
+    asked b answer program place context at before =
         let next = λ (found : ℕ).
         InCall context (cond (same_kind (kind_of_word found) kind) (at + 1) otherwise) rows in
-        subst (λ (q : Place). MakesTrace 1 [] code place v q u)
+        subst (λ (q : Place). MakesTrace 1 [] program place v q u)
         (ap (λ (k : Kind). InCall context (cond (same_kind k kind) (at + 1) otherwise) rows) (sym sees)
         ∙ ap (λ (c : Bool). InCall context (cond c (at + 1) otherwise) rows) answer)
-        (subst (MakesTrace 1 [] code place v (next word)) (sym is)
-        (begins_one before (asks_kind code place next v none row word
-        (begins_with (instructions.As from kind otherwise) code place context at rows before v.layout v.thread
+        (subst (MakesTrace 1 [] program place v (next word)) (sym is)
+        (begins_one before (asks_kind program place next v none row word
+        (begins_with (instructions.As from kind otherwise) program place context at rows before v.layout v.thread
         v.actor.used
         from row
         (λ x. Does (KindLoad x) [] next) refl names))))

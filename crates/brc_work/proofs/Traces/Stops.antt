@@ -1,11 +1,10 @@
--- A hand that gives up what a stopped call holds makes the events of its thread.
+-- A hand that gives up what its stopped calls own makes the events of its thread.
 use Rattle.std.proofs.Common.{◌≡◌, ℕ, zero, suc, ◌<◌, ◌≤◌, length, Bool, true, false, cond, List, [], ◌∷◌, Option, None, Some, inl, inr, refl, sym, ap, ◌∙◌, subst, arith}
 use Rattle.std.specs.Prelude.{◌||◌, not, is_some, slice_set}
 use Rattle.std.specs.List.{list_any, slice_index_or}
 use Rattle.std.proofs.lemmas.Bool.{cases_Bool}
 use Rattle.std.proofs.Math.Nat.{eq-or-lt_of_le}
 use Rattle.brc_host.specs.HostCalls.{HostCall}
-use Rattle.brc_lang.specs.declared.module.Instr.{Instr}
 use Rattle.brc_model.specs.declared.actor.Place.{Place}
 use Rattle.brc_model.specs.declared.actor.Place.TheVariants.{Idle, Stopping}
 use Rattle.brc_model.specs.declared.duty.Duty.{Duty}
@@ -14,7 +13,7 @@ use Rattle.brc_model.specs.declared.duty.Holding.TheVariants.{AsCaller, ByVariab
 use Rattle.brc_model.specs.declared.layout.Layout.{Layout}
 use Rattle.brc_model.specs.declared.state.VarState.{VarState}
 use Rattle.brc_model.specs.declared.state.VarState.TheVariants.{Empty}
-use Rattle.brc_model.specs.Actions.{Does, always, with_row, dispatch}
+use Rattle.brc_model.specs.Actions.{Does, always, with_row}
 use Rattle.brc_model.specs.Duties.{ready}
 use Rattle.brc_model.specs.VarStates.{is_owned}
 use Rattle.brc_model.specs.Stops.{owned_rows, holds_some, stopping, first_named, give_up_first, give_up}
@@ -25,12 +24,12 @@ use Rattle.brc_table.specs.declared.view.View.{View}
 use Rattle.brc_table.specs.Views.{view_after, releasing, without_reference}
 use Rattle.brc_heap.specs.Calls.{released_locally}
 use Rattle.brc_free.specs.Works.{HasWorked, to_settle}
-use Rattle.brc_work.specs.Stopping.{Loosens}
-use Rattle.brc_work.specs.Traces.{Traces, begun_at}
-use Rattle.brc_work.proofs.Traces.Joining.{no_trace, turns_to, traces_then, traces_behind, with_duties}
+use Rattle.brc_work.specs.Stopping.{Loosens, settle_if, GivesUpTo}
+use Rattle.brc_work.specs.Traces.{Program, dispatch_in, Traces, MakesTrace, begun_at}
+use Rattle.brc_work.proofs.Traces.Joining.{turns_to, traces_then, traces_behind, with_duties}
 use Rattle.brc_work.proofs.Traces.Duties.{no_duty, next_duties, starts_with}
 use Rattle.brc_work.proofs.Traces.Releasing.{load_same, stores}
-use Rattle.brc_work.proofs.Traces.Working.{settle_if, WorksOn, are_off_slots, behind_of, works_on, worked_off, with_agenda, comes_to_settle, nothing_behind}
+use Rattle.brc_work.proofs.Traces.Working.{WorksOn, are_off_slots, behind_of, works_on, worked_off, with_agenda, comes_to_settle, nothing_behind}
 
 -- ---- rows
 
@@ -119,48 +118,56 @@ settles_behind false = refl
 
 -- ---- what a stopped thread does
 
--- the place of a thread that has these rows still to give up
-abbrev pub place_of : List VarState → List (Option ℕ) → Place
-place_of vars rows = stopping None (owned_rows vars rows ∷ [])
+-- Calls that give up nothing come to nothing.
+idle_is : (calls : List (List (Option ℕ))) → holds_some calls ≡ false → stopping None calls ≡ Idle 0
+idle_is calls bare = ap (λ (b : Bool). cond b (Stopping None calls) (Idle 0)) bare
 
-module _ (code : List Instr) (p : Place) (v : View) (vars : List VarState) where
-  -- The thread has come from the place to where it has these rows still to give up. Only behind the last one it has to
-  -- settle.
-  abbrev pub Stops : List (Option ℕ) → View → Type 0
-  Stops rows u =
-      WorksOn (not (holds_some (owned_rows vars rows ∷ []))) 0 [] code p [] v (place_of vars rows) u
+stopping_is : (calls : List (List (Option ℕ))) → holds_some calls ≡ true → stopping None calls ≡ Stopping None calls
+stopping_is calls some = ap (λ (b : Bool). cond b (Stopping None calls) (Idle 0)) some
+
+module _ (program : Program) (p : Place) (v : View) (vars : List VarState) (outer : List (List (Option ℕ))) where
+  -- The thread has come from the place to where it has these rows still to give up, and then the calls further out.
+  -- Only behind the last reference it has to settle.
+  pub record Stops (rows : List (Option ℕ)) (u : View) : Type 0 where
+    pub left : List (List (Option ℕ))
+    pub same : give_up left ≡ give_up (owned_rows vars rows ∷ outer)
+    pub some : holds_some left ≡ holds_some (owned_rows vars rows ∷ outer)
+    pub works : WorksOn (not (holds_some (owned_rows vars rows ∷ outer))) 0 [] program p [] v (stopping None left) u
 
   -- It gives up the first one.
-  first_given : (rows : List (Option ℕ)) (k x : ℕ) → row_of (owned_rows vars rows) k ≡ Some x
+  first_given : (rows : List (Option ℕ)) (k x : ℕ) (left : List (List (Option ℕ)))
+      → give_up left ≡ give_up (owned_rows vars rows ∷ outer) → holds_some left ≡ true
+      → row_of (owned_rows vars rows) k ≡ Some x
       → ((i : ℕ) → i < k → row_of (owned_rows vars rows) i ≡ None) → (layout : Layout) (t used : ℕ)
-      → dispatch layout t used code (place_of vars rows)
-      ≡ Does (ReleaseLoad x (ByVariable 0 k))
-      (settle_if (not (holds_some (owned_rows vars (slice_set rows k None) ∷ []))))
-      (always (place_of vars (slice_set rows k None)))
-  first_given rows k x is below layout t used =
-      let left = owned_rows vars rows in
-      let some = some_named left k x is in
-      let after = λ (l : List (Option ℕ)). l ∷ [] in
+      → dispatch_in layout t used program (stopping None left)
+      ≡ Does (ReleaseLoad x (ByVariable (length outer) k))
+      (settle_if (not (holds_some (owned_rows vars (slice_set rows k None) ∷ outer))))
+      (always (stopping None (owned_rows vars (slice_set rows k None) ∷ outer)))
+  first_given rows k x left same named is below layout t used =
+      let own = owned_rows vars rows in
+      let some = some_named own k x is in
+      let after = λ (l : List (Option ℕ)). l ∷ outer in
       let does = λ (n : ℕ) (o : Option ℕ) (l : List (Option ℕ)).
-      with_row o (λ (row : ℕ). Does (ReleaseLoad row (ByVariable 0 n)) (cond (holds_some (after l)) [] (Settle ∷ []))
-      (always (stopping None (after l)))) in
-      ap (λ (b : Bool). dispatch layout t used code (cond (b || false) (Stopping None (left ∷ [])) (Idle 0))) some
-      ∙ (ap (λ (b : Bool). cond b (give_up_first left []) (give_up [])) some
-      ∙ (ap (λ (n : ℕ). does n (row_of left n) (slice_set left n None)) (first_is left k x is below)
-      ∙ (ap (λ (o : Option ℕ). does k o (slice_set left k None)) is
+      with_row o (λ (row : ℕ). Does (ReleaseLoad row (ByVariable (length outer) n))
+      (cond (holds_some (after l)) [] (Settle ∷ [])) (always (stopping None (after l)))) in
+      ap (dispatch_in layout t used program) (stopping_is left named)
+      ∙ (same
+      ∙ (ap (λ (b : Bool). cond b (give_up_first own outer) (give_up outer)) some
+      ∙ (ap (λ (n : ℕ). does n (row_of own n) (slice_set own n None)) (first_is own k x is below)
+      ∙ (ap (λ (o : Option ℕ). does k o (slice_set own k None)) is
       ∙ (ap (λ (l : List (Option ℕ)). does k (Some x) l) (owned_set vars rows k)
-      ∙ ap (λ (ds : List Duty). Does (ReleaseLoad x (ByVariable 0 k)) ds
-      (always (place_of vars (slice_set rows k None))))
-      (settles_behind (holds_some (owned_rows vars (slice_set rows k None) ∷ [])))))))
+      ∙ ap (λ (ds : List Duty). Does (ReleaseLoad x (ByVariable (length outer) k)) ds
+      (always (stopping None (owned_rows vars (slice_set rows k None) ∷ outer))))
+      (settles_behind (holds_some (owned_rows vars (slice_set rows k None) ∷ outer))))))))
 
   -- A thread with something to give up has nothing to settle yet.
-  nothing_later : (rows : List (Option ℕ)) (u : View) → Stops rows u → u.actor.agenda ≡ []
-      → list_any is_some (owned_rows vars rows) ≡ true → Traces 0 [] code p [] v (place_of vars rows) [] u
+  nothing_later : (rows : List (Option ℕ)) (u : View) (on : Stops rows u) → u.actor.agenda ≡ []
+      → holds_some (owned_rows vars rows ∷ outer) ≡ true → Traces 0 [] program p [] v (stopping None on.left) [] u
   nothing_later rows u on none some =
-      let q = place_of vars rows in
-      with_duties code p q [] (ready u.actor.head []) [] v u (no_duty u.actor.head)
-      (with_agenda code p [] v q u [] none
-      (subst (λ (b : Bool). WorksOn (not (b || false)) 0 [] code p [] v q u) some on))
+      let q = stopping None on.left in
+      with_duties program p q [] (ready u.actor.head []) [] v u (no_duty u.actor.head)
+      (with_agenda program p [] v q u [] none
+      (subst (λ (b : Bool). WorksOn (not b) 0 [] program p [] v q u) some on.works))
 
   -- Another one is given up.
   pub stops_on : (rows after_rows : List (Option ℕ)) (k : ℕ) (u w : View) → Stops rows u → u.actor.agenda ≡ []
@@ -169,53 +176,86 @@ module _ (code : List Instr) (p : Place) (v : View) (vars : List VarState) where
   stops_on rows after_rows k u w on none loosens is below =
       let x = loosens.row in
       let word = loosens.word in
-      let holding = ByVariable 0 k in
+      let holding = ByVariable (length outer) k in
       let left = slice_set rows k None in
-      let q = place_of vars rows in
-      let next = place_of vars left in
-      let later = not (holds_some (owned_rows vars left ∷ [])) in
+      let q = stopping None on.left in
+      let next = stopping None (owned_rows vars left ∷ outer) in
+      let later = not (holds_some (owned_rows vars left ∷ outer)) in
       let references = without_reference u.layout x u.references in
-      let so_far = nothing_later rows u on none (some_named (owned_rows vars rows) k x is) in
-      let stopping_is : q ≡ Stopping None (owned_rows vars rows ∷ []) =
-      ap (λ (b : Bool). cond (b || false) (Stopping None (owned_rows vars rows ∷ [])) (Idle 0))
-      (some_named (owned_rows vars rows) k x is) in
+      let some : holds_some (owned_rows vars rows ∷ outer) ≡ true =
+      ap (λ (b : Bool). b || holds_some outer) (some_named (owned_rows vars rows) k x is) in
+      let named = on.some ∙ some in
+      let so_far = nothing_later rows u on none some in
       let first = λ (n : ℕ).
-      traces_behind code p q next [] [] _ v u (view_after (releasing u x) n) so_far
-      (traces_then code q q next [] [] _ u (releasing u x) (view_after (releasing u x) n)
-      (turns_to code q [] (ReleaseLoad x AsCaller ∷ []) u references u.in_slot none)
-      (subst (λ (r : Place). Traces (begun_at r) [] code q [] (releasing u x) next
+      traces_behind program p q next [] [] _ v u (view_after (releasing u x) n) so_far
+      (traces_then program q q next [] [] _ u (releasing u x) (view_after (releasing u x) n)
+      (turns_to program q [] (ReleaseLoad x AsCaller ∷ []) u references u.in_slot none)
+      (subst (λ (r : Place). Traces (begun_at r) [] program q [] (releasing u x) next
       (next_duties (releasing u x) (ReleaseLoad x holding) (settle_if later) n) (view_after (releasing u x) n))
-      stopping_is
-      (starts_with code q (releasing u x) (ReleaseLoad x holding) (ReleaseLoad x AsCaller) (settle_if later) [] n
-      (load_same x holding u n) (always next) (first_given rows k x is below u.layout u.thread u.actor.used) refl))) in
-      subst (λ (rs : List (Option ℕ)). Stops rs w) (sym loosens.emptied)
-      (works_on code p [] v next [] (released_locally u x word) [] w
-      (stores code p [] v next holding x u later first word) loosens.works.works)
+      (stopping_is on.left named)
+      (starts_with program q (releasing u x) (ReleaseLoad x holding) (ReleaseLoad x AsCaller) (settle_if later) [] n
+      (load_same x holding u n) (always next)
+      (first_given rows k x on.left on.same named is below u.layout u.thread u.actor.used) refl))) in
+      subst (λ (rs : List (Option ℕ)). Stops rs w) (sym loosens.emptied) (record {
+        left = owned_rows vars left ∷ outer;
+        same = refl;
+        some = refl;
+        works = works_on program p [] v next [] (released_locally u x word) [] w
+            (stores program p [] v next holding x u later first word) loosens.works.works;
+      })
 
-  -- With nothing left to give up, the hand settles, and its thread is done with its calls.
-  pub stops_last : (rows : List (Option ℕ)) (cs : List HostCall) (u w : View) → Stops rows u
-      → list_any is_some (owned_rows vars rows) ≡ false → u.actor.agenda ≡ [] → HasWorked (to_settle [] u) cs [] w
-      → w.actor.head ≡ 0 → Traces 0 cs code p [] v (Idle 0) [] w
-  stops_last rows cs u w on bare none settled empty =
-      let q = place_of vars rows in
-      let ends : q ≡ Idle 0 =
-      ap (λ (b : Bool). cond (b || false) (Stopping None (owned_rows vars rows ∷ [])) (Idle 0)) bare in
-      subst (λ (r : Place). Traces 0 cs code p [] v r [] w) ends
-      (worked_off code p [] v q w (settled.agenda ∙ no_duty w.actor.head) empty
-      (works_on code p [] v q [] (to_settle [] u) cs w
-      (comes_to_settle code p [] v q u none
-      (subst (λ (b : Bool). WorksOn (not (b || false)) 0 [] code p [] v q u) bare on)) settled.works))
+  -- Once the call has nothing left to give up, the thread goes on with the calls further out.
+  pub stops_off : (rows : List (Option ℕ)) (u : View) → Stops rows u
+      → list_any is_some (owned_rows vars rows) ≡ false → u.actor.agenda ≡ [] → GivesUpTo program p v outer u
+  stops_off rows u on bare none = record {
+    left = on.left;
+    same = on.same ∙ ap (λ (b : Bool). cond b (give_up_first (owned_rows vars rows) outer) (give_up outer)) bare;
+    some = on.some ∙ ap (λ (b : Bool). b || holds_some outer) bare;
+    traces = subst (λ (b : Bool). Traces 0 [] program p [] v (stopping None on.left)
+        (ready u.actor.head (settle_if (not (b || holds_some outer)))) u) bare
+        (with_agenda program p [] v (stopping None on.left) u [] none on.works);
+  }
 
--- A thread that has just stopped.
-pub stops_first : (code : List Instr) (v : View) (vars : List VarState) (rows : List (Option ℕ)) → v.actor.agenda ≡ []
-    → v.actor.head ≡ 0 → Stops code (place_of vars rows) v vars rows v
-stops_first code v vars rows none empty =
-    let q = place_of vars rows in
-    let later = not (holds_some (owned_rows vars rows ∷ [])) in
-    let nothing : [] ≡ behind_of v.actor.head v.actor.agenda (settle_if later) =
-    sym (ap (λ (ds : List Duty). behind_of v.actor.head ds (settle_if later)) none
-    ∙ ap (λ (head : ℕ). ready head (settle_if later)) empty ∙ nothing_behind later) in
-    record {
-      traces = with_duties code q q [] [] _ v v nothing (no_trace code q [] v);
+  -- It begins with the call's own.
+  pub stops_first : (rows : List (Option ℕ)) (u : View) → GivesUpTo program p v (owned_rows vars rows ∷ outer) u
+      → u.actor.agenda ≡ [] → Stops rows u
+  stops_first rows u to none = record {
+    left = to.left;
+    same = to.same;
+    some = to.some;
+    works = record {
+      traces = with_duties program p (stopping None to.left) []
+          (ready u.actor.head (settle_if (not (holds_some (owned_rows vars rows ∷ outer))))) _ v u
+          (sym (ap (λ (ds : List Duty). behind_of u.actor.head ds
+          (settle_if (not (holds_some (owned_rows vars rows ∷ outer))))) none)) to.traces;
       off = ap are_off_slots none;
+    };
+  }
+
+-- A thread that has just stopped, with nothing to settle, has all calls to give up.
+pub gives_up_first : (program : Program) (v u : View) (p : Place) (calls : List (List (Option ℕ)))
+    → u.actor.head ≡ 0 → MakesTrace 0 [] program p v (stopping None calls) u → GivesUpTo program p v calls u
+gives_up_first program v u p calls empty traces =
+    let later = not (holds_some calls) in
+    record {
+      left = calls;
+      same = refl;
+      some = refl;
+      traces = with_duties program p (stopping None calls) [] [] _ v u
+          (sym (ap (λ (head : ℕ). ready head (settle_if later)) empty ∙ nothing_behind later)) traces;
     }
+
+-- Once nothing is left to give up the hand settles, and its thread is done with its calls.
+pub stops_last : (program : Program) (p : Place) (v : View) (cs : List HostCall) (u w : View)
+    → GivesUpTo program p v [] u → u.actor.agenda ≡ [] → HasWorked (to_settle [] u) cs [] w
+    → w.actor.head ≡ 0 → MakesTrace 0 cs program p v (Idle 0) w
+stops_last program p v cs u w to none settled empty =
+    let q = stopping None to.left in
+    let on : WorksOn true 0 [] program p [] v q u = record {
+      traces = with_duties program p q [] (ready u.actor.head (Settle ∷ [])) _ v u
+          (sym (ap (λ (ds : List Duty). behind_of u.actor.head ds (Settle ∷ [])) none)) to.traces;
+      off = ap are_off_slots none;
+    } in
+    subst (λ (r : Place). MakesTrace 0 cs program p v r w) (idle_is to.left to.some)
+    (worked_off program p [] v q w (settled.agenda ∙ no_duty w.actor.head) empty
+    (works_on program p [] v q [] (to_settle [] u) cs w (comes_to_settle program p [] v q u none on) settled.works))

@@ -4,7 +4,6 @@ use Rattle.std.specs.Prelude.{◌==◌, ◌&&◌, nat_lt}
 use Rattle.std.proofs.lemmas.Bool.{cases_Bool}
 use Rattle.brc_word.specs.Words.{is_immortal_word, local_part, fresh_word, dead_word, released_word, merged_word, most_local, mark_at}
 use Rattle.brc_host.specs.HostCalls.{HostCall, Close}
-use Rattle.brc_lang.specs.declared.module.Instr.{Instr}
 use Rattle.brc_model.specs.Duties.{found_row, continuation, new_head, ready, counts_locally, has_resource, cells_of, cells_from, claimed, release_found}
 use Rattle.brc_model.specs.Layout.{mark_bit}
 use Rattle.brc_model.specs.Machine.{is_running}
@@ -16,7 +15,8 @@ use Rattle.brc_model.specs.declared.layout.Layout.{Layout}
 use Rattle.brc_table.specs.declared.view.View.{View}
 use Rattle.brc_table.specs.Views.{view_by, view_after, slot_emptied, slot_emptied_by}
 use Rattle.brc_free.specs.Works.{Works, Refl as Unchanged, Next, closes_by, to_settle}
-use Rattle.brc_work.specs.Traces.{Refl, Continues, Closes, Traces, thread_with, is_close}
+use Rattle.brc_work.specs.Stopping.{settle_if}
+use Rattle.brc_work.specs.Traces.{Program, Refl, Continues, Closes, Traces, thread_with, is_close}
 use Rattle.brc_work.proofs.Traces.Joining.{quietly, calls_on, traces_then, traces_behind, with_duties}
 use Rattle.brc_work.proofs.Traces.Duties.{comes_next, IsSame, next_duties, continues_with, does_nothing, does_first}
 
@@ -171,11 +171,6 @@ ready_behind (suc head) (TakeFound w zero ∷ ds) rest = ready_behind (suc head)
 ready_behind (suc head) (TakeFound w (suc n) ∷ ds) rest = refl
 ready_behind (suc head) (d ∷ ds) rest = refl
 
--- to settle, or nothing
-abbrev pub settle_if : Bool → List Duty
-settle_if true = Settle ∷ []
-settle_if false = []
-
 -- A hand that settles next has nothing behind that.
 settles_alone : (head : ℕ) → behind_of head (ready head (Settle ∷ [])) [] ≡ ready head (Settle ∷ [])
 settles_alone zero = refl
@@ -189,23 +184,23 @@ nothing_behind false = refl
 
 -- From view v and place p with duties ds, the hand has come to view u, with these calls of the host, and has begun this
 -- many instructions. Its thread has the hand's duties there, and, if `later` says so, to settle behind them.
-pub record WorksOn (later : Bool) (begun : ℕ) (cs : List HostCall) (code : List Instr) (p : Place) (ds : List Duty)
+pub record WorksOn (later : Bool) (begun : ℕ) (cs : List HostCall) (program : Program) (p : Place) (ds : List Duty)
     (v : View) (q : Place) (u : View) : Type 0 where
-  pub traces : Traces begun cs code p ds v q (behind_of u.actor.head u.actor.agenda (settle_if later)) u
+  pub traces : Traces begun cs program p ds v q (behind_of u.actor.head u.actor.agenda (settle_if later)) u
   pub off : are_off_slots u.actor.agenda ≡ true
 
 -- A dying object's resource is taken out of its slot and closed without a step on a word.
-takes_slot : (code : List Instr) (q : Place) (u : View) (x : ℕ) (failed : Bool) (rest : List Duty)
-    → Traces 0 (Close failed ∷ []) code q (TakeSlot x ∷ rest) u q (SettleEnd x ∷ rest) u
-takes_slot code q u x failed rest =
-    let taken : Traces 0 [] code q (TakeSlot x ∷ rest) u q (ready u.actor.head (CloseResource x ∷ rest)) u = record {
+takes_slot : (program : Program) (q : Place) (u : View) (x : ℕ) (failed : Bool) (rest : List Duty)
+    → Traces 0 (Close failed ∷ []) program q (TakeSlot x ∷ rest) u q (SettleEnd x ∷ rest) u
+takes_slot program q u x failed rest =
+    let taken : Traces 0 [] program q (TakeSlot x ∷ rest) u q (ready u.actor.head (CloseResource x ∷ rest)) u = record {
       events = [];
       trace = sym (append-nil u.trace);
       makes = Continues 0 [] [] q (thread_with u (TakeSlot x ∷ rest)) (TakeSlot x) rest 1 Refl refl refl;
       layout = refl;
       thread = refl;
     } in
-    let closed : Traces 0 (Close failed ∷ []) code q (CloseResource x ∷ rest) u q
+    let closed : Traces 0 (Close failed ∷ []) program q (CloseResource x ∷ rest) u q
     (ready u.actor.head (SettleEnd x ∷ rest)) u
     =
     record {
@@ -215,25 +210,25 @@ takes_slot code q u x failed rest =
       layout = refl;
       thread = refl;
     } in
-    traces_then code q q q (TakeSlot x ∷ rest) (CloseResource x ∷ rest) (SettleEnd x ∷ rest) u u u
-    (with_duties code q q (TakeSlot x ∷ rest) _ (CloseResource x ∷ rest) u u
+    traces_then program q q q (TakeSlot x ∷ rest) (CloseResource x ∷ rest) (SettleEnd x ∷ rest) u u u
+    (with_duties program q q (TakeSlot x ∷ rest) _ (CloseResource x ∷ rest) u u
     (comes_next u.actor.head (CloseResource x) rest refl) taken)
-    (with_duties code q q (CloseResource x ∷ rest) _ (SettleEnd x ∷ rest) u u
+    (with_duties program q q (CloseResource x ∷ rest) _ (SettleEnd x ∷ rest) u u
     (comes_next u.actor.head (SettleEnd x) rest refl) closed)
 
 unslotted : (u : View) (d : Duty) (tail : List Duty) → takes_out d ≡ false → slot_emptied_by (d ∷ tail) u ≡ u
 unslotted u (TakeSlot x) tail other = absurd (let wrong : true ≡ false = other in cc)
 unslotted u _ tail other = refl
 
-module _ {later : Bool} {n : ℕ} (code : List Instr) (p : Place) (ds : List Duty) (v : View) (q : Place) where
+module _ {later : Bool} {n : ℕ} (program : Program) (p : Place) (ds : List Duty) (v : View) (q : Place) where
   -- After one duty more the thread still has the hand's duties.
   pub goes_on : {cs : List HostCall} (u : View) (d e : Duty) (tail : List Duty) (found : ℕ)
       → IsSame u d e found
       → (continuation u.layout u.thread (is_running u.actor.status) u.actor.head e found
       ≡ continuation u.layout u.thread (is_running u.actor.status) u.actor.head d found)
       → is_off_slots e ≡ true → takes_out e ≡ false → are_off_slots tail ≡ true
-      → Traces n cs code p ds v q (next_duties u d (tail ++ settle_if later) found) (view_by u (e ∷ tail) found)
-      → WorksOn later n cs code p ds v q (view_by u (e ∷ tail) found)
+      → Traces n cs program p ds v q (next_duties u d (tail ++ settle_if later) found) (view_by u (e ∷ tail) found)
+      → WorksOn later n cs program p ds v q (view_by u (e ∷ tail) found)
   goes_on u d e tail found same next off other behind one =
       let after = view_by u (e ∷ tail) found in
       let more = continuation u.layout u.thread (is_running u.actor.status) u.actor.head e found in
@@ -246,7 +241,7 @@ module _ {later : Bool} {n : ℕ} (code : List Instr) (p : Place) (ds : List Dut
       ∙ (ap (λ (es : List Duty). ready head (es ++ (tail ++ rest))) (sym next)
       ∙ (ap (ready head) (sym (append_assoc more tail rest)) ∙ ready_behind head (more ++ tail) rest)) in
       record {
-        traces = with_duties code p q ds (next_duties u d (tail ++ rest) found) _ v after duties one;
+        traces = with_duties program p q ds (next_duties u d (tail ++ rest) found) _ v after duties one;
         off = ready_off head (more ++ tail)
             (off_then more tail (next_off u.layout u.thread (is_running u.actor.status) u.actor.head e found off
             other) behind);
@@ -255,86 +250,86 @@ module _ {later : Bool} {n : ℕ} (code : List Instr) (p : Place) (ds : List Dut
   -- It is the first of its agenda.
   continues_on : {cs : List HostCall} (u : View) (d : Duty) (tail : List Duty) (found : ℕ)
       → is_off_slots d ≡ true
-      → takes_out d ≡ false → are_off_slots tail ≡ true → Traces n cs code p ds v q (d ∷ (tail ++ settle_if later)) u
-      → WorksOn later n cs code p ds v q (view_by u (d ∷ tail) found)
+      → takes_out d ≡ false → are_off_slots tail ≡ true → Traces n cs program p ds v q (d ∷ (tail ++ settle_if later)) u
+      → WorksOn later n cs program p ds v q (view_by u (d ∷ tail) found)
   continues_on u d tail found off other behind one =
       let rest = tail ++ settle_if later in
       let same = on_word u d found off other in
       goes_on u d d tail found same refl off other behind
-      (traces_behind code p q q ds (d ∷ rest) (next_duties u d rest found) v u (view_by u (d ∷ tail) found) one
-      (continues_with code q u d d rest tail found same (no_close d off)))
+      (traces_behind program p q q ds (d ∷ rest) (next_duties u d rest found) v u (view_by u (d ∷ tail) found) one
+      (continues_with program q u d d rest tail found same (no_close d off)))
 
   -- the thread's duties, where the hand's are these
   pub with_agenda : {cs : List HostCall} (u : View) (es : List Duty) → u.actor.agenda ≡ es
-      → (on : WorksOn later n cs code p ds v q u)
-      → Traces n cs code p ds v q (behind_of u.actor.head es (settle_if later)) u
+      → (on : WorksOn later n cs program p ds v q u)
+      → Traces n cs program p ds v q (behind_of u.actor.head es (settle_if later)) u
   with_agenda u es is on =
-      with_duties code p q ds _ (behind_of u.actor.head es (settle_if later)) v u
+      with_duties program p q ds _ (behind_of u.actor.head es (settle_if later)) v u
       (ap (λ (fs : List Duty). behind_of u.actor.head fs (settle_if later)) is) on.traces
 
   plain_next : {cs : List HostCall} (u : View) (found : ℕ) (d : Duty) (tail : List Duty) → u.actor.agenda ≡ d ∷ tail
-      → takes_out d ≡ false → WorksOn later n cs code p ds v q u → WorksOn later n cs code p ds v q
+      → takes_out d ≡ false → WorksOn later n cs program p ds v q u → WorksOn later n cs program p ds v q
       (view_after (slot_emptied u) found)
   plain_next {cs} u found d tail is other on =
       let off : are_off_slots (d ∷ tail) ≡ true = ap are_off_slots (sym is) ∙ on.off in
       let same : slot_emptied u ≡ u = ap (λ (es : List Duty). slot_emptied_by es u) is ∙ unslotted u d tail other in
-      subst (WorksOn later n cs code p ds v q)
+      subst (WorksOn later n cs program p ds v q)
       (sym (ap (λ (w : View). view_after w found) same ∙ does_first u found d tail is))
       (continues_on u d tail found (first_off d tail off) other (behind_off d tail off)
       (with_agenda u (d ∷ tail) is on))
 
-  with_no_call : (cs : List HostCall) (u : View) → WorksOn later n cs code p ds v q u
-      → WorksOn later n (cs ++ []) code p ds v q u
-  with_no_call cs u on = subst (λ (ks : List HostCall). WorksOn later n ks code p ds v q u) (sym (append-nil cs)) on
+  with_no_call : (cs : List HostCall) (u : View) → WorksOn later n cs program p ds v q u
+      → WorksOn later n (cs ++ []) program p ds v q u
+  with_no_call cs u on = subst (λ (ks : List HostCall). WorksOn later n ks program p ds v q u) (sym (append-nil cs)) on
 
   next_by : (cs : List HostCall) (u : View) (found : ℕ) (failed : Bool) (es : List Duty) → u.actor.agenda ≡ es
-      → WorksOn later n cs code p ds v q u → WorksOn later n (cs ++ closes_by es failed) code p ds v q
+      → WorksOn later n cs program p ds v q u → WorksOn later n (cs ++ closes_by es failed) program p ds v q
       (view_after (slot_emptied u) found)
   next_by cs u found failed [] is on =
       with_no_call cs (view_after (slot_emptied u) found)
-      (subst (WorksOn later n cs code p ds v q)
+      (subst (WorksOn later n cs program p ds v q)
       (sym (ap (λ (w : View). view_after w found) (ap (λ (es : List Duty). slot_emptied_by es u) is)
       ∙ does_nothing u found is))
       on)
   next_by cs u found failed (TakeSlot x ∷ tail) is on =
       let off : are_off_slots (TakeSlot x ∷ tail) ≡ true = ap are_off_slots (sym is) ∙ on.off in
       let rest = tail ++ settle_if later in
-      subst (WorksOn later n (cs ++ Close failed ∷ []) code p ds v q)
+      subst (WorksOn later n (cs ++ Close failed ∷ []) program p ds v q)
       (sym (ap (λ (es : List Duty). view_after (slot_emptied_by es u) found) is))
       (continues_on u (SettleEnd x) tail found refl refl (behind_off (TakeSlot x) tail off)
-      (calls_on cs (Close failed ∷ []) code p q q ds (TakeSlot x ∷ rest) (SettleEnd x ∷ rest) v u u
-      (with_agenda u (TakeSlot x ∷ tail) is on) (takes_slot code q u x failed rest)))
+      (calls_on cs (Close failed ∷ []) program p q q ds (TakeSlot x ∷ rest) (SettleEnd x ∷ rest) v u u
+      (with_agenda u (TakeSlot x ∷ tail) is on) (takes_slot program q u x failed rest)))
   next_by cs u found failed (d ∷ tail) is on =
       with_no_call cs (view_after (slot_emptied u) found) (plain_next u found d tail is refl on)
 
   -- A hand that does duty after duty,
-  pub works_on : (cs : List HostCall) (u : View) (fs : List HostCall) (w : View) → WorksOn later n cs code p ds v q u
+  pub works_on : (cs : List HostCall) (u : View) (fs : List HostCall) (w : View) → WorksOn later n cs program p ds v q u
       → Works u fs w
-      → WorksOn later n (cs ++ fs) code p ds v q w
+      → WorksOn later n (cs ++ fs) program p ds v q w
   works_on cs u fs w on Unchanged = with_no_call cs u on
   works_on cs u fs w on (Next ks x found failed other) =
-      subst (λ (hs : List HostCall). WorksOn later n hs code p ds v q (view_after (slot_emptied x) found))
+      subst (λ (hs : List HostCall). WorksOn later n hs program p ds v q (view_after (slot_emptied x) found))
       (append_assoc cs ks (closes_by x.actor.agenda failed))
       (next_by (cs ++ ks) x found failed x.actor.agenda refl (works_on cs u ks x on other))
 
   -- until nothing is left to do.
   pub worked_off : {cs : List HostCall} (u : View) → u.actor.agenda ≡ [] → u.actor.head ≡ 0
-      → WorksOn later n cs code p ds v q u
-      → Traces n cs code p ds v q [] u
+      → WorksOn later n cs program p ds v q u
+      → Traces n cs program p ds v q [] u
   worked_off u none empty on =
-      with_duties code p q ds (ready u.actor.head (settle_if later)) [] v u
+      with_duties program p q ds (ready u.actor.head (settle_if later)) [] v u
       (ap (λ (head : ℕ). ready head (settle_if later)) empty ∙ nothing_behind later) (with_agenda u [] none on)
 
 -- The hand has done all its duties, and its thread still has to settle. Then to settle is the hand's next duty.
-pub comes_to_settle : {n : ℕ} {cs : List HostCall} (code : List Instr) (p : Place) (ds : List Duty) (v : View)
-    (q : Place) (u : View) → u.actor.agenda ≡ [] → WorksOn true n cs code p ds v q u
-    → WorksOn false n cs code p ds v q (to_settle [] u)
-comes_to_settle code p ds v q u none on =
+pub comes_to_settle : {n : ℕ} {cs : List HostCall} (program : Program) (p : Place) (ds : List Duty) (v : View)
+    (q : Place) (u : View) → u.actor.agenda ≡ [] → WorksOn true n cs program p ds v q u
+    → WorksOn false n cs program p ds v q (to_settle [] u)
+comes_to_settle program p ds v q u none on =
     let settles = ready u.actor.head (Settle ∷ []) in
     record {
-      traces = with_duties code p q ds settles _ v (to_settle [] u) (sym (settles_alone u.actor.head))
-          (traces_behind code p q q ds settles settles v u (to_settle [] u)
-          (with_agenda code p ds v q u [] none on)
-          (quietly code q settles u (to_settle [] u) refl refl refl refl));
+      traces = with_duties program p q ds settles _ v (to_settle [] u) (sym (settles_alone u.actor.head))
+          (traces_behind program p q q ds settles settles v u (to_settle [] u)
+          (with_agenda program p ds v q u [] none on)
+          (quietly program q settles u (to_settle [] u) refl refl refl refl));
       off = ready_off u.actor.head (Settle ∷ []) refl;
     }

@@ -11,7 +11,7 @@ use crate::dispatch::Start;
 use crate::thread::Thread;
 use brc_effect::rows::{block_size, row_at};
 use brc_lang::Variable;
-use brc_model::{Duty, Holding, Layout};
+use brc_model::{Duty, Layout};
 
 /// Begins the birth of an object of the kind word in the variable. If the thread has no row left, it empties the
 /// variable and goes on at `otherwise`.
@@ -37,10 +37,7 @@ pub(super) fn birth(
             thread.go_to(left, next);
             *start = Start::Doing(Duty::BirthKind {
                 row,
-                holding: Holding::ByVariable {
-                    depth: 0,
-                    variable: to,
-                },
+                holding: thread.holding(to),
                 word,
             });
         }

@@ -15,7 +15,7 @@ use crate::host_call::HostCall;
 use crate::thread::{Mode, Thread};
 use brc_effect::rows::{block_size, row_at};
 use brc_lang::{Instr, Variable};
-use brc_model::{Duty, Exit, Holding, Layout, Stage};
+use brc_model::{Duty, Exit, Layout, Stage};
 use brc_word::kind_word;
 use brc_word::values::{FILE, NUM, SOCK};
 
@@ -238,10 +238,7 @@ fn give_birth(
     thread.go_to(left, next);
     *start = Start::Doing(Duty::BirthKind {
         row,
-        holding: Holding::ByVariable {
-            depth: 0,
-            variable: to,
-        },
+        holding: thread.holding(to),
         word,
     });
 }

@@ -220,10 +220,7 @@ pub(super) fn retain_found(instr: Instr, item: u32, thread: &mut Thread, start: 
             thread.go_to(left, next);
             *start = Start::Doing(Duty::RetainLoad {
                 row: item,
-                holding: Holding::ByVariable {
-                    depth: 0,
-                    variable: to,
-                },
+                holding: thread.holding(to),
             });
         }
         _ => *start = Start::Stuck,
@@ -250,17 +247,7 @@ fn set(
         (Some(row), Some(item)) => {
             thread.set(from, None);
             thread.go_to(left, next);
-            swap(
-                row,
-                index,
-                item,
-                Holding::ByVariable {
-                    depth: 0,
-                    variable: from,
-                },
-                thread,
-                start,
-            );
+            swap(row, index, item, thread.holding(from), thread, start);
         }
         _ => *start = Start::Stuck,
     }

@@ -1,6 +1,6 @@
 //! The dispatch of the instructions that make, hand on or give up a reference.
 
-ghost use Rattle.std.specs.Prelude.{◌≡◌, ℕ, ◌+◌, ◌≤◌, Some, [], ◌∷◌, vec_len, vec_capacity};
+ghost use Rattle.std.specs.Prelude.{◌≡◌, ℕ, ◌+◌, ◌≤◌, Some, [], ◌∷◌, length, vec_len, vec_capacity};
 ghost use Rattle.brc_lang.specs.declared.module.Instr.TheVariants as instructions;
 ghost use Rattle.brc_model.specs.declared.duty.Duty.TheVariants.{ReleaseLoad, Settle};
 ghost use Rattle.brc_model.specs.declared.duty.Holding.TheVariants.{ByVariable};
@@ -12,7 +12,7 @@ use crate::dispatch::Start;
 use crate::thread::Thread;
 use brc_effect::rows::NONE_ROW;
 use brc_lang::Variable;
-use brc_model::{Duty, Holding};
+use brc_model::Duty;
 
 /// Begins `none`: the variable names the object none.
 #[inline(always)]
@@ -47,10 +47,7 @@ pub(super) fn name_again(
             thread.go_to(left, next);
             *start = Start::Doing(Duty::RetainLoad {
                 row,
-                holding: Holding::ByVariable {
-                    depth: 0,
-                    variable: to,
-                },
+                holding: thread.holding(to),
             });
         }
         None => *start = Start::Stuck,
@@ -100,36 +97,17 @@ pub(super) fn give_up(from: Variable, thread: &mut Thread, left: u32, start: &mu
     }
 }
 
-/// Begins `ret`: the call ends, and the release of what it returns begins.
-#[inline(always)]
-pub(super) fn return_object(from: Variable, thread: &mut Thread, left: u32, start: &mut Start)
-    requires { CanDispatch thread.old }
-    ensures { (layout : Layout) (t : ℕ) → HasDispatched thread.old (action_at layout t left
-        (Some (instructions.Ret from)) thread.old) start.new thread.new }
-{
-    match thread.row_of(from) {
-        Some(row) => {
-            thread.rest(left);
-            release(row, from, thread, start);
-        }
-        None => *start = Start::Stuck,
-    }
-}
-
 /// Begins the release of the variable's reference to the row's object. The thread deallocates its dying chain next.
 pub(super) fn release(row: u32, from: Variable, thread: &mut Thread, start: &mut Start)
     requires empty { thread.old.agenda.items ≡ [] }
     requires room { 8 ≤ vec_capacity thread.old.agenda }
-    ensures starts { start.new ≡ Start.Doing (ReleaseLoad row (ByVariable 0 from)) }
+    ensures starts { start.new ≡ Start.Doing (ReleaseLoad row (ByVariable (length thread.old.outer) from)) }
     ensures actor { actor_of thread.new ≡ with_agenda (actor_of thread.old) (Settle ∷ []) }
     ensures room { vec_len thread.new.agenda + 4 ≤ vec_capacity thread.new.agenda }
 {
     thread.agenda.push_reserved(Duty::Settle);
     *start = Start::Doing(Duty::ReleaseLoad {
         row,
-        holding: Holding::ByVariable {
-            depth: 0,
-            variable: from,
-        },
+        holding: thread.holding(from),
     });
 }

@@ -3,7 +3,7 @@ use Rattle.std.specs.List.{AllByRecursion}
 use Rattle.std.proofs.lemmas.Option.{slice_get_read}
 use Rattle.std.proofs.lemmas.Result.{err_from_is_err_and}
 use Rattle.brc_lang.specs.declared.module.Function.{Function}
-use Rattle.brc_model.specs.Paths.{IsAcceptableCode}
+use Rattle.brc_model.specs.Paths.{IsAcceptableFunction}
 use Rattle.brc_check.specs.declared.kept_entry.KeptEntry.{KeptEntry}
 use Rattle.brc_check.specs.Refusal.{IsRefusal}
 use Rattle.brc_check.specs.Tables.{IsTrueTable}
@@ -26,7 +26,7 @@ returns-in_err-kept-clause-complete c =
     λ accepted. rw (p.1, p.2) (for_memory c.as_slice-function-items.result.now c.loop-function.function-index
     c.function-item.result c.in_err-kept.field-0.0 c.loop-function-test.true c.function-item.is
     c.in_err-kept.ensures
-    (subst (AllByRecursion (λ (f : Function). IsAcceptableCode f.code)) (sym c.as_slice-function-items.ensures)
+    (subst (AllByRecursion IsAcceptableFunction) (sym c.as_slice-function-items.ensures)
     accepted))
 
 pub loop-function-preserved : goal.loop-function-preserved

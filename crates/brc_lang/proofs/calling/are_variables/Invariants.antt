@@ -1,5 +1,5 @@
 use Rattle.std.proofs.Common.{map, take}
-use Rattle.brc_lang.specs.Fault.{variables_in, IsOk}
+use Rattle.brc_lang.specs.InstructionWords.{variables_in, IsOk}
 use Rattle.brc_lang.proofs.calling.are_variables.Given as goal
 
 abbrev pub invariant-loop-word : goal.invariant-loop-word

@@ -1,5 +1,5 @@
 use Rattle.std.proofs.Common.{sym, ap, ◌∙◌}
-use Rattle.brc_lang.specs.Fault.{instruction_in}
+use Rattle.brc_lang.specs.InstructionWords.{instruction_in}
 use Rattle.brc_lang.proofs.instruction.instruction.Goals as goal
 
 pub returns-in-None : goal.returns-in-None

@@ -24,3 +24,6 @@ returns-clause-few_in_all c = within.few_in_all
 
 pub returns-clause-workers : goal.returns-clause-workers
 returns-clause-workers c = within.workers_are
+
+pub returns-clause-few_calls : goal.returns-clause-few_calls
+returns-clause-few_calls c = within.few_calls

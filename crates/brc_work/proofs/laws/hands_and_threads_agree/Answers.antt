@@ -13,3 +13,6 @@ returns-clause-alone c = automata.threads_alone_as_hands
 
 pub returns-clause-stops : goal.returns-clause-stops
 returns-clause-stops c = automata.hands_stop_as_threads
+
+pub returns-clause-outer : goal.returns-clause-outer
+returns-clause-outer c = automata.outer_give_up_alike

@@ -1,11 +1,10 @@
 use Rattle.std.proofs.Common.{◌≡◌, Bool, refl, sym, ap, ◌∙◌, subst, rules, arith}
-use Rattle.std.specs.Prelude.{slice_get}
 use Rattle.brc_host.specs.HostCounts.{raised}
-use Rattle.brc_model.specs.Threads.{code_of}
 use Rattle.brc_queue.specs.Scans.{HasLeft}
 use Rattle.brc_table.specs.declared.view.View.{View}
 use Rattle.brc_table.specs.Views.{worker_view}
 use Rattle.brc_work.specs.Runs.{RanBy}
+use Rattle.brc_work.specs.Traces.{program_of}
 use Rattle.brc_work.specs.Totals.{Asked, no_totals, totals_of, is_done}
 use Rattle.brc_work.specs.Workers.{CallsAndLeaves}
 use Rattle.brc_work.specs.declared.totals.Totals.{Totals}
@@ -24,7 +23,7 @@ returns g c =
     let left = c.leave-failed.ensures in
     let mid = c.run-ran.new.hand.view in
     let after = c.leave-failed.new.hand.view in
-    let code = code_of (slice_get c.args.checked.now.module.functions c.args.function) in
+    let program = program_of c.args.checked.now.module c.args.function in
     let none : c.args.hand.now.view.actor.used ≡ 0 = ap (λ (v : View). v.actor.used) c.requires.fresh.view_is in
     let bears = run.created in
     let used = left.used in
@@ -53,21 +52,21 @@ returns g c =
         first = c.args.host.now;
         later = c.leave-failed.new.host;
         asked = subst (λ (t : Totals). Asked g.H.Host.answers g.H.Host.counts c.args.host.now c.leave-failed.new.host
-            no_totals t (λ calls. CallsAndLeaves code c.args.times c.args.steps (is_done c.with_totals.result) calls
+            no_totals t (λ calls. CallsAndLeaves program c.args.times c.args.steps (is_done c.with_totals.result) calls
             (worker_view c.args.heap.now.layout thread) after)) (sym totals)
             (asked_then (λ cs ds makes leaves. record {
               called = mid;
               within = cs;
               closes = ds;
               calls_are = refl;
-              ran = subst (λ (b : Bool). RanBy code c.args.times c.args.steps b cs
+              ran = subst (λ (b : Bool). RanBy program c.args.times c.args.steps b cs
                   (worker_view c.args.heap.now.layout thread) mid) (sym done)
-                  (subst (λ (v : View). RanBy code c.args.times c.args.steps (is_done c.run-ran.result) cs v mid)
+                  (subst (λ (v : View). RanBy program c.args.times c.args.steps (is_done c.run-ran.result) cs v mid)
                   c.requires.fresh.view_is makes);
               leaves = leaves;
             }) run.asked
             (asked_closes {Made = λ ds. HasLeft ds mid after} left.work.0 faults
             (leaves_close _ _ left.work.0 left.work.1) left.work.2 counts left.work.3 left.work.1));
-        unbounded = λ greatest. done ∙ run.unbounded greatest;
+        unbounded = λ enough. done ∙ run.unbounded enough;
       };
     }

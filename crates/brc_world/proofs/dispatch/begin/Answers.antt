@@ -38,3 +38,12 @@ returns-in-Write c =
 
 pub returns-in-Ret : goal.returns-in-Ret
 returns-in-Ret c = rw c.in-Ret.is (c.return_object.ensures c.args.layout c.args.number)
+
+pub returns-in-Fail : goal.returns-in-Fail
+returns-in-Fail c = rw c.in-Fail.is (c.fail.ensures c.args.layout c.args.number)
+
+pub returns-in-Call : goal.returns-in-Call
+returns-in-Call c = rw c.in-Call.is c.call.ensures
+
+pub call-requires : goal.call-requires
+call-requires c = record { can = c.requires.can; few = rw c.in-Call.is at c.requires.few }

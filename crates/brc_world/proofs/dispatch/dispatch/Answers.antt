@@ -1,58 +1,28 @@
 -- An idle thread with calls left dispatches the first instruction of its next call.
-use Rattle.std.proofs.Common.{◌≡◌, ◌-◌, [], ap, ◌∙◌, reverse}
-use Rattle.std.specs.Prelude.{slice_get}
-use Rattle.brc_model.specs.declared.actor.Place.TheVariants.{Idle}
-use Rattle.brc_model.specs.Threads.{code_of}
-use Rattle.brc_model.specs.Actions as model
-use Rattle.brc_model.specs.Actions.{StepActor, first_context}
-use Rattle.brc_world.specs.Actors.{context_in, place_of}
-use Rattle.brc_world.specs.Starts.{start_by, started}
-use Rattle.brc_world.proofs.Calling.{idle_begins}
+use Rattle.std.proofs.Common.{ℕ, ◌≤◌, sym, ap, ◌∙◌, subst}
+use Rattle.std.specs.Prelude.{vec_capacity}
+use Rattle.brc_world.specs.declared.thread.Thread.{Thread}
+use Rattle.brc_world.proofs.Calling.{idle_dispatches, idle_few}
 use Rattle.brc_world.proofs.dispatch.dispatch.Goals as goal
-use Rattle.brc_world.proofs.dispatch.dispatch.Goals.{After-next_instruction-in-Idle}
 
--- The model's thread dispatches that instruction too.
-begins : (c : After-next_instruction-in-Idle)
-    → model.dispatch_instruction c.args.layout c.args.number c.args.thread.now.used (Idle c.args.thread.now.left)
-    (first_context (c.args.thread.now.left - 1)) 0 c.entry_variables-thread.result
-    (slice_get (code_of (slice_get c.args.functions.now c.args.thread.now.function)) 0)
-    ≡ model.dispatch c.args.layout c.args.number c.args.thread.now.used
-    (code_of (slice_get c.args.functions.now c.args.thread.now.function))
-    (place_of c.args.thread.now.mode (context_in c.args.thread.now.left c.args.thread.now) c.args.thread.now.at
-    c.args.thread.now.variables)
-begins c =
-    let code = code_of (slice_get c.args.functions.now c.args.thread.now.function) in
-    rw (c.entry_variables-thread.ensures, c.in-Idle.is)
-    (idle_begins c.args.layout c.args.number c.args.thread.now.used c.args.thread.now.left code
-    c.if-thread-eq0.false)
+pub next_instruction-requires-in-Idle-clause-empty : goal.next_instruction-requires-in-Idle-clause-empty
+next_instruction-requires-in-Idle-clause-empty c =
+    ap (λ (t : Thread). t.agenda.items) c.begin_call.ensures ∙ c.requires.empty
 
--- the model's thread before the call
-abbrev idle : (c : After-next_instruction-in-Idle) → StepActor
-idle c = record {
-  function = c.args.thread.now.function;
-  place = Idle c.args.thread.now.left;
-  actor = record {
-    status = c.args.thread.now.status;
-    agenda = reverse c.args.thread.now.agenda.items;
-    aside = [];
-    head = c.args.thread.now.head;
-    used = c.args.thread.now.used;
-    locked = c.args.thread.now.locked;
-    lent = c.args.thread.now.lent;
-  };
-}
+pub next_instruction-requires-in-Idle-clause-room : goal.next_instruction-requires-in-Idle-clause-room
+next_instruction-requires-in-Idle-clause-room c =
+    subst (λ (n : ℕ). 8 ≤ n) (sym (ap (λ (t : Thread). vec_capacity t.agenda) c.begin_call.ensures)) c.requires.room
+
+pub next_instruction-requires-in-Idle-clause-few : goal.next_instruction-requires-in-Idle-clause-few
+next_instruction-requires-in-Idle-clause-few c =
+    idle_few c.args.functions.now c.args.layout c.args.number c.args.thread.now c.in-Idle.is c.if-thread-eq0.false
+    c.begin_call.new.self _ c.begin_call.ensures (search) c.requires.few
 
 pub returns-else-thread-eq0 : goal.returns-else-thread-eq0
 returns-else-thread-eq0 c =
-    let next = c.next_instruction-in-Idle.ensures in
-    record {
-      starts = (rw c.in-Idle.is at next.starts) ∙ ap start_by (begins c);
-      question = next.question;
-      actor = λ exit found.
-          (rw c.in-Idle.is at (next.actor exit found))
-          ∙ (rw c.in-Idle.is (ap (λ x. started (idle c) x exit found) (rw c.in-Idle.is at (begins c))));
-      room = next.room;
-    }
+    idle_dispatches c.args.functions.now c.args.layout c.args.number c.args.thread.now c.in-Idle.is
+    c.if-thread-eq0.false c.begin_call.new.self c.next_instruction-in-Idle.new.thread
+    c.next_instruction-in-Idle.new.start _ c.begin_call.ensures (search) c.next_instruction-in-Idle.ensures
 
 -- With no call left it dispatches its exit.
 pub returns-then-thread-eq0 : goal.returns-then-thread-eq0

@@ -1,9 +1,9 @@
 -- The step is that of what the thread dispatches.
-use Rattle.std.proofs.Common.{◌≡◌, ℕ, length, Some, refl, ap, ◌∙◌, subst}
+use Rattle.std.proofs.Common.{◌≡◌, ℕ, [], length, Some, refl, ap, ◌∙◌, subst, reverse}
 use Rattle.brc_model.specs.declared.duty.Duty.{Duty}
 use Rattle.brc_model.specs.declared.duty.Duty.TheVariants.{LockGate}
 use Rattle.brc_world.proofs.Starting.{duty_of, entering}
-use Rattle.brc_world.proofs.Acting.{HasStarted, dispatched, stuck_step, moved_step, called_step, duty_step, goes_on, can_do, answerable}
+use Rattle.brc_world.proofs.Acting.{agenda_few, HasStarted, dispatched, stuck_step, moved_step, called_step, duty_step, goes_on, can_do, answerable}
 use Rattle.brc_world.specs.declared.dispatch.Start.{Start}
 use Rattle.brc_world.specs.declared.dispatch.Start.TheVariants as starts
 use Rattle.brc_model.specs.StepMachine.{at_place}
@@ -12,6 +12,17 @@ use Rattle.brc_world.specs.Actors.{actor_of, actor_after, CanDo}
 use Rattle.brc_world.specs.Starts.{place_after}
 use Rattle.brc_world.proofs.doing.act_by_dispatch.Goals.{After-dispatch}
 use Rattle.brc_world.proofs.doing.act_by_dispatch.Goals as goal
+
+-- What the thread dispatches opens few calls.
+pub dispatch-requires : goal.dispatch-requires
+dispatch-requires c = record {
+  empty = c.requires.empty;
+  room = c.requires.room;
+  few =
+      rw c.layout.ensures
+      (agenda_few c.args.functions.now c.args.blocks c.args.number _ (word_in c.args.memory.now)
+      (actor_of c.args.thread.now) [] c.requires.alive (ap reverse c.requires.empty) c.requires.can);
+}
 
 -- The thread has started its step so.
 begun : (c : After-dispatch) (start : Start) → c.dispatch.new.start ≡ start
@@ -113,7 +124,7 @@ returns-in-Doing c =
       actor =
           goes_on start c.args.exit c.do_duty.result before c.do_duty.new.thread
           (actor_after c.args.blocks c.args.number (word_in c.args.memory.now) (actor_of before) c.in-Doing.duty)
-          duty.actor duty.mode duty.calls duty.turns duty.point duty.variables
+          duty.actor duty.mode duty.calls duty.turns duty.outer duty.point duty.variables
           ∙ step.actor;
       faults = c.count_duty.ensures ∙ step.faults c.args.faults.now;
       as_many_rows = duty.word.rows;
@@ -161,7 +172,7 @@ returns-in-Asking c =
       words = duty.word.words ∙ step.memory_is;
       actor = c.answer.ensures
           ∙ goes_on start c.args.exit c.do_duty-found.result before c.do_duty-found.new.thread done duty.actor duty.mode
-          duty.calls duty.turns duty.point duty.variables
+          duty.calls duty.turns duty.outer duty.point duty.variables
           ∙ ap (λ (found : ℕ). at_place done (place_after start c.args.exit found before)) duty.found
           ∙ step.actor;
       faults = c.count_duty-in-Asking.ensures ∙ step.faults c.args.faults.now;
@@ -204,7 +215,7 @@ returns-in-Locking c =
       words = duty.word.words ∙ step.memory_is;
       actor = c.enter.ensures.actor
           ∙ goes_on start c.args.exit c.do_duty-found-in-Locking.result before c.do_duty-found-in-Locking.new.thread
-          done duty.actor duty.mode duty.calls duty.turns duty.point duty.variables
+          done duty.actor duty.mode duty.calls duty.turns duty.outer duty.point duty.variables
           ∙ ap (λ (found : ℕ). at_place done (place_after start c.args.exit found before)) duty.found
           ∙ step.actor;
       faults = step.faults c.args.faults.now;

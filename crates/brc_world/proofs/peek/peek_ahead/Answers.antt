@@ -1,15 +1,30 @@
 -- The copy's step starts with the thread's action.
-use Rattle.std.proofs.Common.{◌≡◌, Some, ap, ◌∙◌}
+use Rattle.std.proofs.Common.{◌≡◌, Some, refl, sym, ap, ◌∙◌, subst}
 use Rattle.brc_model.specs.Actions.{StepActor}
+use Rattle.brc_model.specs.Dispatch.{agenda_action}
 use Rattle.brc_world.specs.declared.dispatch.Start.TheVariants.{Doing, Asking}
-use Rattle.brc_world.specs.Actors.{actor_of}
+use Rattle.brc_world.specs.Actors.{actor_of, OpensFew}
 use Rattle.brc_world.specs.Starts.{first_start}
 use Rattle.brc_world.specs.Storage.{word_in}
+use Rattle.brc_world.proofs.Acting.{agenda_few}
 use Rattle.brc_world.proofs.Peeking.{start_seen, start_can}
 use Rattle.brc_world.proofs.peek.peek_ahead.Goals.{In-Doing, In-Asking}
 use Rattle.brc_world.proofs.peek.peek_ahead.Goals as goal
 
--- The copy is as the thread, so that the thread's step starts with the same duty,
+-- The copy is as the thread, so it has room for the same call,
+pub first_duty-requires : goal.first_duty-requires
+first_duty-requires c =
+    let acts = λ (a : StepActor). agenda_action c.args.functions.now c.args.blocks c.args.number a a.actor.agenda in
+    record {
+      room = c.in_ok-copy_thread.ensures.room;
+      few =
+          rw c.layout-layout.ensures
+          (subst (λ (a : StepActor). OpensFew (acts a)) (sym c.in_ok-copy_thread.ensures.actor)
+          (agenda_few c.args.functions.now c.args.blocks c.args.number _ (word_in c.args.memory.now)
+          (actor_of c.args.thread.now) _ c.in_default.not-Gone refl c.requires.can));
+    }
+
+-- and the thread's step starts with the same duty,
 starts_doing : (c : In-Doing) → Doing c.in-Doing.duty ≡ first_start c.args.functions.now c.args.blocks c.args.number
     (actor_of c.args.thread.now) (actor_of c.args.thread.now).actor.agenda
 starts_doing c =

@@ -1,16 +1,12 @@
-use Rattle.std.proofs.Common.{◌≡◌, ℕ, suc, ◌+◌, List, [], Option, sym, ap, ◌∙◌, subst, arith}
-use Rattle.brc_free.proofs.Working.{works_close}
-use Rattle.brc_free.specs.Works.{ComesToSettle, AtOnce}
-use Rattle.brc_table.specs.Hands.{TableState, HandState, IsOf}
+use Rattle.std.proofs.Common.{◌≡◌, ℕ, suc, ◌+◌, List, Option, sym, ◌∙◌, subst, arith}
+use Rattle.brc_table.specs.Hands.{HandState}
 use Rattle.brc_model.specs.VarStates.{put}
 use Rattle.brc_model.specs.declared.state.VarState.TheVariants.{Empty}
 use Rattle.brc_work.specs.Changes.{CanGive}
 use Rattle.brc_work.specs.Stopping.{GoesChained, Loosens}
-use Rattle.brc_work.proofs.Counting.{asked_closes}
 use Rattle.brc_work.proofs.GivingUp.{HaveGiven, none_given, can_loosen, one_given, none_more, all_returned, all_made}
 use Rattle.brc_work.proofs.Stopping.{emptied}
-use Rattle.brc_work.proofs.worker.Worker.give_up_owned.Given as given
-use Rattle.brc_work.proofs.worker.Worker.give_up_owned.Goals.{then-is_owned, else-is_owned, After-settle-arg-2-1}
+use Rattle.brc_work.proofs.worker.Worker.give_up_owned.Goals.{then-is_owned, else-is_owned}
 use Rattle.brc_work.proofs.worker.Worker.give_up_owned.Goals as goal
 
 one_more : (k : ℕ) → suc k ≡ k + 1
@@ -66,41 +62,18 @@ loop-number-preserved g c =
           (sym c.is_owned.ensures ∙ w.if-is_owned.false)))
     ])
 
-comes : (g : given.Over) (c : After-settle-arg-2-1 g) → ComesToSettle c.loop-number.hand.view []
-comes g c =
-    let is = c.requires.fits in
-    let now = c.loop-number.invariant.1 is.base is.state is.fits is.can_do in
-    AtOnce now.rests.running now.rests.aside now.rests.agenda
-
-pub settle-failed-requires-clause-table : goal.settle-failed-requires-clause-table
-settle-failed-requires-clause-table g c κs within =
-    subst (λ (w : TableState). IsOf w c.loop-number.hand) (sym (c.new-finaliser.ensures ∙ c.self.view_is))
-    c.loop-number.invariant.0
-
-pub settle-failed-requires-clause-duty : goal.settle-failed-requires-clause-duty
-settle-failed-requires-clause-duty g c κs within = ([], comes g c)
-
 pub returns-clause-returned : goal.returns-clause-returned
 returns-clause-returned g c = λ base s fits alike.
-    let work = c.settle-failed.ensures.work [] (comes g (goal.at.returns-clause-returned g c).After-settle-arg-2-1) in
     let all : c.loop-number.number ≡ 16 = omega arith in
     all_returned c.args.self.now c.args.state.now c.args.rows.now c.args.hand.now c.requires.fits c.loop-number.rows
-    c.loop-number.hand c.settle-failed.new.hand
+    c.loop-number.hand
     (subst (λ (n : ℕ). HaveGiven c.args.self.now c.args.state.now c.args.rows.now c.args.hand.now n c.loop-number.rows
-    c.loop-number.hand) all c.loop-number.invariant)
-    work.0 work.1 c.settle-failed.ensures.chain
-    (c.settle-failed.ensures.table.0
-    ∙ (ap (λ (w : TableState). w.table) (c.new-finaliser.ensures ∙ c.self.view_is) ∙ sym c.loop-number.invariant.0.0))
-    c.settle-failed.ensures.carried c.settle-failed.ensures.slots base s fits alike
+    c.loop-number.hand) all c.loop-number.invariant) base s fits alike
 
-pub returns-clause-asked : goal.returns-clause-asked
-returns-clause-asked g c =
-    let work = c.settle-failed.ensures.work [] (comes g (goal.at.returns-clause-asked g c).After-settle-arg-2-1) in
+pub returns-clause-made : goal.returns-clause-made
+returns-clause-made g c =
     let all : c.loop-number.number ≡ 16 = omega arith in
-    asked_closes work.0 c.settle-failed.result (works_close _ _ work.0 work.1.works) work.2 c.count_close_faults.ensures
-    work.3
-    (all_made c.args.self.now c.args.state.now c.args.rows.now c.args.hand.now c.requires.fits c.loop-number.rows
-    c.loop-number.hand c.settle-failed.new.hand
+    all_made c.args.self.now c.args.state.now c.args.rows.now c.args.hand.now c.requires.fits c.loop-number.rows
+    c.loop-number.hand
     (subst (λ (n : ℕ). HaveGiven c.args.self.now c.args.state.now c.args.rows.now c.args.hand.now n c.loop-number.rows
     c.loop-number.hand) all c.loop-number.invariant)
-    work.0 work.1 c.settle-failed.ensures.chain)

@@ -10,11 +10,11 @@ returns-clause-called g c =
     let hand = c.args.hand.now in
     let mid = c.merge_pending-failed.new.hand in
     let looked = c.merge_pending-failed.ensures in
-    called_then hand mid c.call.new.hand
+    called_then hand mid c.call_from_outside.new.hand
     (looked_called hand mid c.requires.ready looked.keeps looked.free looked.settled
     (looked.table.0 ∙ (ap (λ (w : TableState). w.table) (c.self.invariant ∙ c.self.view_is) ∙ sym c.requires.of.0))
     looked.carried looked.slots)
-    c.call.ensures.called
+    c.call_from_outside.ensures.called
 
 pub returns-clause-asked : goal.returns-clause-asked
 returns-clause-asked g c =
@@ -30,4 +30,4 @@ returns-clause-asked g c =
     (asked_closes {Made = λ cs. HasScanned c.args.hand.now.view (words_used c.args.hand.now.view.actor.used) cs
     c.merge_pending-failed.new.hand.view} work.0 c.merge_pending-failed.result (looks_close _ _ _ work.0 work.1) work.2
     c.count_close_faults.ensures work.3 work.1)
-    c.call.ensures.asked
+    c.call_from_outside.ensures.asked

@@ -1,9 +1,7 @@
 use Rattle.std.proofs.Common.{ℕ, ◌+◌, Bool, List, ◌++◌, sym, subst, arith}
-use Rattle.std.specs.Prelude.{slice_get}
 use Rattle.brc_host.specs.HostCalls.{HostCall}
-use Rattle.brc_model.specs.Threads.{code_of}
 use Rattle.brc_work.specs.Runs.{CallsOnce, StopsBy, Between, Within}
-use Rattle.brc_work.specs.Traces.{MakesCalls, NoCall, OneMore}
+use Rattle.brc_work.specs.Traces.{program_of, MakesCalls, NoCall, OneMore}
 use Rattle.brc_work.proofs.Calling.{not_called, called_then, called_ready}
 use Rattle.brc_work.proofs.Counting.{asked_nothing, asked_as, asked_then}
 use Rattle.brc_work.proofs.worker.Worker.make_calls.Goals as goal
@@ -17,10 +15,10 @@ loop-call-init g c = (
 
 pub returns-then-left-eq0-clause-asked : goal.returns-then-left-eq0-clause-asked
 returns-then-left-eq0-clause-asked g c =
-    let code = code_of (slice_get c.args.checked.now.module.functions c.args.function) in
+    let program = program_of c.args.checked.now.module c.args.function in
     asked_as (λ cs made.
     Between c.loop-call.call cs c.loop-call.hand.view c.loop-call-test.true
-    (subst (λ (n : ℕ). MakesCalls code c.args.hand.now.view c.loop-call.call n cs c.loop-call.hand.view)
+    (subst (λ (n : ℕ). MakesCalls program c.args.hand.now.view c.loop-call.call n cs c.loop-call.hand.view)
     (omega (arith, made.1, c.if-left-eq0.true)) made.2)) c.loop-call.invariant.2
 
 pub look_and_call-requires-clause-ready : goal.look_and_call-requires-clause-ready
@@ -29,21 +27,21 @@ look_and_call-requires-clause-ready g c = λ κs lives.
 
 pub returns-then-not-look_and_call-clause-asked : goal.returns-then-not-look_and_call-clause-asked
 returns-then-not-look_and_call-clause-asked g c =
-    let code = code_of (slice_get c.args.checked.now.module.functions c.args.function) in
+    let program = program_of c.args.checked.now.module c.args.function in
     let v = c.args.hand.now.view in
     let u = c.loop-call.hand.view in
     let w = c.look_and_call.new.hand.view in
     asked_then (λ cs ds made looks.
-    subst (λ (es : List HostCall). StopsBy code c.args.times c.args.steps v (cs ++ es) w) (sym looks.calls_are)
+    subst (λ (es : List HostCall). StopsBy program c.args.times c.args.steps v (cs ++ es) w) (sym looks.calls_are)
     (Within c.loop-call.call made.0 c.loop-call.left cs looks.closes looks.within u looks.looked w
     c.loop-call-test.true made.2 looks.looks made.1
-    (subst (λ (b : Bool). CallsOnce code c.loop-call.left c.look_and_call.new.left b looks.within looks.looked w)
+    (subst (λ (b : Bool). CallsOnce program c.loop-call.left c.look_and_call.new.left b looks.within looks.looked w)
     c.if-not-look_and_call.true looks.called)))
     c.loop-call.invariant.2 c.look_and_call.ensures.asked
 
 pub loop-call-preserved : goal.loop-call-preserved
 loop-call-preserved g c =
-    let code = code_of (slice_get c.args.checked.now.module.functions c.args.function) in
+    let program = program_of c.args.checked.now.module c.args.function in
     let v = c.args.hand.now.view in
     let u = c.loop-call.hand.view in
     let w = c.look_and_call.new.hand.view in (
@@ -52,12 +50,13 @@ loop-call-preserved g c =
           c.look_and_call.ensures.called,
       asked_then (λ cs ds made looks.
           let ended =
-          subst (λ (b : Bool). CallsOnce code c.loop-call.left c.look_and_call.new.left b looks.within looks.looked w)
+          subst (λ (b : Bool). CallsOnce program c.loop-call.left c.look_and_call.new.left b looks.within looks.looked
+          w)
           c.if-not-look_and_call.false looks.called in (
             made.0 + ended.0,
             omega (arith, made.1, ended.1),
             subst (λ (es : List HostCall).
-                MakesCalls code v (c.loop-call.call + 1) (made.0 + ended.0) (cs ++ es) w) (sym looks.calls_are)
+                MakesCalls program v (c.loop-call.call + 1) (made.0 + ended.0) (cs ++ es) w) (sym looks.calls_are)
                 (OneMore c.loop-call.call made.0 ended.0 cs looks.closes looks.within u looks.looked w made.2
                 looks.looks ended.2),
           )) c.loop-call.invariant.2 c.look_and_call.ensures.asked,

@@ -1,12 +1,11 @@
-use Rattle.std.proofs.Common.{[], ◌∷◌, sym, subst}
-use Rattle.brc_model.specs.declared.actor.Place.TheVariants.{Idle}
+use Rattle.std.proofs.Common.{◌∷◌, sym, subst}
 use Rattle.brc_model.specs.declared.state.State.{State}
 use Rattle.brc_model.specs.Stops.{row_locked, owned_rows, stopping}
-use Rattle.brc_work.specs.Fits.{Fits}
-use Rattle.brc_work.proofs.Counting.{asked_as}
-use Rattle.brc_work.proofs.GivingUp.{IsUnlocked, unlocked_now, unlocked_already, no_lock_left}
-use Rattle.brc_work.proofs.Traces.Joining.{traces_then}
-use Rattle.brc_work.proofs.Traces.Stops.{place_of}
+use Rattle.brc_table.specs.Hands.{HandState}
+use Rattle.brc_work.specs.Fits.{Base, Fits}
+use Rattle.brc_work.specs.Stopping.{unchained}
+use Rattle.brc_work.proofs.GivingUp.{IsUnlocked, as_unchained, unlocked_now, unlocked_already, no_lock_left}
+use Rattle.brc_work.proofs.Traces.Stops.{gives_up_first}
 use Rattle.brc_work.proofs.worker.Worker.stop.Given as given
 use Rattle.brc_work.proofs.worker.Worker.stop.Goals.{in-Some, in_default, Joined-state}
 use Rattle.brc_work.proofs.worker.Worker.stop.Goals as goal
@@ -30,30 +29,56 @@ unlocked g c =
           c.requires.fits.of)
     ]
 
-pub give_up_owned-requires-clause-fits : goal.give_up_owned-requires-clause-fits
-give_up_owned-requires-clause-fits g c κs within =
+-- Variables and hand fit the state without the lock, whatever the call stands on.
+left_fits : (g : given.Over) (c : Joined-state g) (base : Base)
+    → Fits base c.args.state.now c.args.rows.now c.args.hand.now
+    → Fits base (unlocked g c).left c.args.rows.now c.match-state.hand
+left_fits g c base fits = (unlocked g c).fits base fits
+
+left_unchained : (g : given.Over) (c : Joined-state g) (base : Base)
+    → Fits base c.args.state.now c.args.rows.now c.args.hand.now
+    → Fits base (unlocked g c).left c.args.rows.now (unchained c.match-state.hand)
+left_unchained g c base fits =
+    let now = left_fits g c base fits in
+    subst (λ (h : HandState). Fits base (unlocked g c).left c.args.rows.now h)
+    (as_unchained c.match-state.hand now.rests.settled) now
+
+-- They do so in the state that the caller knows.
+known_fits : (g : given.Over) (c : Joined-state g)
+    → Fits c.requires.fits.base c.args.state.now c.args.rows.now c.args.hand.now
+known_fits g c =
     let is = c.requires.fits in
-    let free = unlocked g (goal.at.give_up_owned-requires-clause-fits g c).Joined-state in
+    subst (λ (s : State). Fits is.base s c.args.rows.now c.args.hand.now) is.can_do is.fits
+
+pub give_up_owned-requires : goal.give_up_owned-requires
+give_up_owned-requires g c =
+    let here = (goal.at.give_up_owned-requires g c).Joined-state in
+    let free = unlocked g here in
     record {
-      base = is.base;
-      state = free.left;
-      of = free.of;
-      fits = free.fits is.base (subst (λ (s : State). Fits is.base s c.args.rows.now c.args.hand.now) is.can_do
-          is.fits);
-      can_do = free.alike;
+      fits = record {
+        base = c.requires.fits.base;
+        state = free.left;
+        of = free.of;
+        fits = left_unchained g here c.requires.fits.base (known_fits g here);
+        can_do = free.alike;
+      };
     }
 
 pub returns-clause-returned : goal.returns-clause-returned
 returns-clause-returned g c = λ base fits.
-    let free = unlocked g (goal.at.returns-clause-returned g c).Joined-state in
-    c.give_up_owned.ensures.returned base free.left (free.fits base fits) free.alike
+    let here = (goal.at.returns-clause-returned g c).Joined-state in
+    let free = unlocked g here in
+    c.give_up_owned.ensures.returned base free.left (left_unchained g here base fits) free.alike
 
-pub returns-clause-asked : goal.returns-clause-asked
-returns-clause-asked g c =
-    let free = unlocked g (goal.at.returns-clause-asked g c).Joined-state in
+pub returns-clause-made : goal.returns-clause-made
+returns-clause-made g c = λ program outer.
+    let here = (goal.at.returns-clause-made g c).Joined-state in
+    let free = unlocked g here in
     let state = c.args.state.now in
     let rows = c.args.rows.now in
-    asked_as (λ cs made code.
-    traces_then code (stopping (row_locked state.locked rows) (owned_rows state.vars rows ∷ []))
-    (place_of state.vars rows) (Idle 0) [] [] [] c.args.hand.now.view c.match-state.hand.view
-    c.give_up_owned.new.hand.view (free.made code) (made code)) c.give_up_owned.ensures.asked
+    let calls = owned_rows state.vars rows ∷ outer in
+    let p = stopping (row_locked state.locked rows) calls in
+    let now = left_fits g here c.requires.fits.base (known_fits g here) in
+    c.give_up_owned.ensures.made program p c.args.hand.now.view outer
+    (gives_up_first program c.args.hand.now.view c.match-state.hand.view p calls now.rests.settled
+    (free.made program outer))

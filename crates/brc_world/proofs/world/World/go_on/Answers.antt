@@ -1,7 +1,8 @@
 use Rattle.std.proofs.Common.{◌≡◌, ◌≢◌, false, Some, refl, sym, arith}
 use Rattle.std.specs.Prelude.{slice_get}
 use Rattle.brc_model.specs.declared.actor.Status.TheVariants.{Gone}
-use Rattle.brc_model.specs.Actions.{status_action}
+use Rattle.brc_model.specs.declared.thread.Choice.TheVariants.{Ok}
+use Rattle.brc_model.specs.Dispatch.{status_action}
 use Rattle.brc_world.specs.Actors.{actor_of, memory_by, actor_by, faults_by, waits}
 use Rattle.brc_world.specs.Storage.{word_in}
 use Rattle.brc_world.specs.Worlds.{model_of, choice_of}
@@ -9,7 +10,7 @@ use Rattle.brc_world.proofs.Outcomes.{contents, are_of, Turned, Outcome, outcome
 use Rattle.brc_world.proofs.Answering.{going_answers}
 use Rattle.brc_world.proofs.Waiting.{waits_locked, moves_unless_waiting}
 use Rattle.brc_model.specs.World.{World, step}
-use Rattle.brc_world.proofs.Stepping.{going_on, at_exit, can_go_on}
+use Rattle.brc_world.proofs.Stepping.{going_on, at_exit, StepsOpenFew, can_step}
 use Rattle.brc_world.proofs.world.World.go_on.Goals.{After-index_mut}
 use Rattle.brc_world.proofs.world.World.go_on.Goals as goal
 
@@ -63,10 +64,15 @@ act-requires-clause-known c =
 
 pub act-requires-clause-can : goal.act-requires-clause-can
 act-requires-clause-can c =
-    let steps = c.steps_are_within.ensures _ _ c.args.thread _ c.self.invariant.reachable
-    (here (goal.at.act-requires-clause-can c).After-index_mut) in
+    let place = (goal.at.act-requires-clause-can c).After-index_mut in
+    let steps = c.steps_are_within.ensures _ _ c.args.thread _ c.self.invariant.reachable (here place) in
+    let few : StepsOpenFew (old_world place) c.args.thread = λ choice b.
+    c.worlds_are_small.ensures.few_calls c.self.inside.accepted.now.module
+    (step (old_world place) c.args.thread choice) c.args.thread b
+    (c.worlds_lead_on.ensures.step c.self.inside.accepted.now.module (old_world place) c.args.thread choice
+    c.self.invariant.reachable) in
     rw (c.as_slice.ensures, c.module.ensures.value, c.self.invariant.rows)
-    (can_go_on _ _ (actor_of c.index_mut.result.now) steps)
+    (can_step (old_world place) c.args.thread (actor_of c.index_mut.result.now) Ok (here place) steps few)
 
 -- The world after the step is the model's next world or, if memory was refused, the same world.
 outcome_of : (c : goal.After-self-1)

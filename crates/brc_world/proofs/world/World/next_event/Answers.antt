@@ -1,7 +1,8 @@
 -- The thread's state and the words are a reachable world's, so the step's word is there.
 use Rattle.std.proofs.Common.{◌≡◌, Option, None, IfOk, Result, Ok, Err, sym, ap, ◌∙◌, arith}
 use Rattle.std.specs.Prelude.{slice_get}
-use Rattle.brc_model.specs.Actions.{StepActor, action_of}
+use Rattle.brc_model.specs.Actions.{StepActor}
+use Rattle.brc_model.specs.Dispatch.{action_of}
 use Rattle.brc_model.specs.StepMachine.{of_thread}
 use Rattle.brc_world.specs.declared.event.Sight.{Sight}
 use Rattle.brc_world.specs.declared.no_memory.NoMemory.{NoMemory}
@@ -9,7 +10,8 @@ use Rattle.brc_world.specs.Actors.{actor_of}
 use Rattle.brc_world.specs.Sights.{sight_by}
 use Rattle.brc_world.specs.Worlds.{model_of}
 use Rattle.brc_world.proofs.Outcomes.{contents, are_of, thread_at}
-use Rattle.brc_world.proofs.Stepping.{can_act}
+use Rattle.brc_model.specs.World.{step}
+use Rattle.brc_world.proofs.Stepping.{StepsOpenFew, can_step}
 use Rattle.brc_world.proofs.world.World.next_event.Goals as goal
 
 pub overflow_cast-thread : goal.overflow_cast-thread
@@ -40,9 +42,15 @@ peek-requires-clause-can c =
     let here =
     thread_at c.self.inside.accepted.now c.self.inside.blocks c.self.inside.memory
     c.self.inside.threads.items c.args.thread c.self.inside.faults c.index.result.now c.index.ensures within in
+    let w = model_of (contents c.self.inside.accepted.now c.self.inside.blocks c.self.inside.memory
+    c.self.inside.threads.items c.self.inside.faults) in
     let steps = c.steps_are_within.ensures _ _ c.args.thread _ c.self.invariant.reachable here in
+    let few : StepsOpenFew w c.args.thread = λ choice b.
+    c.worlds_are_small.ensures.few_calls c.self.inside.accepted.now.module (step w c.args.thread choice) c.args.thread b
+    (c.worlds_lead_on.ensures.step c.self.inside.accepted.now.module w c.args.thread choice
+    c.self.invariant.reachable) in
     rw c.self.invariant.rows
-    (can_act _ c.args.thread (actor_of c.index.result.now) _ (steps c.args.choice))
+    (can_step w c.args.thread (actor_of c.index.result.now) c.args.choice here steps few)
 
 found_is : (r : Result (Option Sight) NoMemory) (one other : Option Sight) → one ≡ other → IfOk r (λ sight. sight ≡ one)
     → IfOk r (λ sight. sight ≡ other)

@@ -7,7 +7,7 @@ use Rattle.brc_world.specs.Storage.{word_in}
 use Rattle.brc_world.specs.Worlds.{model_of}
 use Rattle.brc_world.proofs.Outcomes.{contents, Turned, Outcome, outcome, answered, thread_at}
 use Rattle.brc_world.proofs.Answering.{stop_answers}
-use Rattle.brc_world.proofs.Stepping.{stop_is}
+use Rattle.brc_world.proofs.Stepping.{can_stop, stop_is}
 use Rattle.brc_world.proofs.world.World.stop.Goals.{After-index_mut}
 use Rattle.brc_world.proofs.world.World.stop.Goals as goal
 
@@ -25,6 +25,17 @@ here c =
     c.self.inside.threads.items c.args.thread c.self.inside.faults c.index_mut.result.now c.index_mut.ensures.value
     (rw (sym c.self.view_is) at c.requires)
 
+-- The table has a state for each call that waits where the thread may stop.
+pub stop-requires : goal.stop-requires
+stop-requires c =
+    let place = (goal.at.stop-requires c).After-index_mut in
+    let w = old_world place in
+    let a = actor_of c.index_mut.result.now in
+    can_stop w c.args.thread a
+    (λ at context variables may is. c.stops_give_up_what_is_owned.ensures.in_call
+    c.self.inside.accepted.now.module w c.args.thread at a context variables c.self.invariant.reachable (here place) may
+    is)
+
 -- The world after the stop is the model's next world.
 outcome_of : (c : goal.After-self-1)
     → Outcome c.self.inside.accepted.now c.self.inside.blocks c.self.inside.memory c.self.inside.memory
@@ -40,7 +51,7 @@ outcome_of c =
     let after = c.stop.new.thread in
     let f = c.self.inside.faults in
     let w = model_of (contents p layout words threads f) in
-    let next = silently (actor_of before) (action_stopped w.states (actor_of before)) in
+    let next = silently (actor_of before) (action_stopped w.functions w.states (actor_of before)) in
     let turned : Turned words words (actor_of before) (actor_of after) f f (Ok c.stop.result) (word_in words) next f =
     record {
       words = refl;
