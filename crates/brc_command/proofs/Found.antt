@@ -16,7 +16,7 @@ use Rattle.brc_lang.specs.Limits.{function_limit, instruction_limit}
 use Rattle.brc_model.specs.declared.state.Exit.{Exit}
 use Rattle.brc_model.specs.declared.state.State.{State}
 use Rattle.brc_model.specs.Paths.{PathEnd, At, Ended, Reports, arrives, unless_reported, passes, follow}
-use Rattle.brc_model.specs.VarStates.{lowest, after, target, entry}
+use Rattle.brc_model.specs.VarStates.{lowest, after, target, entry_of}
 use Rattle.brc_check.specs.declared.refused.Refused.{Refused as Refusal}
 use Rattle.brc_check.specs.Refusal.{IsReported, IsRefusedFor}
 use Rattle.brc_command.specs.declared.finding.Finding.{Finding}
@@ -143,20 +143,20 @@ inside_path code p [] inside = inside
 inside_path code p (exit ∷ exits) inside =
     inside_path code (follow code p exit) exits (inside_follow code p exit inside)
 
-reported_inside : (code : List Instr) (at : ℕ) (c : CheckCode) → 0 < length code → IsReported code at c
-    → at < length code
-reported_inside code at c some (inl reports) =
-    subst (IsInside code) reports.reports (inside_path code (At 0 entry) reports.exits some)
-reported_inside code at c some (inr differ) =
+reported_inside : (f : Function) (at : ℕ) (c : CheckCode) → 0 < length f.code → IsReported f at c
+    → at < length f.code
+reported_inside f at c some (inl reports) =
+    subst (IsInside f.code) reports.reports (inside_path f.code (At 0 (entry_of f.parameters)) reports.exits some)
+reported_inside f at c some (inr differ) =
     let first = differ.1.first in
-    subst (IsInside code) first.reaches (inside_path code (At 0 entry) first.exits some)
+    subst (IsInside f.code) first.reaches (inside_path f.code (At 0 (entry_of f.parameters)) first.exits some)
 
 pub most_points : (m : Module) (r : Refusal) → IsModule m → IsRefusedFor m.functions r → r.at < instruction_limit
 most_points m r fits refused =
     let at = refused.listed in
     let function : IsFunction refused.function =
     subst IsFunction at.2 (All-from_recursion IsFunction m.functions fits.functions at.0 refused.function at.1) in
-    let inside = reported_inside refused.function.code r.at r.code function.some refused.reported in
+    let inside = reported_inside refused.function r.at r.code function.some refused.reported in
     let most = function.most in
     omega (arith, inside, most)
 

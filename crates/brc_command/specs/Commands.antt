@@ -21,7 +21,7 @@ use Rattle.brc_command.specs.declared.step_fault.StepFault.TheVariants.{Text, Re
 use Rattle.brc_command.specs.declared.stop.Stop.{Stop}
 use Rattle.brc_command.specs.declared.stop.Stop.TheVariants.{UnreadableFile, NoFunction, NoThread, Fault}
 use Rattle.brc_command.specs.Accepted.{accepted_text}
-use Rattle.brc_command.specs.Calls.{has_function, calls_named}
+use Rattle.brc_command.specs.Calls.{can_call, calls_named}
 use Rattle.brc_command.specs.Explanations.{Subject, Code, IsAccepted, IsExplained, LacksNamed, says_anything}
 use Rattle.brc_command.specs.Loading.{ReadsAsModule}
 use Rattle.brc_command.specs.Lines.{stop_text, stop_status, version_text}
@@ -64,9 +64,9 @@ pub record HasTraceReport (gives : List ℕ → List ℕ → Type 0) (paint : Pa
   pub ready : IsReady module_text schedule_text m s
   pub reported : text ≡ traced_report paint m s
 
--- the module has the function, and the run's tally is this one, over the asked paths and peers
+-- the function can be called from outside, and the run's tally is this one, over the asked paths and peers
 pub record RunsTo (m : Module) (asked : Run) (tally : Tally) : Type 0 where
-  pub known : has_function m asked.function.now ≡ true
+  pub known : can_call m asked.function.now ≡ true
   pub ran : IsTallyOfRun (map (λ path. path.now) asked.paths.now) (map (λ peer. peer.now) asked.peers.now) m
       asked.threads asked.rows (calls_named m asked.function.now asked.times) asked.steps tally
 
@@ -121,13 +121,13 @@ IsModuleReason gives lacks file (Fault NoMemory) = Unit {0}
 IsModuleReason gives lacks file (Fault Output) = Unit {0}
 IsModuleReason gives lacks file (Fault e) = (text : List ℕ) × gives file text × IsModuleFault text e
 
--- the accepted module has no function of the name
+-- the accepted module has no function that can be called by the name
 pub record LacksFunction (gives : List ℕ → List ℕ → Type 0) (file name : List ℕ) : Type 0 where
   pub module_text : List ℕ
   pub m : Module
   pub given : gives file module_text
   pub accepted : IsAccepted module_text m
-  pub unknown : has_function m name ≡ false
+  pub unknown : can_call m name ≡ false
 
 abbrev pub IsRunReason : (List ℕ → List ℕ → Type 0) → (List ℕ → Type 0) → Run → Stop → Type 0
 IsRunReason gives lacks asked (NoFunction name) = (name ≡ asked.function)

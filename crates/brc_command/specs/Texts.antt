@@ -98,7 +98,7 @@ IsCheckFault m (Refused r) = IsRefusedFor m.functions r
 IsCheckFault m NoMemory = Unit {0}
 IsCheckFault m _ = ⊥
 
--- the module lacks the function of a call, or memory was refused
+-- the module has no function for a call, or memory was refused
 abbrev pub IsCallFault : Module → Schedule → StepFault → Type 0
 IsCallFault m s (NoFunction name) = IsFirstUnknown m s.calls name
 IsCallFault m s NoMemory = Unit {0}

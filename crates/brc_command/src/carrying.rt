@@ -6,7 +6,7 @@ ghost use Rattle.std.specs.Prelude.{MatchResult, option_map};
 ghost use Rattle.brc_model.specs.Safety.{IsCall};
 ghost use Rattle.brc_command.specs.declared.stop.Stop.TheVariants.{Fault};
 ghost use Rattle.brc_command.specs.declared.step_fault.StepFault.TheVariants.{Output};
-ghost use Rattle.brc_command.specs.Calls.{calls_named, has_function};
+ghost use Rattle.brc_command.specs.Calls.{calls_named, can_call};
 ghost use Rattle.brc_command.specs.Commands.{Reports, BeginsReport, HasCheckReport, HasRunReport, HasStepReport};
 ghost use Rattle.brc_command.specs.Commands.{HasReport, IsModuleReason, IsRunReason, IsStepReason, IsReason};
 ghost use Rattle.brc_command.specs.Commands.{IsDone, IsStopped, IsModuleFault, HasExplanation, IsExplainReason};
@@ -17,7 +17,7 @@ ghost use Rattle.brc_report.specs.declared.paint.Paint.TheVariants.{Plain};
 
 use crate::accepted::write_accepted;
 use crate::asked::{Asked, Run};
-use crate::calls::number_of;
+use crate::calls::number_of_callable;
 use crate::explainer::{Explain, Explainer};
 use crate::explaining::{Explanation, explanation_of};
 use crate::lines::{write_stop, write_version};
@@ -342,14 +342,14 @@ fn checked(alloc: Global, bytes: &[u8]) -> Result<Checked, StepFault>
     accepted(alloc, module)
 }
 
-/// Returns the call that the command line asks for, or `None` if the module lacks the function.
+/// Returns the call that the command line asks for, or `None` if the module has no function that can be called so.
 fn call_of(module: &Module, asked: &Run) -> Option<Call>
     ensures found { IfSome result (λ call. call ≡ calls_named «module».now asked.now.function.now asked.now.times) }
-    ensures known { IsSome result → has_function «module».now asked.now.function.now ≡ true }
-    ensures unknown { IsNone result → has_function «module».now asked.now.function.now ≡ false }
+    ensures known { IsSome result → can_call «module».now asked.now.function.now ≡ true }
+    ensures unknown { IsNone result → can_call «module».now asked.now.function.now ≡ false }
     ensures fits { IfSome result (λ call. IsCall «module».now call) }
 {
-    match number_of(module.functions.as_slice(), asked.function.as_bytes()) {
+    match number_of_callable(module.functions.as_slice(), asked.function.as_bytes()) {
         Some(number) => Some(Call {
             function: number,
             times: asked.times,

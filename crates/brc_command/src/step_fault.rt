@@ -22,7 +22,8 @@ pub enum StepFault {
     /// The checker refuses the module.
     #[error("{0}")]
     Refused(Refused),
-    /// The module lacks the function of this name, which is that of the first such call.
+    /// The module has no function of this name, or one with parameters, which a schedule can't call. It is the name of
+    /// the first such call.
     #[error("no function {}", shown(.0))]
     NoFunction(Name),
     /// Memory was refused.

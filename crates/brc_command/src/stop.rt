@@ -15,7 +15,8 @@ pub enum Stop<'a> {
     /// A file can't be read.
     #[error("unreadable file")]
     UnreadableFile,
-    /// The module lacks the function of this name, for which the command line asks.
+    /// The module has no function of this name, for which the command line asks; or it has parameters, and the command
+    /// line asks for a run of it.
     #[error("no function {0}")]
     NoFunction(&'a str),
     /// A worker's thread couldn't be started.

@@ -2,9 +2,10 @@
 use Rattle.std.proofs.Common.{◌≡◌, ℕ, ◌+◌, ◌<◌, List, [], ◌∷◌, length, take, get_or, refl, ap, ◌∙◌}
 use Rattle.std.proofs.lemmas.List.{take_more}
 use Rattle.std.proofs.lemmas.List.Sums.{fold-append}
+use Rattle.brc_lang.specs.declared.module.Function.{Function}
 use Rattle.brc_lang.specs.declared.module.Instr.{Instr}
 use Rattle.brc_model.specs.declared.state.Exit.{Exit}
-use Rattle.brc_model.specs.VarStates.{entry}
+use Rattle.brc_model.specs.VarStates.{entry_of}
 use Rattle.brc_model.specs.Paths.{PathEnd, At, Ended, Reports, follow, path_end}
 use Rattle.brc_explain.specs.Walking.{place_of, onward}
 
@@ -14,10 +15,10 @@ place-onward code Ended x = refl
 place-onward code (Reports at c) x = refl
 
 -- the path of one exit more stands where its last exit leads
-pub reached-more : (code : List Instr) (exits : List Exit) (i : ℕ) (d : Exit) → i < length exits
-    → place_of (path_end code (take (i + 1) exits))
-    ≡ onward code (place_of (path_end code (take i exits))) (get_or exits i d)
-reached-more code exits i d h =
-    ap (λ (l : List Exit). place_of (path_end code l)) (take_more exits i d h)
-    ∙ ap place_of (fold-append (follow code) (At 0 entry) (take i exits) (get_or exits i d ∷ []))
-    ∙ place-onward code (path_end code (take i exits)) (get_or exits i d)
+pub reached-more : (f : Function) (exits : List Exit) (i : ℕ) (d : Exit) → i < length exits
+    → place_of (path_end f (take (i + 1) exits))
+    ≡ onward f.code (place_of (path_end f (take i exits))) (get_or exits i d)
+reached-more f exits i d h =
+    ap (λ (l : List Exit). place_of (path_end f l)) (take_more exits i d h)
+    ∙ ap place_of (fold-append (follow f.code) (At 0 (entry_of f.parameters)) (take i exits) (get_or exits i d ∷ []))
+    ∙ place-onward f.code (path_end f (take i exits)) (get_or exits i d)

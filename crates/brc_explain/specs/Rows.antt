@@ -42,10 +42,10 @@ first_rows entries fault zero = []
 first_rows entries fault (suc count) = first_rows entries fault count ++ row entries fault count ∷ []
 
 -- A row for each instruction, with the state in which some path reaches it. The mark is at the point at fault alone.
-pub record IsListing (code : List Instr) (fault : Option ℕ) (rows : List Row) : Type 0 where
+pub record IsListing (f : Function) (fault : Option ℕ) (rows : List Row) : Type 0 where
   pub entries : List (Option State)
-  pub reached : AreReached code entries
-  pub listed : rows ≡ first_rows entries fault (length code)
+  pub reached : AreReached f entries
+  pub listed : rows ≡ first_rows entries fault (length f.code)
 
 -- ---- a path
 
@@ -92,22 +92,22 @@ step_rows code Ended exit = []
 step_rows code (Reports at reported) exit = []
 
 -- the rows of the path's first steps, in order
-abbrev pub first_steps : List Instr → List Exit → ℕ → List StepRow
-first_steps code exits zero = []
-first_steps code exits (suc count) =
-    first_steps code exits count
-    ++ step_rows code (path_end code (take count exits)) (slice_index_or exits count Success)
+abbrev pub first_steps : Function → List Exit → ℕ → List StepRow
+first_steps f exits zero = []
+first_steps f exits (suc count) =
+    first_steps f exits count
+    ++ step_rows f.code (path_end f (take count exits)) (slice_index_or exits count Success)
 
 -- a row for each step of the path that takes these exits
-abbrev pub path_rows : List Instr → List Exit → List StepRow
-path_rows code exits = first_steps code exits (length exits)
+abbrev pub path_rows : Function → List Exit → List StepRow
+path_rows f exits = first_steps f exits (length exits)
 
 -- the rows of the one path that reports a code, or of the two that differ
-abbrev pub AreRowsOf : List Instr → Path → StepRows → Type 0
-AreRowsOf code (paths.Reports exits) (One rows) = rows ≡ path_rows code exits
-AreRowsOf code (paths.Differ exits others) (Two rows more) =
-    (rows ≡ path_rows code exits) × (more ≡ path_rows code others)
-AreRowsOf code path rows = ⊥
+abbrev pub AreRowsOf : Function → Path → StepRows → Type 0
+AreRowsOf f (paths.Reports exits) (One rows) = rows ≡ path_rows f exits
+AreRowsOf f (paths.Differ exits others) (Two rows more) =
+    (rows ≡ path_rows f exits) × (more ≡ path_rows f others)
+AreRowsOf f path rows = ⊥
 
 -- ---- a refusal
 
@@ -123,9 +123,9 @@ NoneNamed functions name = (f : Function) → IsNamed functions name f → ⊥
 pub record ShowsRefusal (functions : List Function) (r : Refused) (function : Function) (listing : List Row)
     (path : Path) (steps : StepRows) : Type 0 where
   pub named : IsNamed functions r.function function
-  pub listed : IsListing function.code (Some r.at) listing
+  pub listed : IsListing function (Some r.at) listing
   pub leads : IsPathTo functions r path
-  pub walked : AreRowsOf function.code path steps
+  pub walked : AreRowsOf function path steps
 
 -- The steps are those of a path that leads to the refusal in its function, or of the two paths that differ there.
 pub record LeadToRefusal (functions : List Function) (r : Refused) (steps : StepRows) : Type 0 where
@@ -133,7 +133,7 @@ pub record LeadToRefusal (functions : List Function) (r : Refused) (steps : Step
   pub path : Path
   pub named : IsNamed functions r.function function
   pub leads : IsPathTo functions r path
-  pub walked : AreRowsOf function.code path steps
+  pub walked : AreRowsOf function path steps
 
 -- ---- a variable
 

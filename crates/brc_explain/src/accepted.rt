@@ -2,13 +2,14 @@
 
 ghost use Rattle.brc_lang.specs.Grammar.{IsFunction};
 
+use crate::called::write_called;
 use crate::fault::ExplainFault;
 use crate::forms::{is_asked, write_all_forms};
 use crate::listing::{Remarks, write_listing};
 use crate::rows::listing_of;
 use crate::state_text::write_legend;
 use brc_check::Checked;
-use brc_lang::{Function, write_bytes};
+use brc_lang::{Function, Version, write_bytes};
 use brc_pages::{write_heading, write_in};
 use brc_report::{Paint, Role};
 use std::alloc::Global;
@@ -25,8 +26,9 @@ pub fn explain_accepted<W: Write>(
     paint: Paint,
     out: &mut W,
 ) -> Result<(), ExplainFault> {
-    write_accepted(paint, out)?;
-    let functions = checked.module().functions.as_slice();
+    let module = checked.module();
+    write_accepted(module.version, paint, out)?;
+    let functions = module.functions.as_slice();
     for (number, function) in functions.iter().enumerate() {
         if is_asked(only, number) {
             list_accepted(alloc, functions, function, paint, out)?;
@@ -34,10 +36,15 @@ pub fn explain_accepted<W: Write>(
     }
     write_heading("The instructions, and what they are in C", paint, out)?;
     write_all_forms(functions, only, out)?;
+    if let Some(number) = only {
+        if number < functions.len() {
+            write_called(functions, functions[number].code.as_slice(), paint, out)?;
+        }
+    }
     Ok(())
 }
 
-fn write_accepted<W: Write>(paint: Paint, out: &mut W) -> io::Result<()> {
+fn write_accepted<W: Write>(version: Version, paint: Paint, out: &mut W) -> io::Result<()> {
     write_in(Role::Success, &[b"accepted"], paint, out)?;
     write_bytes(
         b": on every path each reference is given up exactly once, nothing is used\n\
@@ -45,7 +52,7 @@ fn write_accepted<W: Write>(paint: Paint, out: &mut W) -> io::Result<()> {
         Below, each instruction has its number and what the variables hold before it:\n",
         out,
     )?;
-    write_legend(out)
+    write_legend(version, out)
 }
 
 fn list_accepted<W: Write>(

@@ -4,6 +4,7 @@
 
 mod above;
 mod accepted;
+mod called;
 mod fault;
 mod forms;
 mod line_fault;

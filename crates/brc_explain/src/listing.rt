@@ -1,5 +1,6 @@
 //! A function as a listing: each instruction with its number, and the state before it.
 
+use crate::called::write_arguments;
 use crate::fault::ExplainFault;
 use crate::rows::Row;
 use crate::state_text::write_state;
@@ -92,7 +93,7 @@ pub fn write_listing<W: Write>(
     for row in rows {
         if row.at < code.len() {
             write_numbered(alloc, functions, row.at, code[row.at], width, paint, out)?;
-            write_before(row, remarks, paint, out)?;
+            write_before(row, &code[row.at], remarks, paint, out)?;
         }
     }
     Ok(())
@@ -100,7 +101,13 @@ pub fn write_listing<W: Write>(
 
 /// Writes an empty line, and the line that opens the function.
 fn write_heading_line<W: Write>(function: &Function, paint: Paint, out: &mut W) -> io::Result<()> {
-    write_pieces(&[b"\n", paint.on(Role::Part).as_bytes()], out)?;
+    write_bytes(b"\n", out)?;
+    write_opening(function, paint, out)
+}
+
+/// Writes the line that opens the function.
+pub fn write_opening<W: Write>(function: &Function, paint: Paint, out: &mut W) -> io::Result<()> {
+    write_bytes(paint.on(Role::Part).as_bytes(), out)?;
     write_pieces(&[b"func ", function.name.as_bytes()], out)?;
     for Parameter { passing, kind } in function.parameters.as_slice() {
         let words: [&[u8]; 4] = [
@@ -114,9 +121,11 @@ fn write_heading_line<W: Write>(function: &Function, paint: Paint, out: &mut W) 
     write_pieces(&[paint.off().as_bytes(), b"\n"], out)
 }
 
-/// Writes the state before the instruction of a row, and the mark of the row at fault.
+/// Writes the state before the instruction of a row, what a call does with its arguments, and the mark of the row at
+/// fault.
 fn write_before<W: Write>(
     row: &Row,
+    instr: &Instr,
     remarks: Remarks,
     paint: Paint,
     out: &mut W,
@@ -125,6 +134,7 @@ fn write_before<W: Write>(
         Some(state) => write_state(state, paint, out)?,
         None => write_in(Role::Aside, &[remarks.unknown.as_bytes()], paint, out)?,
     }
+    write_arguments(instr, paint, out)?;
     if row.is_marked {
         write_bytes(b"   ", out)?;
         write_in(Role::Code, &[b"<- ", remarks.code.as_bytes()], paint, out)?;

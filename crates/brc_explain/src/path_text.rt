@@ -1,5 +1,6 @@
 //! A path, one line a step: the instruction, the exit taken there, and the state after it.
 
+use crate::called::write_arguments;
 use crate::fault::ExplainFault;
 use crate::listing::write_numbered;
 use crate::rows::StepRow;
@@ -59,6 +60,7 @@ fn write_step<W: Write>(
         (Some(after), _) => {
             write_exit(row.way.word(), walk.paint, out)?;
             write_state(after, walk.paint, out)?;
+            write_arguments(&instr, walk.paint, out)?;
         }
         (None, Some(reported)) => {
             let page = page_of(Topic::Check(*reported));

@@ -6,6 +6,7 @@ ghost use Rattle.brc_check.specs.Refusal.{IsRefusal, IsRefusedFor, IsForMemory};
 ghost use Rattle.brc_explain.specs.declared.fault.ExplainFault.TheVariants.{NoMemory};
 ghost use Rattle.brc_explain.specs.Rows.{IsNamed, NoneNamed, ShowsRefusal, LeadToRefusal};
 
+use crate::called::write_called;
 use crate::fault::ExplainFault;
 use crate::forms::write_forms;
 use crate::listing::{Remarks, width_of, write_listing};
@@ -15,7 +16,9 @@ use crate::state_text::write_legend;
 use crate::walking::reached;
 use crate::why::{write_differences, write_why};
 use brc_check::{CheckCode, Exit, Path, Refused, path_to};
-use brc_lang::{Function, Instr, Module, Name, Sequence, write_bytes, write_number, write_pieces};
+use brc_lang::{
+    Function, Instr, Module, Name, Sequence, Version, write_bytes, write_number, write_pieces,
+};
 use brc_pages::{
     Page, Topic, page_of, write_heading, write_in, write_paragraph, write_section, write_title,
 };
@@ -73,7 +76,7 @@ fn shown_of<'a>(
         unreachable!()
     };
     let listing = listing_of(alloc, function, Some(refused.at))?;
-    let steps = rows_of(alloc, function.code.as_slice(), &path)?;
+    let steps = rows_of(alloc, function, &path)?;
     Ok(Shown {
         function,
         listing,
@@ -106,7 +109,7 @@ fn explain_reported<W: Write>(
 {
     let shown = shown_of(alloc, module, refused)?;
     let page = page_of(Topic::Check(refused.code));
-    write_head(&page, refused, paint, out)?;
+    write_head(&page, module.version, refused, paint, out)?;
     let functions = module.functions.as_slice();
     if let Some(asked) = asked_for(functions, only, &refused.function) {
         let listing = listing_of(alloc, asked, None)?;
@@ -133,12 +136,14 @@ fn explain_reported<W: Write>(
     write_paths(alloc, functions, refused, &shown, paint, out)?;
     write_heading("The instructions, and what they are in C", paint, out)?;
     write_forms(function.code.as_slice(), out)?;
+    write_called(functions, function.code.as_slice(), paint, out)?;
     write_meaning(&page, paint, out)?;
     Ok(())
 }
 
 fn write_head<W: Write>(
     page: &Page,
+    version: Version,
     refused: &Refused,
     paint: Paint,
     out: &mut W,
@@ -153,7 +158,7 @@ fn write_head<W: Write>(
         b"\nBelow, each instruction has its number and what the variables hold before it:\n",
         out,
     )?;
-    write_legend(out)
+    write_legend(version, out)
 }
 
 /// Returns the function of this name.
@@ -243,9 +248,17 @@ fn write_paths<W: Write>(
         }
     }
     match &shown.path {
-        Path::Reports(exits) => write_reported(functions, code, exits.as_slice(), refused, out)?,
+        Path::Reports(exits) => {
+            write_reported(functions, shown.function, exits.as_slice(), refused, out)?;
+        }
         Path::Differ(exits, others) => {
-            write_differing(code, exits.as_slice(), others.as_slice(), refused, out)?;
+            write_differing(
+                shown.function,
+                exits.as_slice(),
+                others.as_slice(),
+                refused,
+                out,
+            )?;
         }
     }
     Ok(())
@@ -301,21 +314,21 @@ fn write_from_start<W: Write>(
 /// Writes what is wrong at the end of the path that reports the code.
 fn write_reported<W: Write>(
     functions: &[Function],
-    code: &[Instr],
+    function: &Function,
     exits: &[Exit],
     refused: &Refused,
     out: &mut W,
 ) -> io::Result<()> {
     let before = &exits[..exits.len().saturating_sub(1)];
-    match reached(code, before) {
-        Some((at, state)) => write_why(functions, code, before, at, &state, refused.code, out),
+    match reached(function, before) {
+        Some((at, state)) => write_why(functions, function, before, at, &state, refused.code, out),
         None => Ok(()),
     }
 }
 
 /// Writes in which variables the two paths differ at the point.
 fn write_differing<W: Write>(
-    code: &[Instr],
+    function: &Function,
     exits: &[Exit],
     others: &[Exit],
     refused: &Refused,
@@ -324,7 +337,7 @@ fn write_differing<W: Write>(
     write_bytes(b"\n  At @", out)?;
     write_number(refused.at as u64, out)?;
     write_bytes(b" they differ:\n", out)?;
-    match (reached(code, exits), reached(code, others)) {
+    match (reached(function, exits), reached(function, others)) {
         (Some((_, first)), Some((_, second))) => write_differences(&first, &second, out),
         _ => Ok(()),
     }

@@ -104,11 +104,10 @@ pub fn listing_of(
     fault: Option<usize>,
 ) -> Result<Sequence<Row>, AllocError>
     requires { IsFunction function.now }
-    ensures { IfOk result (IsListing function.now.code fault) }
+    ensures { IfOk result (IsListing function.now fault) }
 {
-    let code = function.code.as_slice();
-    let entries = first_states(alloc, code)?;
-    first_rows(alloc, entries.as_slice(), fault, code.len())
+    let entries = first_states(alloc, function)?;
+    first_rows(alloc, entries.as_slice(), fault, function.code.len())
 }
 
 /// Returns which way the exit of the instruction leads.
@@ -173,29 +172,30 @@ fn push_step(
 /// Returns the rows of the path that takes these exits from the function's first instruction.
 pub fn path_rows(
     alloc: Global,
-    code: &[Instr],
+    function: &Function,
     exits: &[Exit],
 ) -> Result<Sequence<StepRow>, AllocError>
-    ensures { IfOk result (λ rows. rows ≡ path_rows code.now exits.now) }
+    ensures { IfOk result (λ rows. rows ≡ path_rows function.now exits.now) }
 {
+    let code = function.code.as_slice();
     let mut rows = Sequence::new(alloc);
     for taken in 0..exits.len() {
-        if let Some((at, before)) = reached(code, &exits[..taken]) {
+        if let Some((at, before)) = reached(function, &exits[..taken]) {
             push_step(&mut rows, code, at, &before, exits[taken])?;
         }
     }
     Ok(rows)
 }
 
-/// Returns the rows of the path, or of the two paths, that lead to a refusal in this code.
-pub fn rows_of(alloc: Global, code: &[Instr], path: &Path) -> Result<StepRows, AllocError>
-    ensures { IfOk result (AreRowsOf code.now path.now) }
+/// Returns the rows of the path, or of the two paths, that lead to a refusal in this function.
+pub fn rows_of(alloc: Global, function: &Function, path: &Path) -> Result<StepRows, AllocError>
+    ensures { IfOk result (AreRowsOf function.now path.now) }
 {
     match path {
-        Path::Reports(exits) => Ok(StepRows::One(path_rows(alloc, code, exits.as_slice())?)),
+        Path::Reports(exits) => Ok(StepRows::One(path_rows(alloc, function, exits.as_slice())?)),
         Path::Differ(exits, others) => {
-            let rows = path_rows(alloc, code, exits.as_slice())?;
-            let more = path_rows(alloc, code, others.as_slice())?;
+            let rows = path_rows(alloc, function, exits.as_slice())?;
+            let more = path_rows(alloc, function, others.as_slice())?;
             Ok(StepRows::Two(rows, more))
         }
     }

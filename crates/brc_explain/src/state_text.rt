@@ -4,7 +4,7 @@ ghost use Rattle.std.specs.Prelude.{◌≡◌};
 ghost use Rattle.brc_explain.specs.Rows.{holding_word};
 
 use brc_check::{State, VarState};
-use brc_lang::{Kind, Variable, write_bytes, write_number, write_pieces};
+use brc_lang::{Kind, Variable, Version, write_bytes, write_number, write_pieces};
 use brc_pages::write_in;
 use brc_report::{Paint, Role};
 use std::io;
@@ -85,16 +85,30 @@ pub fn write_variable<W: Write>(variable: Variable, out: &mut W) -> io::Result<(
     write_number(u64::from(variable.number()), out)
 }
 
-/// Writes what the words of a state mean.
-pub fn write_legend<W: Write>(out: &mut W) -> io::Result<()> {
+/// Writes what the words of a state mean, in a module of the version.
+pub fn write_legend<W: Write>(version: Version, out: &mut W) -> io::Result<()> {
     write_bytes(
         b"  owned     this function must give the reference up once: drop (Py_DECREF), ret\n\
         \x20           (return), set (PyList_SetItem steals it) or move\n\
         \x20 borrowed  somebody else keeps the object alive: the caller, or the locked list\n\
         \x20           whose item it is\n\
-        \x20 locked    the critical section of this variable's object is open\n\
-        \x20 A variable that isn't named is empty (NULL). v0 is the function's argument, a\n\
-        \x20 list that the caller lends.\n",
+        \x20 locked    the critical section of this variable's object is open\n",
         out,
-    )
+    )?;
+    match version {
+        Version::One => write_bytes(
+            b"  A variable that isn't named is empty (NULL). v0 is the function's argument, a\n\
+            \x20 list that the caller lends.\n",
+            out,
+        ),
+        Version::Two => write_bytes(
+            b"  borrows   the call uses the object, and the reference stays where it is\n\
+            \x20 steals    the call takes the reference over, also if it fails: the variable is\n\
+            \x20           empty behind it\n\
+            \x20 A variable that isn't named is empty (NULL). v0 is a list that the caller\n\
+            \x20 lends. The parameters behind the function's name are v1, v2 and so on: the\n\
+            \x20 caller lends the object (borrow), or hands the reference over (steal).\n",
+            out,
+        ),
+    }
 }

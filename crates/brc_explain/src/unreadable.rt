@@ -65,9 +65,9 @@ fn write_first_line<W: Write>(found: &Situation<'_>, paint: Paint, out: &mut W) 
     let first = word_at(line, 0).unwrap_or(whole(line));
     let (marked, wrong): (Span, &str) = if !found.is_there {
         (whole(line), "The text is empty.")
-    } else if is_word(line, b"module 1") {
+    } else if is_word(line, b"module 1") || is_word(line, b"module 2") {
         (behind(line), "No line feed ends the line.")
-    } else if is_word(line, b"module 1\r") {
+    } else if is_word(line, b"module 1\r") || is_word(line, b"module 2\r") {
         let end = Span { from: 8, to: 9 };
         (
             end,
@@ -86,7 +86,7 @@ fn write_first_line<W: Write>(found: &Situation<'_>, paint: Paint, out: &mut W) 
         };
         (
             version,
-            "The line is another: behind the word `module` there is the version 1.",
+            "The line is another: behind the word `module` is the version, 1 or 2.",
         )
     } else {
         (whole(line), "The first line is another.")
@@ -94,7 +94,7 @@ fn write_first_line<W: Write>(found: &Situation<'_>, paint: Paint, out: &mut W) 
     write_line(found, 1, marked, paint, out)?;
     write_pieces(&[wrong.as_bytes(), b"\n"], out)?;
     write_bytes(
-        b"Expected: the line `module 1`. The functions follow below it.\n",
+        b"Expected: the line `module 1`, or `module 2`. The functions follow below it.\n",
         out,
     )
 }

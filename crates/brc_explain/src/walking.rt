@@ -4,18 +4,19 @@ ghost use Rattle.std.specs.Prelude.{◌≡◌};
 ghost use Rattle.brc_model.specs.Paths.{path_end};
 ghost use Rattle.brc_explain.specs.Walking.{place_of, onward};
 
-use brc_check::{Exit, State, Step, entry, follow};
-use brc_lang::Instr;
+use brc_check::{Exit, State, Step, entry_of, follow};
+use brc_lang::{Function, Instr};
 
 /// A point that a path reaches, and the state there; `None` once the path has ended the call or reported a code.
 type Place = Option<(usize, State)>;
 
 /// Returns where the path of these exits stands: the point that it reaches from the function's first instruction, and
 /// the state there, or `None` if it has ended the call or reported a code.
-pub fn reached(code: &[Instr], exits: &[Exit]) -> Place
-    ensures { result ≡ place_of (path_end code.now exits.now) }
+pub fn reached(function: &Function, exits: &[Exit]) -> Place
+    ensures { result ≡ place_of (path_end function.now exits.now) }
 {
-    let mut place = Some((0, entry()));
+    let code = function.code.as_slice();
+    let mut place = Some((0, entry_of(function.parameters.as_slice())));
     for exit in exits {
         place = onward(code, place, *exit);
     }

@@ -5,8 +5,8 @@ use crate::state_text::{is_empty, is_owned, var_at, var_words, write_variable};
 use crate::walking::reached;
 use brc_check::{CheckCode, Exit, State, VarState};
 use brc_lang::{
-    Function, Instr, Kind, Passing, Variable, write_bytes, write_instruction, write_number,
-    write_pieces,
+    Argument, Function, Instr, Kind, Passing, Variable, write_bytes, write_instruction,
+    write_number, write_pieces,
 };
 use std::io;
 use std::io::Write;
@@ -15,19 +15,20 @@ use std::io::Write;
 /// functions.
 pub fn write_why<W: Write>(
     functions: &[Function],
-    code: &[Instr],
+    function: &Function,
     exits: &[Exit],
     at: usize,
     state: &State,
     reported: CheckCode,
     out: &mut W,
 ) -> io::Result<()> {
+    let code = function.code.as_slice();
     if at >= code.len() {
         return Ok(());
     }
     let instr = code[at];
     match reported {
-        CheckCode::EmptyUsed => write_empty(functions, code, exits, instr, state, out),
+        CheckCode::EmptyUsed => write_empty(functions, function, exits, instr, state, out),
         CheckCode::WrongKind => write_kind(instr, state, out),
         CheckCode::NotOwned => write_borrowed(instr, state, out),
         CheckCode::StillOwns => write_still(instr, state, out),
@@ -65,17 +66,17 @@ fn empty_argument(instr: &Instr, state: &State) -> Option<Variable> {
 
 fn write_empty<W: Write>(
     functions: &[Function],
-    code: &[Instr],
+    function: &Function,
     exits: &[Exit],
     instr: Instr,
     state: &State,
     out: &mut W,
 ) -> io::Result<()> {
     let Some(variable) = empty_one(instr, state) else {
-        return Ok(());
+        return write_clash(&instr, out);
     };
     write_variable(variable, out)?;
-    match emptied(code, exits, variable) {
+    match emptied(function, exits, variable) {
         None => write_bytes(b" is empty: nothing was put into it on this path.\n", out),
         Some((at, cause)) => {
             write_bytes(b" is empty since @", out)?;
@@ -89,12 +90,42 @@ fn write_empty<W: Write>(
     }
 }
 
+/// Writes which variable stands at two places of a call that steals its reference at one of them.
+fn write_clash<W: Write>(instr: &Instr, out: &mut W) -> io::Result<()> {
+    let arguments = arguments_of(instr);
+    for (number, argument) in arguments.iter().enumerate() {
+        if argument.parameter.passing == Passing::Steal {
+            if let Some(passing) = passing_elsewhere(arguments, number, argument.from) {
+                let other: &[u8] = match passing {
+                    Passing::Steal => b" is given up at two places of the call.\n",
+                    Passing::Borrow =>
+                        b" is given up at one place of the call, and used at another.\n",
+                };
+                write_variable(argument.from, out)?;
+                return write_bytes(other, out);
+            }
+        }
+    }
+    Ok(())
+}
+
+/// Returns how the variable is passed at the first place of the call but this one, if it stands at another.
+fn passing_elsewhere(arguments: &[Argument], place: usize, variable: Variable) -> Option<Passing> {
+    for (number, argument) in arguments.iter().enumerate() {
+        if number != place && argument.from == variable {
+            return Some(argument.parameter.passing);
+        }
+    }
+    None
+}
+
 /// Returns the last instruction on the path that left the variable empty, and its number.
-fn emptied(code: &[Instr], exits: &[Exit], variable: Variable) -> Option<(usize, Instr)> {
+fn emptied(function: &Function, exits: &[Exit], variable: Variable) -> Option<(usize, Instr)> {
+    let code = function.code.as_slice();
     let mut found = None;
     for taken in 0..exits.len() {
-        let before = reached(code, &exits[..taken]);
-        let after = reached(code, &exits[..taken + 1]);
+        let before = reached(function, &exits[..taken]);
+        let after = reached(function, &exits[..taken + 1]);
         if let (Some((at, before)), Some((_, after))) = (before, after) {
             if at < code.len() && empties(code[at], &before, &after, variable) {
                 found = Some((at, code[at]));

@@ -1,5 +1,5 @@
 -- The codes that can be explained, by their names.
-use Rattle.std.specs.Prelude.{◌≡◌, ℕ, if◌then◌else◌, List, Option, None, Some, codes}
+use Rattle.std.specs.Prelude.{ℕ, if◌then◌else◌, List, Option, None, Some, codes}
 use Rattle.std.specs.Str.{bytes_eq}
 use Rattle.brc_lang.specs.declared.fault.FaultCode.TheVariants.{FirstLine, UnknownWord, Number, Target, NameTwice}
 use Rattle.brc_lang.specs.declared.fault.FaultCode.TheVariants.{OverLimit, CutOff, NoMemory as MemoryOfReader, Callee}
@@ -9,7 +9,7 @@ use Rattle.brc_lang.specs.declared.check_code.CheckCode.TheVariants.{StatesDiffe
 use Rattle.brc_pages.specs.declared.topic.Topic.{Topic}
 use Rattle.brc_pages.specs.declared.topic.Topic.TheVariants.{Check, Read}
 
--- why a text can't be read: L1 to L8; only texts of version 2 have L9, and they don't run yet
+-- why a text can't be read: L1 to L9
 abbrev pub read_topic_named : List ℕ → Option Topic
 read_topic_named word =
     if bytes_eq word (codes "L1") then Some (Read FirstLine)
@@ -20,6 +20,7 @@ read_topic_named word =
     else if bytes_eq word (codes "L6") then Some (Read OverLimit)
     else if bytes_eq word (codes "L7") then Some (Read CutOff)
     else if bytes_eq word (codes "L8") then Some (Read MemoryOfReader)
+    else if bytes_eq word (codes "L9") then Some (Read Callee)
     else None
 
 -- why a module is refused: C1 to C12, or one of those above
@@ -38,8 +39,3 @@ topic_named word =
     else if bytes_eq word (codes "C11") then Some (Check RunsOff)
     else if bytes_eq word (codes "C12") then Some (Check NoMemory)
     else read_topic_named word
-
--- The word is the code's name. L9 has a name too, by which it can't be asked for yet.
-abbrev pub IsNameOf : Topic → List ℕ → Type 0
-IsNameOf (Read Callee) word = word ≡ codes "L9"
-IsNameOf topic word = topic_named word ≡ Some topic

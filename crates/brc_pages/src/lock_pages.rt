@@ -50,7 +50,8 @@ pub const SECOND_LOCK: Page = Page {
     title: "a second object is locked",
     meaning: &[
         "The instruction locks an object while another one is locked, or the same",
-        "one by another variable. A thread locks one object at a time.",
+        "one by another variable. A thread locks one object at a time. Or it calls a",
+        "function, which may lock an object, while one is locked.",
     ],
     rule_heading: API_RULE,
     rule: &[
@@ -62,8 +63,9 @@ pub const SECOND_LOCK: Page = Page {
     ],
     mend: &[
         "Put one section after the other: unlock the first object before you lock",
-        "the second. A reference that is needed in both is fetched (PyList_GetItemRef)",
-        "and not borrowed, since a borrowed item ends with its section.",
+        "the second, or before you call a function. A reference that is needed in",
+        "both is fetched (PyList_GetItemRef) and not borrowed, since a borrowed item",
+        "ends with its section.",
     ],
     example: &[
         ("module 1", ""),

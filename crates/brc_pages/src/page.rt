@@ -1,6 +1,7 @@
 //! The page of a code: its meaning, the rule behind it, the usual mend, and an example with its mended form.
 
-ghost use Rattle.brc_pages.specs.Topics.{IsNameOf};
+ghost use Rattle.std.specs.Prelude.{◌≡◌, Some};
+ghost use Rattle.brc_pages.specs.Topics.{topic_named};
 
 use crate::check_pages::check_page;
 use crate::read_pages::read_page;
@@ -42,7 +43,7 @@ const TEXT_WIDTH: usize = 24;
 
 /// Returns the page of a code.
 pub fn page_of(topic: Topic) -> Page
-    ensures { IsNameOf topic result.code.now }
+    ensures { topic_named result.code.now ≡ Some topic }
 {
     match topic {
         Topic::Check(code) => check_page(code),

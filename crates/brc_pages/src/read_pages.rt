@@ -1,6 +1,7 @@
 //! The pages of L1 to L9.
 
-ghost use Rattle.brc_pages.specs.Topics.{IsNameOf};
+ghost use Rattle.std.specs.Prelude.{◌≡◌, Some};
+ghost use Rattle.brc_pages.specs.Topics.{topic_named};
 ghost use Rattle.brc_pages.specs.declared.topic.Topic.TheVariants.{Read};
 
 use crate::page::Page;
@@ -10,7 +11,7 @@ const READS: &str = "What is read there";
 
 /// Returns the page of a code.
 pub fn read_page(code: FaultCode) -> Page
-    ensures { IsNameOf (Read code) result.code.now }
+    ensures { topic_named result.code.now ≡ Some (Read code) }
 {
     match code {
         FaultCode::FirstLine => FIRST_LINE,
@@ -29,18 +30,22 @@ const FIRST_LINE: Page = Page {
     code: "L1",
     title: "another first line",
     meaning: &[
-        "The text doesn't begin with the line `module 1`: the line is missing, it is",
-        "another one, or no line feed ends it.",
+        "The text doesn't begin with the line `module 1` or `module 2`: the line is",
+        "missing, it is another one, or no line feed ends it.",
     ],
     rule_heading: READS,
     rule: &[
-        "The first line of a module is `module 1`: the word, one space, the version",
-        "of the language, and a line feed (no carriage return, no byte order mark).",
+        "The first line of a module is `module 1` or `module 2`: the word, one space,",
+        "the version of the language, and a line feed (no carriage return, no byte",
+        "order mark). Only in version 2 functions have parameters and call others.",
         "The functions follow below it.",
     ],
-    mend: &["Begin the text with the line `module 1`."],
+    mend: &[
+        "Begin the text with the line `module 1`, or with `module 2` if a function",
+        "calls another one.",
+    ],
     example: &[
-        ("module 2", "line 1"),
+        ("module 3", "line 1"),
         ("func f", ""),
         ("fail", ""),
         ("end", ""),
@@ -56,7 +61,8 @@ const UNKNOWN_WORD: Page = Page {
         "A line has a word that can't be there: a first word that is no instruction,",
         "a word too many or too few, another word in place of `else`, a variable",
         "without its `v` or a target without its `@`, a kind or a mode that there",
-        "isn't, a function's name of another form. Or the line is empty.",
+        "isn't, a function's name of another form, a parameter or a `call` in a text",
+        "that begins with `module 1`. Or the line is empty.",
     ],
     rule_heading: READS,
     rule: &[
@@ -73,10 +79,18 @@ const UNKNOWN_WORD: Page = Page {
         "  as vS KIND else @L    goto @L               again @L N",
         "  ret vS                fail",
         "",
-        "vD, vS, vC, vF and vN are variables, v0 to v15. K, N, I and P are numbers.",
-        "MODE is r, w, rw, wc or rwc; KIND is none, num, list, file or sock. @L is the",
-        "number of an instruction, counted from @0. One space is between two words,",
-        "and none at the beginning or the end of a line. There are no comments.",
+        "Below the first line `module 2` there are two forms more:",
+        "",
+        "  func NAME borrow KIND steal KIND ..         call vD NAME vA .. else @L",
+        "",
+        "A function has up to four parameters, of each `borrow` or `steal` and its",
+        "kind, which may be `any` too. A call has up to four arguments.",
+        "",
+        "vD, vS, vC, vF, vN and vA are variables, v0 to v15. K, N, I and P are",
+        "numbers. MODE is r, w, rw, wc or rwc; KIND is none, num, list, file or sock.",
+        "@L is the number of an instruction, counted from @0. One space is between",
+        "two words, and none at the beginning or the end of a line. There are no",
+        "comments.",
     ],
     mend: &["Write the line in one of these forms."],
     example: &[
@@ -203,12 +217,20 @@ const NAME_TWICE: Page = Page {
 const OVER_LIMIT: Page = Page {
     code: "L6",
     title: "over a limit",
-    meaning: &["There is a 65th function, or a function has a 257th instruction or none."],
+    meaning: &[
+        "There is a 65th function, or a function has a 257th instruction or none. Or",
+        "with a `call` nine calls would be open at once.",
+    ],
     rule_heading: READS,
-    rule: &["A module has 1 to 64 functions, and each has 1 to 256 instructions."],
+    rule: &[
+        "A module has 1 to 64 functions, and each has 1 to 256 instructions. At most",
+        "eight calls are open at once: the function that is called from outside, one",
+        "that it calls, one that this one calls, and so on.",
+    ],
     mend: &[
         "Divide the module, or the function. A function that does nothing has one",
-        "instruction: `fail` (return NULL).",
+        "instruction: `fail` (return NULL). Of functions that call each other in a",
+        "row of nine or more, write two as one.",
     ],
     example: &[
         ("module 1", ""),
@@ -257,7 +279,6 @@ const NO_MEMORY: Page = Page {
     mended: &[],
 };
 
-// It has no example: only a text of version 2 calls a function, and none is read yet.
 const CALLEE: Page = Page {
     code: "L9",
     title: "a call that fits no function above",
@@ -275,7 +296,23 @@ const CALLEE: Page = Page {
         "Put the function that is called above the one that calls it, and write one",
         "argument for each of its parameters.",
     ],
-    example: &[],
-    printed: "",
-    mended: &[],
+    example: &[
+        ("module 2", ""),
+        ("func f", ""),
+        ("call v1 f else @1", "line 3: the `end` of f is below"),
+        ("fail", ""),
+        ("end", ""),
+    ],
+    printed: "unreadable line 3 L9",
+    mended: &[
+        ("module 2", ""),
+        ("func g", ""),
+        ("fail", ""),
+        ("end", ""),
+        ("func f", ""),
+        ("call v1 g else @2", "g is above"),
+        ("drop v1", ""),
+        ("fail", ""),
+        ("end", ""),
+    ],
 };

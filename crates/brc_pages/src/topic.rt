@@ -14,9 +14,7 @@ pub enum Topic {
     Read(FaultCode),
 }
 
-/// Returns the code that the word names, `C1` to `C12` or `L1` to `L8`, or `None`.
-///
-/// `L9` names none: only texts of version 2 have that code, and they don't run yet.
+/// Returns the code that the word names, `C1` to `C12` or `L1` to `L9`, or `None`.
 pub fn topic_named(word: &[u8]) -> Option<Topic>
     ensures { result ≡ topic_named word.now }
 {
@@ -68,6 +66,8 @@ fn read_topic_named(word: &[u8]) -> Option<Topic>
         Some(Topic::Read(FaultCode::CutOff))
     } else if is_word(word, b"L8") {
         Some(Topic::Read(FaultCode::NoMemory))
+    } else if is_word(word, b"L9") {
+        Some(Topic::Read(FaultCode::Callee))
     } else {
         None
     }

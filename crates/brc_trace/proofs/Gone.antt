@@ -1,21 +1,23 @@
 -- A thread that is gone takes no step: its events change nothing, have no entry, and are counted.
 use Rattle.std.proofs.Common.{◌≡◌, ℕ, zero, suc, ◌+◌, ◌∙◌, true, false, List, [], Option, None, Some, slice_get, replicate, min, refl, ap, arith}
 use Rattle.std.proofs.lemmas.Bool.{and_left, and_right}
+use Rattle.brc_lang.specs.declared.module.Function.{Function}
 use Rattle.brc_model.specs.declared.actor.Status.{Status}
 use Rattle.brc_model.specs.declared.actor.Status.TheVariants.{Running, Leaving, Gone}
 use Rattle.brc_model.specs.declared.layout.Layout.{Layout}
 use Rattle.brc_model.specs.declared.thread.Choice.{Choice}
 use Rattle.brc_model.specs.declared.thread.Choice.TheVariants as choices
-use Rattle.brc_model.specs.Actions.{StepActor, Action, Skip, is_idle, is_before_instruction, may_claim, may_stop, action_of, exit_of}
+use Rattle.brc_model.specs.Actions.{StepActor, Action, Skip}
+use Rattle.brc_model.specs.Dispatch.{is_idle, is_before_instruction, may_claim, may_stop, action_of, exit_of}
 use Rattle.brc_model.specs.Machine.{is_running}
 use Rattle.brc_model.specs.Safety.{has_gone}
 use Rattle.brc_model.specs.StepMachine.{of_thread, machine_by}
 use Rattle.brc_model.specs.World.{World, world_of, machine_of, step}
-use Rattle.brc_world.specs.declared.event.Part.{Part}
 use Rattle.brc_world.specs.declared.event.Sight.{Sight}
 use Rattle.brc_world.specs.Answers.{is_gone, is_gone_at}
 use Rattle.brc_world.specs.Runs.{world_after}
 use Rattle.brc_world.specs.Sights.{sight_at, sight_by}
+use Rattle.brc_trace.specs.declared.past.Doing.{Doing}
 use Rattle.brc_trace.specs.declared.past.Past.{Past}
 use Rattle.brc_trace.specs.TraceText.{past_by, past_after, entries_on, most_number}
 
@@ -63,39 +65,42 @@ unseen w t choice e = unseen_among w t choice (slice_get w.actors t) e
 
 -- what is remembered after n more steps without a line
 abbrev pub counted_past : Past → ℕ → Past
-counted_past past n = record { parts = past.parts; number = min (past.number + n) most_number }
+counted_past past n = record { threads = past.threads; number = min (past.number + n) most_number }
 
-pub counted_is : (now last : Past) (n : ℕ) → last.parts ≡ now.parts → last.number ≡ min (now.number + n) most_number
+pub counted_is : (now last : Past) (n : ℕ) → last.threads ≡ now.threads → last.number ≡ min (now.number + n) most_number
     → last ≡ counted_past now n
-counted_is now last n parts number =
-    ap (λ (ps : List Part). let p : Past = record { parts = ps; number = last.number } in p) parts
-    ∙ ap (λ (m : ℕ). let p : Past = record { parts = now.parts; number = m } in p) number
+counted_is now last n threads number =
+    ap (λ (ds : List Doing). let p : Past = record { threads = ds; number = last.number } in p) threads
+    ∙ ap (λ (m : ℕ). let p : Past = record { threads = now.threads; number = m } in p) number
 
 min_twice : (number n most : ℕ) → min (min (number + 1) most + suc n) most ≡ min (number + suc (suc n)) most
 min_twice number n most = omega arith
 
-module _ (w : World) (t : ℕ) (choice : Choice) (gone : is_gone_at w t ≡ true) where
+module _ (functions : List Function) (w : World) (t : ℕ) (choice : Choice) (gone : is_gone_at w t ≡ true) where
   pub gone_world : (n : ℕ) → world_after w (replicate n (t, choice)) ≡ w
   gone_world zero = refl
   gone_world (suc n) =
       ap (λ (v : World). world_after v (replicate n (t, choice))) (stays w t choice gone) ∙ gone_world n
 
-  gone_once : (past : Past) → past_by past t (sight_at w t choice) ≡ counted_past past 1
-  gone_once past = ap (λ (s : Option Sight). past_by past t s) (unseen w t choice gone)
+  gone_once : (past : Past) → past_by functions past t (sight_at w t choice) ≡ counted_past past 1
+  gone_once past = ap (λ (s : Option Sight). past_by functions past t s) (unseen w t choice gone)
 
-  pub gone_past : (past : Past) (n : ℕ) → past_after w past (replicate (suc n) (t, choice)) ≡ counted_past past (suc n)
+  pub gone_past : (past : Past) (n : ℕ)
+      → past_after functions w past (replicate (suc n) (t, choice)) ≡ counted_past past (suc n)
   gone_past past zero = gone_once past
   gone_past past (suc n) =
-      ap (λ (v : World). past_after v (past_by past t (sight_at w t choice)) (replicate (suc n) (t, choice)))
+      ap (λ (v : World). past_after functions v (past_by functions past t (sight_at w t choice))
+      (replicate (suc n) (t, choice)))
       (stays w t choice gone)
-      ∙ ap (λ (p : Past). past_after w p (replicate (suc n) (t, choice))) (gone_once past)
+      ∙ ap (λ (p : Past). past_after functions w p (replicate (suc n) (t, choice))) (gone_once past)
       ∙ gone_past (counted_past past 1) n
-      ∙ ap (λ (m : ℕ). let p : Past = record { parts = past.parts; number = m } in p)
+      ∙ ap (λ (m : ℕ). let p : Past = record { threads = past.threads; number = m } in p)
       (min_twice past.number n most_number)
 
-  pub gone_entries : (past : Past) (n : ℕ) → entries_on w past (replicate n (t, choice)) ≡ []
+  pub gone_entries : (past : Past) (n : ℕ) → entries_on functions w past (replicate n (t, choice)) ≡ []
   gone_entries past zero = refl
   gone_entries past (suc n) =
       rw (unseen w t choice gone)
-      (ap (λ (v : World). entries_on v (counted_past past 1) (replicate n (t, choice))) (stays w t choice gone)
+      (ap (λ (v : World). entries_on functions v (counted_past past 1) (replicate n (t, choice)))
+      (stays w t choice gone)
       ∙ gone_entries (counted_past past 1) n)

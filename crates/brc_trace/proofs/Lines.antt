@@ -66,11 +66,11 @@ module _ (paint : Paint) (functions : List Function) (w : World) (past : Past) w
   gone_traced : (t : ℕ) (choice : Choice) (n : ℕ) (a : Option (List ℕ)) → is_gone_at w t ≡ true
       → IsTraced paint functions w past (repeated t choice (suc n)) w (counted_past past (suc n)) a a
   gone_traced t choice n a gone = record {
-    made = sym (gone_world w t choice gone (suc n));
-    remembers = sym (gone_past w t choice gone past n);
+    made = sym (gone_world functions w t choice gone (suc n));
+    remembers = sym (gone_past functions w t choice gone past n);
     written =
         subst (λ (l : List Entry). Appends a a (lines_text paint functions l))
-        (sym (gone_entries w t choice gone past (suc n))) (nothing_appended a);
+        (sym (gone_entries functions w t choice gone past (suc n))) (nothing_appended a);
   }
 
   -- ---- the lines of a schedule

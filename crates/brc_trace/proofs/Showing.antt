@@ -3,6 +3,7 @@ use Rattle.std.proofs.Common.{◌≡◌, ℕ, ◌∙◌, Bool, true, false, List
 use Rattle.std.specs.Prelude.{◌==◌, if◌then◌else◌}
 use Rattle.std.proofs.lemmas.Bool.{eqb-true}
 use Rattle.std.proofs.lemmas.List.Concat.{flat_map-append}
+use Rattle.brc_lang.specs.declared.module.Function.{Function}
 use Rattle.brc_model.specs.declared.thread.Choice.{Choice}
 use Rattle.brc_model.specs.declared.event.WordEvent.{WordEvent}
 use Rattle.brc_model.specs.World.{World, step}
@@ -32,13 +33,13 @@ event_shown : (t : ℕ) (w : World) (past : Past) (event : ℕ × Choice)
     → words_in t (entries_at w past event) ≡ words_shown (sights_at t w event)
 event_shown t w past event = event_among t event.0 w past event.1 (event.0 == t) refl
 
-pub trace_shown : (t : ℕ) (w : World) (past : Past) (events : List (ℕ × Choice))
-    → words_in t (entries_on w past events) ≡ words_seen t w events
-trace_shown t w past [] = refl
-trace_shown t w past (event ∷ rest) =
+pub trace_shown : (functions : List Function) (t : ℕ) (w : World) (past : Past) (events : List (ℕ × Choice))
+    → words_in t (entries_on functions w past events) ≡ words_seen t w events
+trace_shown functions t w past [] = refl
+trace_shown functions t w past (event ∷ rest) =
     let next = step w event.0 event.1 in
-    let now = past_at w past event in
-    flat_map-append (entry_words t) (entries_at w past event) (entries_on next now rest)
-    ∙ ap (λ (l : List WordEvent). l ++ words_in t (entries_on next now rest)) (event_shown t w past event)
-    ∙ ap (λ (l : List WordEvent). words_shown (sights_at t w event) ++ l) (trace_shown t next now rest)
+    let now = past_at functions w past event in
+    flat_map-append (entry_words t) (entries_at w past event) (entries_on functions next now rest)
+    ∙ ap (λ (l : List WordEvent). l ++ words_in t (entries_on functions next now rest)) (event_shown t w past event)
+    ∙ ap (λ (l : List WordEvent). words_shown (sights_at t w event) ++ l) (trace_shown functions t next now rest)
     ∙ sym (flat_map-append (λ (sight : Sight). words_of sight.event) (sights_at t w event) (sights_on t next rest))

@@ -29,56 +29,71 @@ pub made_to : {X E : Type 0} (r : Result X E) (paint : Paint) (functions : List 
 made_to (Err e) paint functions w past events new now a b to is done = tt
 made_to (Ok x) paint functions w past events new now a b to is done = done.made ∙ is
 
+-- and its lines are those of its events
+pub written_to : {X E : Type 0} (r : Result X E) (paint : Paint) (functions fs : List Function) (w : World)
+    (past first : Past) (events all : List (ℕ × Choice)) (new : World) (now : Past) (a b : Option (List ℕ))
+    → functions ≡ fs → past ≡ first → events ≡ all → OnOk r (IsTraced paint functions w past events new now a b)
+    → OnOk r (Appends a b (lines_text paint fs (entries_on fs w first all)))
+written_to (Err e) paint functions fs w past first events all new now a b of began same done = tt
+written_to (Ok x) paint functions fs w past first events all new now a b of began same done =
+    subst (Appends a b)
+    (ap (λ (gs : List Function). lines_text paint gs (entries_on gs w past events)) of
+    ∙ ap (λ (p : Past). lines_text paint fs (entries_on fs w p events)) began
+    ∙ ap (λ (xs : List (ℕ × Choice)). lines_text paint fs (entries_on fs w first xs)) same) done.written
+
 -- ---- two lists of events
 
 after_both : (w : World) (xs ys : List (ℕ × Choice)) → world_after w (xs ++ ys) ≡ world_after (world_after w xs) ys
 after_both w xs ys = fold-append (λ (v : World) (event : ℕ × Choice). step v event.0 event.1) w xs ys
 
-past_both : (w : World) (past : Past) (xs ys : List (ℕ × Choice))
-    → past_after w past (xs ++ ys) ≡ past_after (world_after w xs) (past_after w past xs) ys
-past_both w past [] ys = refl
-past_both w past (event ∷ xs) ys = past_both (step w event.0 event.1) (past_at w past event) xs ys
+past_both : (functions : List Function) (w : World) (past : Past) (xs ys : List (ℕ × Choice))
+    → past_after functions w past (xs ++ ys)
+    ≡ past_after functions (world_after w xs) (past_after functions w past xs) ys
+past_both functions w past [] ys = refl
+past_both functions w past (event ∷ xs) ys =
+    past_both functions (step w event.0 event.1) (past_at functions w past event) xs ys
 
-entries_both : (w : World) (past : Past) (xs ys : List (ℕ × Choice))
-    → entries_on w past (xs ++ ys)
-    ≡ entries_on w past xs ++ entries_on (world_after w xs) (past_after w past xs) ys
-entries_both w past [] ys = refl
-entries_both w past (event ∷ xs) ys =
+entries_both : (functions : List Function) (w : World) (past : Past) (xs ys : List (ℕ × Choice))
+    → entries_on functions w past (xs ++ ys)
+    ≡ entries_on functions w past xs ++ entries_on functions (world_after w xs) (past_after functions w past xs) ys
+entries_both functions w past [] ys = refl
+entries_both functions w past (event ∷ xs) ys =
     let next = step w event.0 event.1 in
-    let then = past_at w past event in
-    ap (λ (l : List Entry). entries_at w past event ++ l) (entries_both next then xs ys)
-    ∙ sym (append_assoc (entries_at w past event) (entries_on next then xs)
-    (entries_on (world_after next xs) (past_after next then xs) ys))
+    let then = past_at functions w past event in
+    ap (λ (l : List Entry). entries_at w past event ++ l) (entries_both functions next then xs ys)
+    ∙ sym (append_assoc (entries_at w past event) (entries_on functions next then xs)
+    (entries_on functions (world_after next xs) (past_after functions next then xs) ys))
 
 module _ (paint : Paint) (functions : List Function) (w : World) (past : Past) where
   lines_both : (xs ys : List (ℕ × Choice))
-      → lines_text paint functions (entries_on w past (xs ++ ys))
-      ≡ lines_text paint functions (entries_on w past xs)
-      ++ lines_text paint functions (entries_on (world_after w xs) (past_after w past xs) ys)
+      → lines_text paint functions (entries_on functions w past (xs ++ ys))
+      ≡ lines_text paint functions (entries_on functions w past xs)
+      ++ lines_text paint functions (entries_on functions (world_after w xs) (past_after functions w past xs) ys)
   lines_both xs ys =
-      ap (lines_text paint functions) (entries_both w past xs ys)
-      ∙ flat_map-append (entry_text paint functions) (entries_on w past xs)
-      (entries_on (world_after w xs) (past_after w past xs) ys)
+      ap (lines_text paint functions) (entries_both functions w past xs ys)
+      ∙ flat_map-append (entry_text paint functions) (entries_on functions w past xs)
+      (entries_on functions (world_after w xs) (past_after functions w past xs) ys)
 
   lines_from : (xs ys : List (ℕ × Choice)) (at : World) (now : Past) → at ≡ world_after w xs → now
-      ≡ past_after w past xs
-      → lines_text paint functions (entries_on w past (xs ++ ys))
-      ≡ lines_text paint functions (entries_on w past xs) ++ lines_text paint functions (entries_on at now ys)
+      ≡ past_after functions w past xs
+      → lines_text paint functions (entries_on functions w past (xs ++ ys))
+      ≡ lines_text paint functions (entries_on functions w past xs)
+      ++ lines_text paint functions (entries_on functions at now ys)
   lines_from xs ys at now world_is past_is =
       lines_both xs ys
-      ∙ ap (λ (v : World). lines_text paint functions (entries_on w past xs)
-      ++ lines_text paint functions (entries_on v (past_after w past xs) ys)) (sym world_is)
-      ∙ ap (λ (p : Past). lines_text paint functions (entries_on w past xs)
-      ++ lines_text paint functions (entries_on at p ys)) (sym past_is)
+      ∙ ap (λ (v : World). lines_text paint functions (entries_on functions w past xs)
+      ++ lines_text paint functions (entries_on functions v (past_after functions w past xs) ys)) (sym world_is)
+      ∙ ap (λ (p : Past). lines_text paint functions (entries_on functions w past xs)
+      ++ lines_text paint functions (entries_on functions at p ys)) (sym past_is)
 
   -- ---- one event
 
   lines_one : (event : ℕ × Choice) → lines_text paint functions (entries_at w past event)
-      ≡ lines_text paint functions (entries_on w past (event ∷ []))
+      ≡ lines_text paint functions (entries_on functions w past (event ∷ []))
   lines_one event = ap (lines_text paint functions) (sym (append-nil (entries_at w past event)))
 
   pub one_traced : (event : ℕ × Choice) (new : World) (now : Past) (a b : Option (List ℕ)) (bytes : List ℕ)
-      → new ≡ step w event.0 event.1 → now ≡ past_at w past event
+      → new ≡ step w event.0 event.1 → now ≡ past_at functions w past event
       → bytes ≡ lines_text paint functions (entries_at w past event) → Appends a b bytes
       → IsTraced paint functions w past (event ∷ []) new now a b
   one_traced event new now a b bytes made remembers is written = record {
@@ -116,8 +131,9 @@ module _ (paint : Paint) (functions : List Function) (w : World) (past : Past) w
   traced_then xs ys at now new last a b c first second = record {
     made = second.made ∙ ap (λ (v : World). world_after v ys) first.made ∙ sym (after_both w xs ys);
     remembers =
-        second.remembers ∙ ap (λ (v : World). past_after v now ys) first.made
-        ∙ ap (λ (p : Past). past_after (world_after w xs) p ys) first.remembers ∙ sym (past_both w past xs ys);
+        second.remembers ∙ ap (λ (v : World). past_after functions v now ys) first.made
+        ∙ ap (λ (p : Past). past_after functions (world_after w xs) p ys) first.remembers
+        ∙ sym (past_both functions w past xs ys);
     written =
         both_written a b c _ _ _ (lines_from xs ys at now first.made first.remembers) first.written second.written;
   }

@@ -1,5 +1,6 @@
--- The line of a step: its number, its thread, the part that it belongs to, its rule, its word and its outcomes.
-use Rattle.std.specs.Prelude.{ℕ, if◌then◌else◌, List, [], ◌++◌, codes, decimal}
+-- The line of a step: its number, its thread, its depth, the part that it belongs to, its rule, its word and its
+-- outcomes.
+use Rattle.std.specs.Prelude.{ℕ, nat_lt, if◌then◌else◌, List, [], ◌++◌, codes, decimal}
 use Rattle.brc_lang.specs.declared.module.Function.{Function}
 use Rattle.brc_lang.specs.Grammar.{line}
 use Rattle.brc_report.specs.declared.paint.Paint.{Paint}
@@ -13,7 +14,12 @@ use Rattle.brc_model.specs.declared.state.Exit.{Exit}
 use Rattle.brc_model.specs.Trace.{is_word}
 use Rattle.brc_world.specs.declared.event.Event.{Event}
 use Rattle.brc_world.specs.declared.event.Event.TheVariants.{Silent, Calls, Does}
+use Rattle.brc_world.specs.declared.event.Part.{Part}
+use Rattle.brc_world.specs.declared.event.Part.TheVariants.{Instruction}
+use Rattle.brc_trace.specs.declared.depth.Crossing.{Crossing}
+use Rattle.brc_trace.specs.declared.depth.Crossing.TheVariants.{Stays, Enters, Returns}
 use Rattle.brc_trace.specs.declared.entry.Entry.{Entry}
+use Rattle.brc_trace.specs.Depths.{crossing_at}
 use Rattle.brc_trace.specs.Outcomes.{reference_outcome, lock_outcome, phase_outcome, life_outcome, outcome_text, before_next}
 use Rattle.brc_trace.specs.PartTexts.{part_text}
 use Rattle.brc_trace.specs.Rules.{rule_name, rule_at}
@@ -53,11 +59,24 @@ abbrev pub opening_text : Paint → ℕ → ℕ → List ℕ
 opening_text paint number thread =
     painted paint roles.Aside (decimal number) ++ codes "  thread " ++ decimal thread ++ gap
 
--- the part that the step belongs to, and its rule
+-- how many calls are open at an instruction, if it isn't one of an outermost call
+abbrev pub depth_text : ℕ → Part → List ℕ
+depth_text depth (Instruction at) = if nat_lt 1 depth then codes "depth " ++ decimal depth ++ gap else []
+depth_text depth _ = []
+
+-- the thread returns to the call that has made this one
+abbrev pub crossing_text : Paint → Crossing → List ℕ
+crossing_text paint Returns = gap ++ painted paint roles.Life (codes "returns to its caller")
+crossing_text paint Stays = []
+crossing_text paint Enters = []
+
+-- the depth of a called function, the part that the step belongs to, its rule, and the return to the caller
 abbrev pub naming_text : Paint → List Function → Entry → List ℕ
 naming_text paint functions e =
-    painted paint roles.Part (part_text functions e.sight.function e.part) ++ gap
+    depth_text e.doing.depth e.doing.part
+    ++ painted paint roles.Part (part_text functions e.sight.function e.doing.part) ++ gap
     ++ painted paint roles.Rule (rule_name (rule_at e.thread e.sight.running e.sight.event))
+    ++ crossing_text paint (crossing_at functions e.doing.depth e.sight)
 
 unfoldable pub entry_text : Paint → List Function → Entry → List ℕ
 entry_text paint functions e =

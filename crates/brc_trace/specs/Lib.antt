@@ -1,3 +1,4 @@
+pub mod Depths
 pub mod EntryTexts
 pub mod Naming
 pub mod Outcomes

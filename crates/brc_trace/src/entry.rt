@@ -2,10 +2,13 @@
 
 ghost use Rattle.std.specs.Prelude.{◌≡◌, ◌++◌, OnOk};
 ghost use Rattle.brc_trace.specs.EntryTexts.{opening_text, naming_text, found_text, duty_text, event_text, entry_text};
+ghost use Rattle.brc_trace.specs.EntryTexts.{depth_text, crossing_text};
 
+use crate::depth::{Crossing, crossing_at};
 use crate::line::Line;
 use crate::outcome::{life_outcome, lock_outcome, phase_outcome, reference_outcome, show_outcome};
 use crate::part::show_part;
+use crate::past::Doing;
 use crate::rule::rule_at;
 use crate::word::show_word;
 use brc_lang::Function;
@@ -21,8 +24,8 @@ pub struct Entry {
     pub number: u64,
     /// Main is 0, the workers are 1, 2, ..
     pub thread: u8,
-    /// The part of the thread's work that the step belongs to.
-    pub part: Part,
+    /// The part of the thread's work that the step belongs to, and how many of its calls are open as it begins.
+    pub doing: Doing,
     pub sight: Sight,
 }
 
@@ -59,7 +62,8 @@ fn show_opening(paint: Paint, number: u64, thread: u8, line: &mut Line) -> Resul
     line.text("  ")
 }
 
-/// Adds the part that the step belongs to, and the step's rule.
+/// Adds the depth of a called function, the part that the step belongs to, the step's rule, and whether the thread
+/// returns to the call that has made this one.
 fn show_naming(
     paint: Paint,
     functions: &[Function],
@@ -69,13 +73,48 @@ fn show_naming(
     ensures { OnOk result (line.new ≡ line.old ++ naming_text paint functions.now entry.now) }
 {
     let rule = rule_at(entry.thread, entry.sight.running, entry.sight.event);
+    show_depth(entry.doing, line)?;
     line.text(paint.on(Role::Part))?;
-    show_part(functions, entry.sight.function, entry.part, line)?;
+    show_part(functions, entry.sight.function, entry.doing.part, line)?;
     line.text(paint.off())?;
     line.text("  ")?;
     line.text(paint.on(Role::Rule))?;
     line.text(rule.name())?;
-    line.text(paint.off())
+    line.text(paint.off())?;
+    show_crossing(
+        paint,
+        crossing_at(functions, entry.doing.depth, &entry.sight),
+        line,
+    )
+}
+
+/// Adds how many calls are open at an instruction, if it isn't one of an outermost call.
+fn show_depth(doing: Doing, line: &mut Line) -> Result<(), AllocError>
+    ensures { OnOk result (line.new ≡ line.old ++ depth_text doing.depth doing.part) }
+{
+    match doing.part {
+        Part::Instruction { .. } if doing.depth > 1 => {
+            line.text("depth ")?;
+            line.number(doing.depth)?;
+            line.text("  ")
+        }
+        _ => Ok(()),
+    }
+}
+
+/// Adds that the thread returns to the call that has made this one, if it does.
+fn show_crossing(paint: Paint, crossing: Crossing, line: &mut Line) -> Result<(), AllocError>
+    ensures { OnOk result (line.new ≡ line.old ++ crossing_text paint crossing) }
+{
+    match crossing {
+        Crossing::Returns => {
+            line.text("  ")?;
+            line.text(paint.on(Role::Life))?;
+            line.text("returns to its caller")?;
+            line.text(paint.off())
+        }
+        Crossing::Stays | Crossing::Enters => Ok(()),
+    }
 }
 
 /// Adds the word of the step, and what the step brings about. `exit` is the exit by which a close ends.

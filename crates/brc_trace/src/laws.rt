@@ -1,6 +1,7 @@
 //! Laws of all traces.
 
 ghost use Rattle.std.specs.Prelude.{◌≡◌, ◌≢◌, ℕ, Bool, List};
+ghost use Rattle.brc_lang.specs.declared.module.Function.{Function};
 ghost use Rattle.brc_word.specs.declared.values.TheConstants.{SET};
 ghost use Rattle.brc_word.specs.Words.{mark_at, marked_word, unmarked_word};
 ghost use Rattle.brc_model.specs.declared.address.Address.{Address};
@@ -23,8 +24,8 @@ use brc_world::sights_are_traces;
 /// States that the words that a trace shows are the threads' traces: of each thread, its word events in their order,
 /// each with what the step found and what it left.
 pub fn traces_show_words()
-    ensures { (m : StepMachine) (past : Past) (t : ℕ) (events : List (ℕ × Choice))
-        → words_in t (entries_on (world_of m) past events) ≡ events_on t m events }
+    ensures { (functions : List Function) (m : StepMachine) (past : Past) (t : ℕ) (events : List (ℕ × Choice))
+        → words_in t (entries_on functions (world_of m) past events) ≡ events_on t m events }
 {
     sights_are_traces();
 }

@@ -2,6 +2,7 @@
 //! relation it goes by, what its word was and what it left there, and what became of references and objects.
 #![tactic(auto)]
 
+mod depth;
 mod entry;
 mod fault;
 mod laws;
@@ -14,9 +15,11 @@ mod rule;
 mod tracing;
 mod word;
 
+pub use depth::Crossing;
 pub use entry::Entry;
 pub use fault::TraceFault;
 pub use laws::{changes_show_marks, rules_are_named, traces_show_words};
 pub use outcome::{Fate, Outcome};
+pub use past::Doing;
 pub use rule::Rule;
 pub use tracing::trace;

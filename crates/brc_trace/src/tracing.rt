@@ -74,7 +74,7 @@ impl Tracer {
         out: &mut W,
     ) -> Result<(), TraceFault>
         requires there { All (λ line. line.thread < length world.old.actors) lines.now }
-        requires fits { length self.old.past.parts ≡ length world.old.actors }
+        requires fits { length self.old.past.threads ≡ length world.old.actors }
         ensures traced { OnOk result (IsTraced paint functions.now (model_of world.old) self.old.past
             (events_of lines.now) (model_of world.new) self.new.past (W.contents out.old) (W.contents out.new)) }
         ensures stopped { OnErr result (StopsAmong paint functions.now (model_of world.old) self.old.past
@@ -98,13 +98,13 @@ impl Tracer {
         out: &mut W,
     ) -> Result<(), TraceFault>
         requires there { steps.thread < length world.old.actors }
-        requires fits { length self.old.past.parts ≡ length world.old.actors }
+        requires fits { length self.old.past.threads ≡ length world.old.actors }
         ensures traced { OnOk result (IsTraced paint functions.now (model_of world.old) self.old.past
             (events_of_line steps) (model_of world.new) self.new.past (W.contents out.old) (W.contents out.new)) }
         ensures stopped { OnErr result (StopsAmong paint functions.now (model_of world.old) self.old.past
             (events_of_line steps) (model_of world.new) (W.contents out.old) (W.contents out.new)) }
         ensures as_many { length world.new.actors ≡ length world.old.actors }
-        ensures remembers { OnOk result (length self.new.past.parts ≡ length self.old.past.parts) }
+        ensures remembers { OnOk result (length self.new.past.threads ≡ length self.old.past.threads) }
     {
         for done in 0..steps.times {
             if world.is_gone(usize::from(steps.thread)) {
@@ -128,13 +128,13 @@ impl Tracer {
         out: &mut W,
     ) -> Result<(), TraceFault>
         requires there { thread < length world.old.actors }
-        requires fits { length self.old.past.parts ≡ length world.old.actors }
+        requires fits { length self.old.past.threads ≡ length world.old.actors }
         ensures traced { OnOk result (IsTraced paint functions.now (model_of world.old) self.old.past
             ((thread, choice) ∷ []) (model_of world.new) self.new.past (W.contents out.old) (W.contents out.new)) }
         ensures stopped { OnErr result (StopsAmong paint functions.now (model_of world.old) self.old.past
             ((thread, choice) ∷ []) (model_of world.new) (W.contents out.old) (W.contents out.new)) }
         ensures as_many { length world.new.actors ≡ length world.old.actors }
-        ensures remembers { OnOk result (length self.new.past.parts ≡ length self.old.past.parts) }
+        ensures remembers { OnOk result (length self.new.past.threads ≡ length self.old.past.threads) }
     {
         self.prepare(paint, functions, world, thread, choice)?;
         world.step(usize::from(thread), choice)?;
@@ -154,11 +154,12 @@ impl Tracer {
         choice: Choice,
     ) -> Result<(), TraceFault>
         requires there { thread < length world.now.actors }
-        requires fits { length self.old.past.parts ≡ length world.now.actors }
+        requires fits { length self.old.past.threads ≡ length world.now.actors }
         ensures line { OnOk result (self.new.line ≡ lines_text paint functions.now
             (entries_at (model_of world.now) self.old.past (thread, choice))) }
-        ensures past { OnOk result (self.new.past ≡ past_at (model_of world.now) self.old.past (thread, choice)) }
-        ensures remembers { OnOk result (length self.new.past.parts ≡ length self.old.past.parts) }
+        ensures past { OnOk result (self.new.past ≡ past_at functions.now (model_of world.now) self.old.past
+            (thread, choice)) }
+        ensures remembers { OnOk result (length self.new.past.threads ≡ length self.old.past.threads) }
     {
         match world.next_event(&mut self.scratch, usize::from(thread), choice) {
             Ok(sight) => Ok(self.show(paint, functions, thread, &sight)?),
@@ -173,15 +174,15 @@ impl Tracer {
         thread: u8,
         sight: &Option<Sight>,
     ) -> Result<(), AllocError>
-        requires { thread < length self.old.past.parts }
+        requires { thread < length self.old.past.threads }
         ensures line { OnOk result (self.new.line ≡ lines_text paint functions.now
             (entries_by self.old.past thread sight.now)) }
-        ensures past { OnOk result (self.new.past ≡ past_by self.old.past thread sight.now) }
-        ensures remembers { OnOk result (length self.new.past.parts ≡ length self.old.past.parts) }
+        ensures past { OnOk result (self.new.past ≡ past_by functions.now self.old.past thread sight.now) }
+        ensures remembers { OnOk result (length self.new.past.threads ≡ length self.old.past.threads) }
     {
         self.line.clear();
         if let Some(sight) = sight {
-            let entry = self.past.note(thread, *sight);
+            let entry = self.past.note(functions, thread, *sight);
             show_entry(paint, functions, &entry, &mut self.line)?;
         }
         self.past.count(1);

@@ -1,5 +1,5 @@
 use Rattle.std.proofs.Common.{◌∙◌, sym, ap, List, ℕ, Bor, Some, option_map}
-use Rattle.brc_command.proofs.Calling.{found_at, looked_up, known_there, unknown_there}
+use Rattle.brc_command.proofs.Calling.{found_at, looked_up, named_there, none_named}
 use Rattle.brc_command.specs.Calls.{is_named}
 use Rattle.brc_command.proofs.explaining.number_asked.Goals as goal
 
@@ -7,15 +7,15 @@ pub returns-in-Some-number_of-clause-known : goal.returns-in-Some-number_of-clau
 returns-in-Some-number_of-clause-known c =
     let m = c.args.module.now in
     let name = c.in-Some.name.now in
-    rw c.in-Some.is (known_there m name c.in-Some-number_of.number (sym (looked_up m name _ _ _ c.as_slice.ensures
-    c.as_bytes.ensures.value c.number_of.ensures) ∙ c.in-Some-number_of.is))
+    rw c.in-Some.is (named_there m name c.in-Some-number_of.number (sym (looked_up is_named m name _ _ _
+    c.as_slice.ensures c.as_bytes.ensures.value c.number_of.ensures) ∙ c.in-Some-number_of.is))
 
 pub returns-in-None-clause-unknown : goal.returns-in-None-clause-unknown
 returns-in-None-clause-unknown c =
     let m = c.args.module.now in
     let name = c.in-Some.name.now in (
       ap (option_map (λ (word : Bor (List ℕ)). word.now)) c.in-Some.is,
-      unknown_there m name (sym (looked_up m name _ _ _ c.as_slice.ensures c.as_bytes.ensures.value
+      none_named m name (sym (looked_up is_named m name _ _ _ c.as_slice.ensures c.as_bytes.ensures.value
           c.number_of.ensures) ∙ c.in-None.is),
     )
 
@@ -24,5 +24,5 @@ returns-in-Some-number_of-clause-number c =
     let m = c.args.module.now in
     let name = c.in-Some.name.now in
     rw c.in-Some.is (ap Some (sym (found_at (is_named name) m.functions c.in-Some-number_of.number
-    (sym (looked_up m name _ _ _ c.as_slice.ensures c.as_bytes.ensures.value c.number_of.ensures)
+    (sym (looked_up is_named m name _ _ _ c.as_slice.ensures c.as_bytes.ensures.value c.number_of.ensures)
     ∙ c.in-Some-number_of.is)).1))

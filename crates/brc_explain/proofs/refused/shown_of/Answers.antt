@@ -1,4 +1,4 @@
-use Rattle.std.proofs.Common.{subst, sym}
+use Rattle.std.proofs.Common.{subst}
 use Rattle.brc_lang.specs.declared.module.Function.{Function}
 use Rattle.std.specs.Prelude.{List}
 use Rattle.brc_explain.specs.Rows.{IsNamed, NoneNamed}
@@ -16,5 +16,5 @@ returns c =
           c.as_slice.ensures c.in-Some.ensures;
       listed = c.in_ok-listing.ensures;
       leads = c.in_ok-path.ensures;
-      walked = rw (sym c.as_slice-2.ensures) c.in_ok-steps.ensures;
+      walked = c.in_ok-steps.ensures;
     }

@@ -10,22 +10,23 @@ use Rattle.brc_explain.proofs.rows.path_rows.Goals as goal
 
 pub loop-taken-preserved : goal.loop-taken-preserved
 loop-taken-preserved c =
-    let code = c.args.code.now in
+    let f = c.args.function.now in
+    let code = f.code in
     let exits = c.args.exits.now in
     let taken = c.loop-taken.taken in
-    let end = path_end code (take taken exits) in
+    let end = path_end f (take taken exits) in
     let exit = get_or exits taken Success in
     elim c.match-reached.branch [
       | in-Some+in_ok-push_step w ↦
           let at = w.in-Some.at in
           let before = w.in-Some.before in
-          simp unary_clauses (w.rows-is ∙ w.in_ok-push_step.ensures
+          simp unary_clauses (w.rows-is ∙ rw c.as_slice-code.ensures at w.in_ok-push_step.ensures
           ∙ ap (λ (rows : List StepRow). rows ++ step_rows code (At at before) exit) c.loop-taken.invariant
-          ∙ ap (λ (rows : List StepRow). first_steps code exits taken ++ rows)
+          ∙ ap (λ (rows : List StepRow). first_steps f exits taken ++ rows)
           (sym (row_from code end at before exit (sym c.reached.ensures ∙ w.in-Some.is))))
       | in_default w ↦
-          simp unary_clauses (w.rows-is ∙ c.loop-taken.invariant ∙ sym (append-nil (first_steps code exits taken))
-          ∙ ap (λ (rows : List StepRow). first_steps code exits taken ++ rows)
+          simp unary_clauses (w.rows-is ∙ c.loop-taken.invariant ∙ sym (append-nil (first_steps f exits taken))
+          ∙ ap (λ (rows : List StepRow). first_steps f exits taken ++ rows)
           (sym (no_row code end exit (sym c.reached.ensures ∙ w.in_default.is))))
     ]
 
@@ -34,4 +35,4 @@ returns c =
     let ended = c.loop-taken-test.false in
     let within = c.loop-taken.auto.taken-end in
     let all : c.loop-taken.taken ≡ length c.args.exits.now = omega (arith, ended, within) in
-    c.loop-taken.invariant ∙ ap (first_steps c.args.code.now c.args.exits.now) all
+    c.loop-taken.invariant ∙ ap (first_steps c.args.function.now c.args.exits.now) all

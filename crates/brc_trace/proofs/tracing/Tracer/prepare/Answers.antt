@@ -15,5 +15,5 @@ returns-in_ok-show-in-Ok-clause-line c =
 pub returns-in_ok-show-in-Ok-clause-past : goal.returns-in_ok-show-in-Ok-clause-past
 returns-in_ok-show-in-Ok-clause-past c =
     c.in_ok-show-in-Ok.ensures.past
-    ∙ ap (λ (s : Option Sight). past_by c.args.self.now.past c.args.thread s)
+    ∙ ap (λ (s : Option Sight). past_by c.args.functions.now c.args.self.now.past c.args.thread s)
     (c.in-Ok.ensures ∙ ap (λ (n : ℕ). sight_at (model_of c.args.world.now) n c.args.choice) c.from.ensures)

@@ -10,6 +10,6 @@ invariant-loop-line g l = record {
   traced : IsTraced l.paint l.functions (model_of l.initial.world) l.initial.self.past
       (events_of (take l.line-index l.lines)) (model_of l.world) l.self.past
       (g.W.Write.contents l.initial.out) (g.W.Write.contents l.out);
-  fits : length l.self.past.parts ≡ length l.world.actors;
+  fits : length l.self.past.threads ≡ length l.world.actors;
   as_many : length l.world.actors ≡ length l.initial.world.actors;
 }

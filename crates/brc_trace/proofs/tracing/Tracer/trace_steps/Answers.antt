@@ -14,7 +14,7 @@ returns-then-is_gone-clause-traced g c =
     (subst (λ (n : ℕ). is_gone_at (model_of c.loop-done.world) n ≡ true) c.from.ensures
     (sym c.is_gone.ensures ∙ c.if-is_gone.true))
     c.loop-done.invariant.traced
-    (counted_is c.loop-done.self.past c.count.new.self _ c.count.ensures.parts c.count.ensures.number)
+    (counted_is c.loop-done.self.past c.count.new.self _ c.count.ensures.threads c.count.ensures.number)
 
 pub returns-in_err-trace_step-clause-stopped : goal.returns-in_err-trace_step-clause-stopped
 returns-in_err-trace_step-clause-stopped g c =
