@@ -2,7 +2,7 @@ ghost use Rattle.std.specs.Prelude.{IfOk};
 ghost use Rattle.brc_lang.specs.Grammar.{IsModule};
 
 use crate::random_tables::first_other_point;
-use brc_check::{CheckCode, check};
+use brc_check::{CheckCode, Checked, check};
 use brc_lang::{Module, read};
 use std::alloc::Global;
 use std::test::*;
@@ -187,10 +187,18 @@ pub fn function_of(alloc: Global, lines: &[u8]) -> Result<Module, Fail>
 fn refusal_of(alloc: Global, lines: &[u8]) -> Result<Option<CodeAt>, Fail> {
     match check(alloc, function_of(alloc, lines)?) {
         Err(refused) => Ok(Some((refused.at, refused.code))),
-        Ok(checked) => match first_other_point(alloc, &checked)? {
-            None => Ok(None),
-            Some(_) => Err("the table has the states of a walk")?,
-        },
+        Ok(checked) => {
+            agrees_with_a_walk(alloc, &checked)?;
+            Ok(None)
+        }
+    }
+}
+
+/// Fails unless the table of an accepted module has the states of a walk.
+fn agrees_with_a_walk(alloc: Global, checked: &Checked) -> Result<(), Fail> {
+    match first_other_point(alloc, checked)? {
+        None => Ok(()),
+        Some(_) => Err("the table has the states of a walk")?,
     }
 }
 
@@ -225,13 +233,19 @@ fn paths_differ(rt: HostRuntime) -> Result<(), Fail> {
     Ok(())
 }
 
-/// Whether the text is refused in the function of this name, and where and for what; `None` where it is accepted.
-fn refusal_in(alloc: Global, text: &[u8], name: &[u8]) -> Result<Option<(bool, CodeAt)>, Fail> {
-    let Some(refused) = check(alloc, module_of(alloc, text)?).err() else {
-        return Ok(None);
-    };
-    let is_named = refused.function.as_bytes() == name;
-    Ok(Some((is_named, (refused.at, refused.code))))
+/// Whether the text is refused in the function of this name, and where and for what; `None` where it is accepted. The
+/// table of an accepted one has the states of a walk.
+pub fn refusal_in(alloc: Global, text: &[u8], name: &[u8]) -> Result<Option<(bool, CodeAt)>, Fail> {
+    match check(alloc, module_of(alloc, text)?) {
+        Err(refused) => {
+            let is_named = refused.function.as_bytes() == name;
+            Ok(Some((is_named, (refused.at, refused.code))))
+        }
+        Ok(checked) => {
+            agrees_with_a_walk(alloc, &checked)?;
+            Ok(None)
+        }
+    }
 }
 
 #[test]

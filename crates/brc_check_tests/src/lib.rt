@@ -3,6 +3,10 @@
 #![tactic(auto)]
 
 #[cfg(test)]
+mod call_lines;
+#[cfg(test)]
+mod calls;
+#[cfg(test)]
 mod extremes;
 #[cfg(test)]
 mod functions;

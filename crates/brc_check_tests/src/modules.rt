@@ -1,3 +1,7 @@
+use crate::call_lines::{
+    CALL_NUMBERS, CALL_TARGETS, CALL_WORDS, CALLED, CALLEES, CALLS, DEPTHS, PARAMETERS, SEVEN_DEEP,
+    VERSIONS, WRITTEN_BACK,
+};
 use crate::host_cases::{
     AGAIN_WORDS, HOST_IN_ORDER, MODES, PATH_NUMBERS, PATH_WORDS, READ_HOST, READ_NUMBERS,
     READ_WORDS,
@@ -27,7 +31,7 @@ const HEAD: &[u8] = b"module 1\nfunc f\n";
 const BELOW: &[u8] = b"\nfail\nend\n";
 
 // The text above the cases, the cases, and the text below them.
-const TABLES: [(&[u8], &str, &[u8]); 28] = [
+const TABLES: [(&[u8], &str, &[u8]); 36] = [
     (b"", MODULES, b""),
     (HEAD, READ, BELOW),
     (HEAD, NUM_NUMBERS, BELOW),
@@ -56,6 +60,14 @@ const TABLES: [(&[u8], &str, &[u8]); 28] = [
     (HEAD, BACK, b""),
     (HEAD, NOT_BACK, b""),
     (HEAD, EARLIER, b""),
+    (b"", VERSIONS, b""),
+    (b"module 2\n", PARAMETERS, BELOW),
+    (CALLED, CALLS, BELOW),
+    (CALLED, CALL_WORDS, BELOW),
+    (CALLED, CALL_NUMBERS, BELOW),
+    (CALLED, CALLEES, BELOW),
+    (CALLED, CALL_TARGETS, b""),
+    (SEVEN_DEEP, DEPTHS, b""),
 ];
 
 // The first case with another answer. A case is the answer, a colon and a part of a text, with a bar for each line
@@ -86,7 +98,7 @@ fn first_other<'a>(
 const MODULES: &str = "\
 line 5 L2: module 1|func f|fail|end||
 line 1 L1: module 1\r|func f|fail|end|
-line 1 L1: module 2|func f|fail|end|
+line 1 L1: module 3|func f|fail|end|
 line 1 L1: module 1 |func f|fail|end|
 line 2 L2: module 1|func  f|fail|end|
 line 2 L2: module 1|func f |fail|end|
@@ -311,13 +323,17 @@ fn read_and_written(alloc: Global, text: &[u8]) -> Result<Vec<u8>, Fail> {
     Ok(out)
 }
 
-// With ample memory and a writer that takes all, the largest module is read and written.
+// With ample memory and a writer that takes all, the largest module is read and written. So are modules of version 2.
 #[test]
 fn reads_and_writes_the_largest_module(rt: HostRuntime) -> Result<(), Fail> {
     let first = b"num v15 4294967295 else @255\n";
     let text = many(rt.alloc(), 64, first, 255, b"")?;
     let again = read_and_written(rt.alloc(), &text)?;
     assert!(rt; again.as_slice() == text.as_slice());
+    for text in WRITTEN_BACK {
+        let again = read_and_written(rt.alloc(), text)?;
+        assert!(rt; again.as_slice() == *text, "{text:?}");
+    }
     Ok(())
 }
 

@@ -4,7 +4,7 @@ ghost use Rattle.brc_lang.specs.Grammar.{IsModule};
 
 use crate::functions::{function_of, module_of};
 use brc_check::{
-    CheckCode, Exit, Path, State, Step, VarState, entry, first_states, follow, infer, path_to,
+    CheckCode, Exit, Path, State, Step, VarState, entry_of, first_states, follow, infer, path_to,
 };
 use brc_lang::{Kind, Module};
 use std::alloc::Global;
@@ -121,8 +121,9 @@ fn state(var: VarState) -> State {
 fn one_step(rt: HostRuntime) -> Result<(), Fail> {
     let module = function_of(rt.alloc(), b"newref v1 v0\nfail\n")?;
     let code = module.functions.as_slice()[0].code.as_slice();
-    assert_eq!(rt; entry(), state(VarState::Empty));
-    let taken = follow(code, 0, &entry(), Exit::Success);
+    let entry = entry_of(&[]);
+    assert_eq!(rt; entry, state(VarState::Empty));
+    let taken = follow(code, 0, &entry, Exit::Success);
     let Step::To(1, arriving) = taken else {
         return Err("the path goes on to the second instruction")?;
     };
@@ -139,7 +140,7 @@ fn first_other_state(
     vars: &[Option<VarState>],
 ) -> Result<Option<usize>, Fail> {
     let module = function_of(alloc, lines)?;
-    let entries = first_states(alloc, module.functions.as_slice()[0].code.as_slice())?;
+    let entries = first_states(alloc, &module.functions.as_slice()[0])?;
     if entries.len() != vars.len() {
         return Ok(Some(entries.len()));
     }

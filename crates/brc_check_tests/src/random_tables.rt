@@ -2,14 +2,18 @@
 
 ghost use Rattle.std.specs.Prelude.{◌<◌};
 
-use crate::functions::function_of;
-use brc_check::{Checked, Exit, State, Step, check, entry, follow};
-use brc_lang::{Instr, write_number, write_pieces};
+use crate::functions::module_of;
+use brc_check::{Checked, Exit, State, Step, check, entry_of, follow};
+use brc_lang::{Function, Instr, write_number, write_pieces};
 use std::alloc::Global;
 use std::test::*;
 
 /// How many functions are made.
 const FUNCTIONS: u64 = 2000;
+
+/// The functions that a random one may call, and its heading.
+const HEAD: &[u8] =
+    b"module 2\nfunc show borrow any\nnewref v2 v1\nret v2\nend\nfunc give steal any\nret v1\nend\nfunc f\n";
 
 /// From this point on a function gives up what it still owns.
 const END: usize = 24;
@@ -17,7 +21,8 @@ const END: usize = 24;
 /// The last point, a `fail`, before which nothing is owned.
 const LAST: usize = 29;
 
-/// What v1, v2 and v3 own while a function is written: nothing (0), none (1), the list (2) or a number (3).
+/// What v1, v2 and v3 own while a function is written: nothing (0), none (1), the list (2), a number (3), or what
+/// another function has returned (4).
 type Owned = [u8; 3];
 
 const NAMES: [&[u8]; 3] = [b"v1", b"v2", b"v3"];
@@ -84,13 +89,39 @@ fn put_goto(draft: &mut Draft) -> Result<(), Fail> {
     Ok(())
 }
 
+/// Adds a call that lends the list to `show`, if nothing is owned, or one by which `give` steals all that is. Only
+/// what the call returns is owned behind it. Elsewhere adds a plain line.
+fn put_call(draft: &mut Draft, to: usize, from: usize) -> Result<(), Fail>
+    requires to { to < 3 }
+    requires from { from < 3 }
+{
+    let mut rest = draft.owned;
+    rest[from] = 0;
+    if draft.owned == [0, 0, 0] {
+        put_target(
+            draft,
+            &[b"call ", NAMES[to], b" show v0 else @"],
+            LAST,
+            b"\n",
+        )?;
+    } else if rest == [0, 0, 0] && from != to {
+        let words: [&[u8]; 5] = [b"call ", NAMES[to], b" give ", NAMES[from], b" else @"];
+        put_target(draft, &words, LAST, b"\n")?;
+    } else {
+        return put_plain(draft);
+    }
+    draft.owned = [0, 0, 0];
+    draft.owned[to] = 4;
+    Ok(())
+}
+
 /// Adds a line at random.
 fn put_random(draft: &mut Draft) -> Result<(), Fail> {
     let one = next(draft, 3) as usize;
     let other = next(draft, 3) as usize;
     let to = next(draft, 24) as usize;
     let owned = draft.owned;
-    match next(draft, 8) {
+    match next(draft, 10) {
         0 if owned[one] == 0 => {
             put(draft, &[b"none ", NAMES[one]])?;
             draft.owned[one] = 1;
@@ -114,15 +145,16 @@ fn put_random(draft: &mut Draft) -> Result<(), Fail> {
         }
         4 | 5 => put_again(draft, to)?,
         6 => put_goto(draft)?,
+        8 | 9 => put_call(draft, one, other)?,
         _ => put_plain(draft)?,
     }
     Ok(())
 }
 
-/// Returns the lines of a random function that is accepted.
-fn lines_of(alloc: Global, seed: u64) -> Result<Vec<u8>, Fail> {
+/// Returns the text of a module whose last function is a random one that is accepted.
+fn text_of(alloc: Global, seed: u64) -> Result<Vec<u8>, Fail> {
     let mut draft = Draft {
-        lines: Vec::new(alloc),
+        lines: Vec::from_slice(alloc, HEAD)?,
         before: Vec::new(alloc),
         owned: [0; 3],
         seed,
@@ -144,14 +176,16 @@ fn lines_of(alloc: Global, seed: u64) -> Result<Vec<u8>, Fail> {
         }
     }
     put(&mut draft, &[b"fail"])?;
+    put(&mut draft, &[b"end"])?;
     let Draft { lines, .. } = draft;
     Ok(lines)
 }
 
 /// Fills a full table: what each exit leaves becomes the state of its target, round after round.
-fn walked(alloc: Global, code: &[Instr]) -> Result<Vec<Option<State>>, Fail> {
+fn walked(alloc: Global, function: &Function) -> Result<Vec<Option<State>>, Fail> {
+    let code = function.code.as_slice();
     let mut states = Vec::new(alloc);
-    states.push(Some(entry()))?;
+    states.push(Some(entry_of(function.parameters.as_slice())))?;
     for _ in 0..code.len() {
         states.push(None)?;
     }
@@ -177,30 +211,45 @@ fn walk(code: &[Instr], states: &mut Vec<Option<State>>) {
     }
 }
 
-/// The first point at which the table of an accepted module has another state than the walk.
-pub fn first_other_point(alloc: Global, checked: &Checked) -> Result<Option<usize>, Fail> {
-    let Some(function) = checked.module().functions.as_slice().first() else {
-        return Err("a module has a function")?;
-    };
-    let states = walked(alloc, function.code.as_slice())?;
+/// A function of a module and a point of it, both counted from 0.
+type Point = (usize, usize);
+
+/// The first point of this function at which the table of an accepted module has another state than the walk.
+fn first_other_in(
+    alloc: Global,
+    checked: &Checked,
+    number: usize,
+    function: &Function,
+) -> Result<Option<usize>, Fail> {
+    let states = walked(alloc, function)?;
     for (at, state) in states.iter().enumerate() {
-        let other = checked.table().at(checked.module(), 0, at) != *state;
-        if other || checked.entry(0, at) != *state {
+        let other = checked.table().at(checked.module(), number, at) != *state;
+        if other || checked.entry(number, at) != *state {
             return Ok(Some(at));
         }
     }
     Ok(None)
 }
 
-/// The first of these functions whose table has another state at some point than the walk, and the point.
-fn first_other_function(alloc: Global) -> Result<Option<(u64, usize)>, Fail> {
+/// The first point at which the table of an accepted module has another state than the walk.
+pub fn first_other_point(alloc: Global, checked: &Checked) -> Result<Option<Point>, Fail> {
+    for (number, function) in checked.module().functions.as_slice().iter().enumerate() {
+        if let Some(at) = first_other_in(alloc, checked, number, function)? {
+            return Ok(Some((number, at)));
+        }
+    }
+    Ok(None)
+}
+
+/// The first of these modules whose table has another state at some point than the walk, and the point.
+fn first_other_module(alloc: Global) -> Result<Option<(u64, Point)>, Fail> {
     for seed in 0..FUNCTIONS {
-        let lines = lines_of(alloc, seed)?;
-        let Ok(checked) = check(alloc, function_of(alloc, &lines)?) else {
-            return Err("the function is accepted, and memory is ample")?;
+        let text = text_of(alloc, seed)?;
+        let Ok(checked) = check(alloc, module_of(alloc, &text)?) else {
+            return Err("the module is accepted, and memory is ample")?;
         };
-        if let Some(at) = first_other_point(alloc, &checked)? {
-            return Ok(Some((seed, at)));
+        if let Some(point) = first_other_point(alloc, &checked)? {
+            return Ok(Some((seed, point)));
         }
     }
     Ok(None)
@@ -208,6 +257,6 @@ fn first_other_function(alloc: Global) -> Result<Option<(u64, usize)>, Fail> {
 
 #[test]
 fn random_tables(rt: HostRuntime) -> Result<(), Fail> {
-    assert_eq!(rt; first_other_function(rt.alloc())?, None);
+    assert_eq!(rt; first_other_module(rt.alloc())?, None);
     Ok(())
 }

@@ -3,6 +3,7 @@
 use crate::cases::{
     Case, FIRST, LEAKING, MISSPELT, SMALLEST, UNREAD, assert_cases, contains, outputs,
 };
+use crate::worked::KEEP;
 use brc_check::CheckCode;
 use brc_command::{Asked, LoadError};
 use brc_lang::FaultCode;
@@ -17,12 +18,31 @@ const MODULES: &[(&[u8], Option<&str>, &[u8], (&[u8], u8))] = &[
     (LEAKING, Some("f"), b"C5", (b"refused f @1 C5\n", 1)),
     (MISSPELT, None, b"L2", (b"unreadable line 3 L2\n", 2)),
     (MISSPELT, Some("g"), b"L2", (b"unreadable line 3 L2\n", 2)),
+    (
+        KEEP,
+        Some("keep"),
+        b"func keep steal num\n    @0  lock v0              v0 borrowed list, v1 owned num\n",
+        (b"", 0),
+    ),
+    (
+        KEEP,
+        Some("f"),
+        b"@2  drop v2                  v0 borrowed list, v2 owned",
+        (b"", 0),
+    ),
+    (
+        b"module 2\nfunc f\ncall v1 f else @1\nfail\nend\n",
+        None,
+        b"L9",
+        (b"unreadable line 3 L9\n", 2),
+    ),
 ];
 
 // A code, and a part of its page.
 const PAGES: &[(Topic, &[u8])] = &[
     (Topic::Check(CheckCode::LeftOwned), b"C5"),
     (Topic::Read(FaultCode::UnknownWord), b"L2"),
+    (Topic::Read(FaultCode::Callee), b"L9"),
 ];
 
 // Nothing is explained if the module lacks the function, also if it is refused, or if the file gives nothing.

@@ -83,14 +83,45 @@ close faults 0
 left 1 list
 ";
 
+// `give` hands the number back to its caller.
+const HANDED_BACK: &[u8] = b"module 2\nfunc give steal any\nret v1\nend\n\
+      func f\nnum v1 7 else @3\ncall v2 give v1 else @3\ndrop v2\nfail\nend\n";
+
+const CALL_PLAN: &[u8] = b"schedule 1\nworkers 1\nrows 4\ncall 1 f 1\nstep 1 ok 12\n";
+
+// A call and a return to a caller are one step each, and change no word.
+const CALL_TRACE: &[u8] =
+    b"1  thread 1  f @0 num v1 7 else @3  KindOfOther  row 2 kind: unborn -> num 7
+2  thread 1  f @0 num v1 7 else @3  Born  row 2 local: nobody -> owner 1, 1  row 2 born
+3  thread 1  f @1 call v2 give v1 else @3  Silent
+4  thread 1  depth 2  give @0 ret v1  Silent  returns to its caller
+5  thread 1  f @2 drop v2  OwnerReleases  row 2 local: owner 1, 1
+6  thread 1  f @2 drop v2  LocalReachesZero  row 2 local: owner 1, 1 -> 0  row 2 given up
+7  thread 1  f @2 drop v2  NothingShared  row 2 shared: 0 default  row 2 dies
+8  thread 1  f @2 drop v2  Chained  row 2 gate: free -> dying by 1, last
+9  thread 1  f @2 drop v2  ChainRead  row 2 gate: dying by 1, last
+10  thread 1  f @2 drop v2  DyingCells  row 2 kind: num 7
+11  thread 1  f @2 drop v2  Closes  row 2 gate: dying by 1, last -> closed  row 2 closed
+12  thread 1  f @3 fail  Silent
+threads 1
+running 2
+created 2
+closed 1
+alive 1
+host faults 0
+close faults 0
+left 1 list
+";
+
 const TRACES: &[(&[u8], &[u8], &[u8])] = &[
     (SMALLEST, PLAN, TRACE),
     (TWO_OWNED, STOP_PLAN, STOP_TRACE),
+    (HANDED_BACK, CALL_PLAN, CALL_TRACE),
 ];
 
 // By the command line, and by its texts. Nothing is traced of a text that can't be read.
 #[test]
-fn traces_two_modules(rt: HostRuntime) {
+fn traces_modules(rt: HostRuntime) {
     let words = ["brc", "step", "m.brc", "s.txt", "--trace"];
     for (module, plan, trace) in TRACES {
         let (out, err, status) = acts(&rt, words.as_slice(), Ok(*module), Ok(*plan));

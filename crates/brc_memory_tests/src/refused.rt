@@ -1,7 +1,8 @@
 //! Four workers swap numbers in the root, and one allocation is refused: each call that takes memory says so, and
 //! whatever was made by then is closed.
 
-ghost use Rattle.std.specs.Prelude.{◌≡◌, ◌<◌, length, IfOk};
+ghost use Rattle.std.specs.Prelude.{◌≡◌, ◌<◌, true, [], length, IfOk};
+ghost use Rattle.brc_model.specs.Threads.{function_at};
 ghost use Rattle.brc_table.specs.Hands.{IsOf};
 
 use brc_check::{CheckCode, Checked, check};
@@ -52,7 +53,8 @@ enum Outcome {
     Starting { created: u32, closed: u32 },
     /// Nowhere.
     Ended { created: u32, closed: u32 },
-    /// A text that isn't read, a module that is refused, or a thread that isn't gone at the end: it never comes.
+    /// A text that isn't read, a module that is refused, a function with parameters, or a thread that isn't gone at the
+    /// end: it never comes.
     Wrong,
 }
 
@@ -92,6 +94,7 @@ fn outcome_of<R: Threads + Wait + Sync>(
 ) -> Outcome
     requires few { length hosts.old ≡ THREADS }
     requires function { 0 < length checked.now.module.functions }
+    requires parameters { (function_at checked.now.module.functions 0).parameters ≡ [] }
 {
     let Ok((heap, mut main)) = Heap::new(alloc, THREADS, ROWS) else {
         return Outcome::Opening;
@@ -118,6 +121,16 @@ fn outcome_of<R: Threads + Wait + Sync>(
     }
 }
 
+/// Returns whether the module's first function has no parameters, as those that workers call.
+#[tactic(auto, using(crate::proofs::Callable::has_no_parameters))]
+fn is_callable(checked: &Checked) -> bool
+    ensures function { 0 < length checked.now.module.functions }
+    ensures parameters { result ≡ true → (function_at checked.now.module.functions 0).parameters ≡ [] }
+{
+    // The accepted module has a first function.
+    checked.module().functions.as_slice()[0].parameters.len() == 0
+}
+
 /// Returns a host for each worker, which never fails.
 fn hosts_of(alloc: Global) -> Result<Vec<FakeHost<'static>>, AllocError>
     ensures { IfOk result (λ hosts. length hosts.items ≡ THREADS) }
@@ -141,8 +154,9 @@ fn swaps<R: Threads + Wait + Sync>(rt: &R, alloc: Global) -> Outcome {
         Err(refused) if refused.code == CheckCode::NoMemory => return Outcome::Checking,
         Err(_) => return Outcome::Wrong,
     };
-    // The accepted module has a first function.
-    let _module = checked.module();
+    if !is_callable(&checked) {
+        return Outcome::Wrong;
+    }
     let Ok(mut hosts) = hosts_of(alloc) else {
         return Outcome::Hosts;
     };

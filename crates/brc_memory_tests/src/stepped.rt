@@ -1,8 +1,9 @@
 //! A schedule that is stepped while one allocation is refused: each call that takes memory says so, and made again it
 //! goes on, so that the report is the same wherever memory was refused.
 
-ghost use Rattle.std.specs.Prelude.{IfSome};
+ghost use Rattle.std.specs.Prelude.{◌≡◌, ◌<◌, true, [], length, IfSome};
 ghost use Rattle.brc_lang.specs.Grammar.{IsModule};
+ghost use Rattle.brc_model.specs.Threads.{function_at};
 
 use brc_check::{CheckCode, Checked, infer, verify};
 use brc_lang::{FaultCode, Module, read};
@@ -116,12 +117,22 @@ fn report_of(alloc: Global, world: &World<'_>, refused: &mut Refusals) -> Vec<u8
     report
 }
 
+/// Returns whether the module has a function with this number, which has no parameters, as those that workers call.
+#[tactic(auto, using(crate::proofs::Callable::has_no_parameters))]
+fn is_callable(checked: &Checked, function: usize) -> bool
+    ensures function { result ≡ true → function < length checked.now.module.functions }
+    ensures parameters { result ≡ true → (function_at checked.now.module.functions function).parameters ≡ [] }
+{
+    let functions = checked.module().functions.as_slice();
+    function < functions.len() && functions[function].parameters.len() == 0
+}
+
 /// Steps the schedule over the module. Returns the report, or what is there of it.
 fn stepped(alloc: Global, refused: &mut Refusals) -> Option<Vec<u8>> {
     let module = module_of(alloc, refused)?;
     let checked = checked_of(alloc, module, refused)?;
     let schedule = schedule_of(alloc, refused)?;
-    if checked.module().functions.len() < CALLS.len() {
+    if !is_callable(&checked, 0) || !is_callable(&checked, 1) {
         return None;
     }
     for _ in 0..2 {

@@ -2,10 +2,11 @@
 
 use crate::runs::{Open, report_of};
 use crate::seeds::after;
+use crate::worked::THREE_OPEN;
 use std::test::*;
 
-/// How many runs there are.
-const RUNS: u64 = 1000;
+/// The modules, and how many runs of each there are.
+const MODULES: [(&[u8], u64); 2] = [(SHARED, 1000), (THREE_OPEN, 300)];
 
 /// The workers, their rows and their calls.
 const RUN: (u8, u16, u32) = (32, 8, 4);
@@ -22,12 +23,14 @@ const SHARED: &[u8] =
 #[test]
 fn workers_that_are_stopped_leave_nothing(rt: HostRuntime) -> Result<(), Fail> {
     let mut number = 0;
-    for _ in 0..RUNS {
-        number = after(number);
-        let steps = (number >> 33) % (MOST_STEPS + 1);
-        let counts = report_of(&rt, rt.alloc(), SHARED, RUN, steps, &Open)?;
-        let created = counts[2];
-        assert_eq!(rt; counts, [32, 0, created, created, 0, 0, 0], "{steps} steps");
+    for (text, runs) in MODULES {
+        for _ in 0..runs {
+            number = after(number);
+            let steps = (number >> 33) % (MOST_STEPS + 1);
+            let counts = report_of(&rt, rt.alloc(), text, RUN, steps, &Open)?;
+            let created = counts[2];
+            assert_eq!(rt; counts, [32, 0, created, created, 0, 0, 0], "{steps} steps");
+        }
     }
     Ok(())
 }

@@ -1,6 +1,7 @@
-//! A run of a module's first function, in plain numbers.
+//! A run of a module's last function, in plain numbers.
 
-ghost use Rattle.std.specs.Prelude.{◌≡◌, length, IfOk};
+ghost use Rattle.std.specs.Prelude.{◌≡◌, ◌<◌, [], length, IfOk};
+ghost use Rattle.brc_model.specs.Threads.{function_at};
 
 use brc_check::{Checked, check};
 use brc_host::FakeHost;
@@ -42,6 +43,23 @@ pub fn accepted(alloc: Global, text: &[u8]) -> Result<Checked, Fail> {
     }
 }
 
+/// Returns the number of the module's last function, which has no parameters.
+#[tactic(auto, using(crate::proofs::Callable::has_no_parameters))]
+pub fn last_function(checked: &Checked) -> Result<usize, Fail>
+    ensures function { IfOk result (λ function. function < length checked.now.module.functions) }
+    ensures parameters { IfOk result (λ function.
+        (function_at checked.now.module.functions function).parameters ≡ []) }
+{
+    // The accepted module has a function.
+    let functions = checked.module().functions.as_slice();
+    let last = functions.len() - 1;
+    if functions[last].parameters.len() == 0 {
+        Ok(last)
+    } else {
+        Err("the last function has no parameters")?
+    }
+}
+
 /// Returns the tally's numbers.
 pub fn counts_of(tally: &Tally) -> Counts {
     [
@@ -66,7 +84,7 @@ fn hosts_of(alloc: Global, count: u8) -> Result<Vec<FakeHost<'static>>, AllocErr
     Ok(hosts)
 }
 
-/// Lets `threads` workers, with `rows` rows each, call the first function of the text's module `times` times, with at
+/// Lets `threads` workers, with `rows` rows each, call the last function of the text's module `times` times, with at
 /// most `steps` instructions each and over hosts that never fail. Returns the report's numbers.
 pub fn report_of<R: Threads + Wait + Sync, G: Gate + Sync>(
     rt: &R,
@@ -111,10 +129,9 @@ pub fn report_over<'p, R: Threads + Wait + Sync, G: Gate + Sync>(
         return Err("1 to 32 workers with 1 to 1024 rows each")?;
     }
     let checked = accepted(alloc, text)?;
-    // The accepted module has a first function.
-    let _module = checked.module();
+    let function = last_function(&checked)?;
     let plan = Plan {
-        call: Call { function: 0, times },
+        call: Call { function, times },
         steps,
         threads,
         rows,

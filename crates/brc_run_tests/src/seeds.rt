@@ -1,8 +1,8 @@
-//! The same module, step by step in many orders and on real threads, where the order can't change what is born and
+//! The same modules, step by step in many orders and on real threads, where the order can't change what is born and
 //! closed.
 
-use crate::runs::{Counts, Open, accepted, counts_of, report_of};
-use crate::worked::SWAP;
+use crate::runs::{Counts, Open, accepted, counts_of, last_function, report_of};
+use crate::worked::{OWN_TURNS, SWAP, THREE_OPEN};
 use brc_world::{Call, Choice, World};
 use std::alloc::Global;
 use std::test::*;
@@ -53,10 +53,9 @@ fn are_gone(world: &World) -> bool {
 /// numbers.
 fn stepped(alloc: Global, text: &[u8], seed: u64) -> Result<Counts, Fail> {
     let checked = accepted(alloc, text)?;
-    // The accepted module has a first function.
-    let _module = checked.module();
+    let function = last_function(&checked)?;
     let call = Call {
-        function: 0,
+        function,
         times: TIMES,
     };
     let calls = vec![in alloc; call, call, call]?;
@@ -77,14 +76,23 @@ fn stepped(alloc: Global, text: &[u8], seed: u64) -> Result<Counts, Fail> {
     Err("the schedule ends")?
 }
 
+/// A module, and the report of its runs. Calls that call each other use all eight rows of each worker.
+const CASES: [(&[u8], Counts); 3] = [
+    (SWAP, [3, 0, 16, 16, 0, 0, 0]),
+    (THREE_OPEN, [3, 0, 25, 25, 0, 0, 0]),
+    (OWN_TURNS, [3, 0, 25, 25, 0, 0, 0]),
+];
+
 #[test]
 fn steps_in_any_order_and_threads_agree(rt: HostRuntime) -> Result<(), Fail> {
     let run = (THREADS, ROWS, TIMES);
-    let want = report_of(&rt, rt.alloc(), SWAP, run, u64::MAX, &Open)?;
-    assert_eq!(rt; want, [3, 0, 16, 16, 0, 0, 0]);
-    for seed in 0..40 {
-        let counts = stepped(rt.alloc(), SWAP, seed)?;
-        assert_eq!(rt; counts, want, "seed {seed}");
+    for (text, want) in CASES {
+        let counts = report_of(&rt, rt.alloc(), text, run, u64::MAX, &Open)?;
+        assert_eq!(rt; counts, want, "{text:?}");
+        for seed in 0..40 {
+            let counts = stepped(rt.alloc(), text, seed)?;
+            assert_eq!(rt; counts, want, "{text:?}, seed {seed}");
+        }
     }
     Ok(())
 }

@@ -1,6 +1,6 @@
 //! Runs over the files and the peers of the system.
 
-use crate::runs::{Counts, Open, accepted, counts_of};
+use crate::runs::{Counts, Open, accepted, counts_of, last_function};
 use brc_model::Call;
 use brc_run::{Plan, System, run_on_system};
 use std::alloc::Global;
@@ -20,7 +20,7 @@ const COPY: &[u8] =
     b"module 1\nfunc f\nopen v1 0 r else @13\nconnect v2 0 else @12\nlock v1\nread v3 v1 4 else @10\n\
     unlock v1\nlock v2\nwrite v2 v3 else @7\nunlock v2\ndrop v3\ngoto @11\nunlock v1\ndrop v2\ndrop v1\nfail\nend\n";
 
-/// Lets one worker call the first function of the text's module once, with at most `steps` instructions. Returns the
+/// Lets one worker call the last function of the text's module once, with at most `steps` instructions. Returns the
 /// report's numbers.
 fn report_on<R: System>(
     rt: &R,
@@ -31,13 +31,9 @@ fn report_on<R: System>(
     peers: &[&str],
 ) -> Result<Counts, Fail> {
     let checked = accepted(alloc, text)?;
-    // The accepted module has a first function.
-    let _module = checked.module();
+    let function = last_function(&checked)?;
     let plan = Plan {
-        call: Call {
-            function: 0,
-            times: 1,
-        },
+        call: Call { function, times: 1 },
         steps,
         threads: 1,
         rows: 8,

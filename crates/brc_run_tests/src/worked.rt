@@ -31,6 +31,30 @@ const DEEP: &[u8] =
     b"module 1\nfunc f\nlist v1 1 else @8\nlist v2 1 else @7\nlock v2\nset v2 0 v1 else @4\nunlock v2\n\
     move v1 v2\nagain @1 998\ndrop v1\nfail\nend\n";
 
+/// `keep` steals the number, and puts it into the root.
+const KEEP: &[u8] =
+    b"module 2\nfunc keep steal num\nlock v0\nset v0 0 v1 else @2\nunlock v0\nfail\nend\n\
+    func f\nnum v1 7 else @3\ncall v2 keep v1 else @3\ndrop v2\nfail\nend\n";
+
+/// `show` borrows the number, and returns a reference of its own to it.
+const SHOW: &[u8] = b"module 2\nfunc show borrow any\nnewref v2 v1\nret v2\nend\n\
+    func f\nnum v1 7 else @4\ncall v2 show v1 else @3\ndrop v2\ndrop v1\nfail\nend\n";
+
+/// `g` steals the number and hands it back, twice.
+const HAND_BACK: &[u8] = b"module 2\nfunc g steal any\nret v1\nend\n\
+    func f\nnum v1 1 else @4\ncall v2 g v1 else @4\ncall v1 g v2 else @4\ndrop v1\nfail\nend\n";
+
+/// `f` lends its second number to `hold`, which returns a reference to it and hands a number of its own to `keep`.
+pub const THREE_OPEN: &[u8] =
+    b"module 2\nfunc keep steal num\nlock v0\nset v0 0 v1 else @2\nunlock v0\nfail\nend\n\
+    func hold borrow any\nnewref v2 v1\nnum v3 9 else @4\ncall v4 keep v3 else @4\ndrop v4\nret v2\nend\n\
+    func f\nnum v1 7 else @7\nnum v2 8 else @6\ncall v3 hold v2 else @5\ndrop v3\ngoto @5\ndrop v2\n\
+    drop v1\nfail\nend\n";
+
+/// `g` makes three numbers, and `f` calls it twice: each open call has turns of its own.
+pub const OWN_TURNS: &[u8] = b"module 2\nfunc g\nnum v1 1 else @3\ndrop v1\nagain @0 2\nfail\nend\n\
+    func f\ncall v1 g else @2\ndrop v1\nagain @0 1\nfail\nend\n";
+
 const CASES: &[Case] = &[
     (
         "nothing done",
@@ -104,6 +128,44 @@ const CASES: &[Case] = &[
         DEEP,
         (4, MOST_ROWS, 1),
         [4, 0, 4001, 4001, 0, 0, 0],
+    ),
+    ("keep", KEEP, (1, MOST_ROWS, 1), [1, 0, 2, 2, 0, 0, 0]),
+    (
+        "keep by four threads",
+        KEEP,
+        (4, MOST_ROWS, 1000),
+        [4, 0, 4001, 4001, 0, 0, 0],
+    ),
+    ("show", SHOW, (1, MOST_ROWS, 1), [1, 0, 2, 2, 0, 0, 0]),
+    (
+        "hand back, twice",
+        HAND_BACK,
+        (1, MOST_ROWS, 2),
+        [1, 0, 3, 3, 0, 0, 0],
+    ),
+    (
+        "three open calls",
+        THREE_OPEN,
+        (1, MOST_ROWS, 1),
+        [1, 0, 4, 4, 0, 0, 0],
+    ),
+    (
+        "three open calls by 32 threads",
+        THREE_OPEN,
+        (32, MOST_ROWS, 300),
+        [32, 0, 28801, 28801, 0, 0, 0],
+    ),
+    (
+        "three open calls by 32 threads, eight rows",
+        THREE_OPEN,
+        (32, 8, 300),
+        [32, 0, 257, 257, 0, 0, 0],
+    ),
+    (
+        "own turns",
+        OWN_TURNS,
+        (1, MOST_ROWS, 1),
+        [1, 0, 7, 7, 0, 0, 0],
     ),
 ];
 

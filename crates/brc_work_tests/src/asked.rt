@@ -2,7 +2,7 @@
 
 ghost use Rattle.brc_host.specs.FakeHost.{AnswersByPlan};
 
-use crate::calls::{accepted, makes_calls, opened, worker_hand};
+use crate::calls::{accepted, last_function, makes_calls, opened, worker_hand};
 use crate::hearing::Hearing;
 use crate::runs::MOST_ROWS;
 use bitflags::Flags;
@@ -101,9 +101,10 @@ impl Host for NotingHost<'_> {
     }
 }
 
-/// Lets a worker call the first function of the text's module twice. Returns what the host has noted.
+/// Lets a worker call the last function of the text's module twice. Returns what the host has noted.
 fn noted<R: Wait>(rt: &R, alloc: Global, text: &[u8], asked: Asked<'_>) -> Result<Notes, Fail> {
     let checked = accepted(alloc, text)?;
+    let function = last_function(&checked)?;
     let gate = Hearing::new();
     let mut host = NotingHost {
         fake: FakeHost::new(&[]),
@@ -120,6 +121,7 @@ fn noted<R: Wait>(rt: &R, alloc: Global, text: &[u8], asked: Asked<'_>) -> Resul
         rt,
         &heap,
         &checked,
+        function,
         2,
         u64::MAX,
         &mut hand,

@@ -2,10 +2,10 @@
 //! closed.
 
 use crate::calls::accepted;
-use crate::faults::COPY;
+use crate::faults::{COPY, FILE_IN_CALLS};
 use crate::hearing::Hearing;
 use crate::runs::{MOST_ROWS, run_apart, run_in_thread, run_over};
-use crate::worked::{IN_ITSELF, NOTHING, SET_OUT_OF_RANGE};
+use crate::worked::{HAND_BACK, IN_ITSELF, KEEP, NOTHING, OWN_TURNS, SET_OUT_OF_RANGE, THREE_OPEN};
 use brc_host::FakeHost;
 use std::test::*;
 
@@ -17,9 +17,9 @@ const BORROWING: &[u8] =
     b"module 1\nfunc f\nlist v1 1 else @11\nnum v2 3 else @10\nnewref v3 v0\nlock v1\nput v1 0 v2 else @7\n\
     borrow v4 v1 0 else @7\nput v1 0 v3 else @7\nunlock v1\ndrop v3\ndrop v2\ndrop v1\nfail\nend\n";
 
-/// A call that is stopped at each bound: its name, the module, how many instructions the whole call begins, and how
-/// many objects are created, closed and alive at the end, at the bounds from 0 on. The last ones are those of all
-/// further bounds.
+/// A call that is stopped at each bound: its name, the module, how many instructions the whole call and those that it
+/// makes begin, and how many objects are created, closed and alive at the end, at the bounds from 0 on. The last ones
+/// are those of all further bounds.
 type Case<'a> = (&'a str, &'a [u8], u64, &'a [[u64; 3]]);
 
 const CASES: &[Case] = &[
@@ -41,6 +41,64 @@ const CASES: &[Case] = &[
         COPY,
         13,
         &[[1, 1, 0], [2, 2, 0], [3, 3, 0], [3, 3, 0], [4, 4, 0]],
+    ),
+    ("keep", KEEP, 7, &[[1, 1, 0], [2, 2, 0]]),
+    ("hand back", HAND_BACK, 7, &[[1, 1, 0], [2, 2, 0]]),
+    (
+        "three open calls",
+        THREE_OPEN,
+        16,
+        &[
+            [1, 1, 0],
+            [2, 2, 0],
+            [3, 3, 0],
+            [3, 3, 0],
+            [3, 3, 0],
+            [4, 4, 0],
+        ],
+    ),
+    (
+        "own turns",
+        OWN_TURNS,
+        25,
+        &[
+            [1, 1, 0],
+            [1, 1, 0],
+            [2, 2, 0],
+            [2, 2, 0],
+            [2, 2, 0],
+            [3, 3, 0],
+            [3, 3, 0],
+            [3, 3, 0],
+            [4, 4, 0],
+            [4, 4, 0],
+            [4, 4, 0],
+            [4, 4, 0],
+            [4, 4, 0],
+            [4, 4, 0],
+            [5, 5, 0],
+            [5, 5, 0],
+            [5, 5, 0],
+            [6, 6, 0],
+            [6, 6, 0],
+            [6, 6, 0],
+            [7, 7, 0],
+        ],
+    ),
+    (
+        "file in calls",
+        FILE_IN_CALLS,
+        12,
+        &[
+            [1, 1, 0],
+            [1, 1, 0],
+            [2, 2, 0],
+            [2, 2, 0],
+            [2, 2, 0],
+            [2, 2, 0],
+            [2, 2, 0],
+            [3, 3, 0],
+        ],
     ),
 ];
 

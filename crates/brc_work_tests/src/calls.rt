@@ -1,7 +1,8 @@
 //! Calls over a heap of one worker. The contract of each carries what the next one requires.
 
-ghost use Rattle.std.specs.Prelude.{◌≡◌, ◌<◌, ◌≤◌, IfOk, OnOk};
+ghost use Rattle.std.specs.Prelude.{◌≡◌, ◌<◌, ◌≤◌, true, [], length, IfOk, OnOk};
 ghost use Rattle.brc_model.specs.Limits.{row_limit};
+ghost use Rattle.brc_model.specs.Threads.{function_at};
 ghost use Rattle.brc_table.specs.Hands.{IsOf};
 ghost use Rattle.brc_work_tests.specs.Ready.{HoldsRoot};
 
@@ -24,6 +25,31 @@ pub fn accepted(alloc: Global, text: &[u8]) -> Result<Checked, Fail> {
     match check(alloc, module) {
         Ok(checked) => Ok(checked),
         Err(_) => Err("the module is accepted")?,
+    }
+}
+
+/// Returns whether the module has a function with this number, which has no parameters, as those that workers call.
+#[tactic(auto, using(crate::proofs::Callable::has_no_parameters))]
+pub fn is_callable(checked: &Checked, function: usize) -> bool
+    ensures function { result ≡ true → function < length checked.now.module.functions }
+    ensures parameters { result ≡ true → (function_at checked.now.module.functions function).parameters ≡ [] }
+{
+    let functions = checked.module().functions.as_slice();
+    function < functions.len() && functions[function].parameters.len() == 0
+}
+
+/// Returns the number of the module's last function, which has no parameters.
+pub fn last_function(checked: &Checked) -> Result<usize, Fail>
+    ensures function { IfOk result (λ function. function < length checked.now.module.functions) }
+    ensures parameters { IfOk result (λ function.
+        (function_at checked.now.module.functions function).parameters ≡ []) }
+{
+    // The accepted module has a function.
+    let last = checked.module().functions.len() - 1;
+    if is_callable(checked, last) {
+        Ok(last)
+    } else {
+        Err("the last function has no parameters")?
     }
 }
 
@@ -50,25 +76,25 @@ pub fn worker_hand(
     Ok(heap.hand_out(main, WORKER)?)
 }
 
-/// Calls the module's first function `times` times, and begins at most `steps` instructions. Returns how the run has
-/// ended.
+/// Calls the function `times` times, and begins at most `steps` instructions. Returns how the run has ended.
 pub fn makes_calls<R: Wait, H: Host<Res = FakeResource>>(
     rt: &R,
     heap: &Heap<FakeResource>,
     checked: &Checked,
+    function: usize,
     times: u32,
     steps: u64,
     hand: &mut Hand<FakeResource>,
     host: &mut H,
     gate: &Hearing,
 ) -> Ran
+    requires function { function < length checked.now.module.functions }
+    requires parameters { (function_at checked.now.module.functions function).parameters ≡ [] }
     requires holds { HoldsRoot heap.now hand.old }
     ensures holds { HoldsRoot heap.now hand.new }
 {
-    // The accepted module has a first function.
-    let _module = checked.module();
     let queue = Queue::new(heap);
-    Worker::new(heap, &queue).run(rt, checked, 0, times, steps, hand, host, gate)
+    Worker::new(heap, &queue).run(rt, checked, function, times, steps, hand, host, gate)
 }
 
 /// Lets the hand's thread leave. Returns how many closes have failed.

@@ -25,6 +25,13 @@ pub const COPY: &[u8] =
 const KEPT: &[u8] =
     b"module 1\nfunc f\nopen v1 0 r else @4\nlock v0\nset v0 0 v1 else @3\nunlock v0\nfail\nend\n";
 
+/// `f` gets a file from `opened`, and lends it to `length`, which returns how many bytes it has read. The host's calls
+/// are 0 open, 1 read and 2 close.
+pub const FILE_IN_CALLS: &[u8] = b"module 2\nfunc opened\nopen v1 0 r else @2\nret v1\nfail\nend\n\
+    func length borrow file\nlock v1\nread v2 v1 4 else @4\nunlock v1\nret v2\nunlock v1\nfail\nend\n\
+    func f\ncall v1 opened else @5\nas v1 file else @6\ncall v2 length v1 else @4\ndrop v2\ndrop v1\nfail\n\
+    drop v1\nfail\nend\n";
+
 const CASES: &[Case] = &[
     ("open", OPEN, &[], [2, 2, 0, 0, 0]),
     ("open fails", OPEN, &[0], [1, 1, 0, 1, 0]),
@@ -52,6 +59,25 @@ const CASES: &[Case] = &[
     ("copy's second close fails", COPY, &[5], [4, 4, 0, 0, 1]),
     ("copy's closes fail", COPY, &[4, 5], [4, 4, 0, 0, 2]),
     ("a call that copy doesn't make", COPY, &[6], [4, 4, 0, 0, 0]),
+    ("file in calls", FILE_IN_CALLS, &[], [3, 3, 0, 0, 0]),
+    (
+        "file in calls, whose open fails",
+        FILE_IN_CALLS,
+        &[0],
+        [1, 1, 0, 1, 0],
+    ),
+    (
+        "file in calls, whose read fails",
+        FILE_IN_CALLS,
+        &[1],
+        [2, 2, 0, 1, 0],
+    ),
+    (
+        "file in calls, whose close fails",
+        FILE_IN_CALLS,
+        &[2],
+        [3, 3, 0, 0, 1],
+    ),
 ];
 
 #[test]

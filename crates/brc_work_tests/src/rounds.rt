@@ -1,9 +1,11 @@
 //! A worker that somebody may stop: it makes its calls in rounds. docs/EMBED.md quotes this file.
 
+ghost use Rattle.std.specs.Prelude.{◌≡◌, []};
+ghost use Rattle.brc_model.specs.Threads.{function_at};
 ghost use Rattle.brc_table.specs.Hands.{IsOf};
 ghost use Rattle.brc_work_tests.specs.Ready.{HoldsRoot};
 
-use crate::calls::{accepted, ended, leaves, opened, worker_hand};
+use crate::calls::{accepted, ended, is_callable, leaves, opened, worker_hand};
 use crate::runs::{MOST_ROWS, objects};
 use crate::worked::FOUR_PASSES;
 use brc_check::Checked;
@@ -32,6 +34,7 @@ fn works<R: Wait, G: Gate>(
     gate: &G,
     stop: &AtomicBool,
 ) -> u32
+    requires parameters { (function_at checked.now.module.functions 0).parameters ≡ [] }
     requires holds { HoldsRoot heap.now hand.old }
     ensures table { IsOf heap.now hand.new }
 {
@@ -77,6 +80,9 @@ impl Gate for Enough {
 /// bound, and the objects that were created, closed and are alive.
 fn in_rounds<R: Wait>(rt: &R, alloc: Global, text: &[u8]) -> Result<(u32, [u64; 3]), Fail> {
     let checked = accepted(alloc, text)?;
+    if !is_callable(&checked, 0) {
+        return Err("the first function has no parameters")?;
+    }
     let mut host = FakeHost::new(&[]);
     let gate = Enough {
         begun: AtomicU32::new(0),

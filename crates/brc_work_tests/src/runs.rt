@@ -3,7 +3,9 @@
 ghost use Rattle.std.specs.Prelude.{◌≡◌, ◌<◌, ◌≤◌, length};
 ghost use Rattle.brc_model.specs.Limits.{row_limit, worker_limit};
 
-use crate::calls::{accepted, ended, leaves, makes_calls, opened, worker_hand};
+use crate::calls::{
+    accepted, ended, is_callable, last_function, leaves, makes_calls, opened, worker_hand,
+};
 use crate::hearing::Hearing;
 use brc_check::Checked;
 use brc_heap::{Final, Heap, ROOT};
@@ -59,7 +61,7 @@ pub fn objects(end: &Final<FakeResource>) -> [u64; 3] {
     [created, closed, alive]
 }
 
-/// Lets a worker with `rows` rows call the first function of the text's module `times` times, over a host that fails
+/// Lets a worker with `rows` rows call the last function of the text's module `times` times, over a host that fails
 /// in the calls of the plan. The worker begins at most `steps` instructions. Then it leaves, main leaves, and the heap
 /// ends.
 pub fn run_over<R: Wait>(
@@ -75,12 +77,13 @@ pub fn run_over<R: Wait>(
         return Err("a worker has 1 to 1024 rows")?;
     }
     let checked = accepted(alloc, text)?;
+    let function = last_function(&checked)?;
     let mut host = FakeHost::new(plan);
     let gate = Hearing::new();
     let (heap, mut main) = opened(alloc, rows)?;
     let mut hand = worker_hand(&heap, &mut main)?;
     let ran = makes_calls(
-        rt, &heap, &checked, times, steps, &mut hand, &mut host, &gate,
+        rt, &heap, &checked, function, times, steps, &mut hand, &mut host, &gate,
     );
     let totals = ran.totals();
     let first = leaves(rt, &heap, &mut hand, &mut host);
@@ -123,8 +126,8 @@ pub fn run_apart<R: Threads + Wait + Sync, G: Gate + Sync>(
     requires rows { (0 < rows) × (rows ≤ row_limit) }
     requires one_each { length hosts.old ≡ threads }
 {
-    if function >= checked.module().functions.as_slice().len() {
-        return Err("the module has the function")?;
+    if !is_callable(checked, function) {
+        return Err("the module has the function, which has no parameters")?;
     }
     let (heap, mut main) = Heap::new(alloc, threads, rows)?;
     let gone = fan_out(
@@ -159,10 +162,11 @@ pub fn run_in_thread<R: Threads + Wait + Sync>(
         return Err("a worker has 1 to 1024 rows")?;
     }
     let checked = accepted(alloc, text)?;
+    let function = last_function(&checked)?;
     let gate = Hearing::new();
     let mut hosts = [FakeHost::new(plan)];
     let (ends, [created, closed, alive], last) = run_apart(
-        rt, alloc, &checked, 0, 1, rows, times, steps, &mut hosts, &gate,
+        rt, alloc, &checked, function, 1, rows, times, steps, &mut hosts, &gate,
     )?;
     let [ran] = ends.as_slice() else {
         return Err("there is one worker")?;

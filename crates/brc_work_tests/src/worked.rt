@@ -1,6 +1,6 @@
 //! Worked runs: what is born, what dies with it, and what is left.
 
-use crate::calls::{accepted, makes_calls, opened, worker_hand};
+use crate::calls::{accepted, last_function, makes_calls, opened, worker_hand};
 use crate::hearing::Hearing;
 use crate::runs::{Counts, MOST_ROWS, expect, run_over};
 use brc_host::FakeHost;
@@ -43,6 +43,37 @@ const DEEP: &[u8] =
     b"module 1\nfunc f\nlist v1 1 else @8\nlist v2 1 else @7\nlock v2\nset v2 0 v1 else @4\nunlock v2\n\
     move v1 v2\nagain @1 998\ndrop v1\nfail\nend\n";
 
+/// `keep` steals the number, and puts it into the root.
+pub const KEEP: &[u8] =
+    b"module 2\nfunc keep steal num\nlock v0\nset v0 0 v1 else @2\nunlock v0\nfail\nend\n\
+    func f\nnum v1 7 else @3\ncall v2 keep v1 else @3\ndrop v2\nfail\nend\n";
+
+/// `show` borrows the number, and returns a reference of its own to it.
+const SHOW: &[u8] = b"module 2\nfunc show borrow any\nnewref v2 v1\nret v2\nend\n\
+    func f\nnum v1 7 else @4\ncall v2 show v1 else @3\ndrop v2\ndrop v1\nfail\nend\n";
+
+/// `g` steals the number and hands it back, twice.
+pub const HAND_BACK: &[u8] = b"module 2\nfunc g steal any\nret v1\nend\n\
+    func f\nnum v1 1 else @4\ncall v2 g v1 else @4\ncall v1 g v2 else @4\ndrop v1\nfail\nend\n";
+
+/// `f` lends its second number to `hold`, which returns a reference to it and hands a number of its own to `keep`.
+pub const THREE_OPEN: &[u8] =
+    b"module 2\nfunc keep steal num\nlock v0\nset v0 0 v1 else @2\nunlock v0\nfail\nend\n\
+    func hold borrow any\nnewref v2 v1\nnum v3 9 else @4\ncall v4 keep v3 else @4\ndrop v4\nret v2\nend\n\
+    func f\nnum v1 7 else @7\nnum v2 8 else @6\ncall v3 hold v2 else @5\ndrop v3\ngoto @5\ndrop v2\n\
+    drop v1\nfail\nend\n";
+
+/// `g` makes three numbers, and `f` calls it twice: each open call has turns of its own.
+pub const OWN_TURNS: &[u8] = b"module 2\nfunc g\nnum v1 1 else @3\ndrop v1\nagain @0 2\nfail\nend\n\
+    func f\ncall v1 g else @2\ndrop v1\nagain @0 1\nfail\nend\n";
+
+/// Eight open calls, of which the innermost makes a number. Each hands it on to its caller, and `f` gives it up.
+const EIGHT_OPEN: &[u8] =
+    b"module 2\nfunc a\nnum v1 7 else @2\nret v1\nfail\nend\nfunc b\ncall v2 a else @2\nret v2\nfail\nend\n\
+    func c\ncall v3 b else @2\nret v3\nfail\nend\nfunc d\ncall v4 c else @2\nret v4\nfail\nend\n\
+    func e\ncall v5 d else @2\nret v5\nfail\nend\nfunc g\ncall v6 e else @2\nret v6\nfail\nend\n\
+    func h\ncall v7 g else @2\nret v7\nfail\nend\nfunc f\ncall v0 h else @2\ndrop v0\nfail\nend\n";
+
 const CASES: &[Case] = &[
     ("nothing", NOTHING, MOST_ROWS, 1, [1, 1, 0, 0, 0]),
     (
@@ -80,6 +111,54 @@ const CASES: &[Case] = &[
     ),
     ("deep lists", DEEP, MOST_ROWS, 1, [1001, 1001, 0, 0, 0]),
     ("deep lists, 500 rows", DEEP, 500, 1, [501, 501, 0, 0, 0]),
+    ("keep", KEEP, MOST_ROWS, 1, [2, 2, 0, 0, 0]),
+    (
+        "keep, 1000 times",
+        KEEP,
+        MOST_ROWS,
+        1000,
+        [1001, 1001, 0, 0, 0],
+    ),
+    ("show", SHOW, MOST_ROWS, 1, [2, 2, 0, 0, 0]),
+    ("hand back, twice", HAND_BACK, MOST_ROWS, 2, [3, 3, 0, 0, 0]),
+    (
+        "three open calls",
+        THREE_OPEN,
+        MOST_ROWS,
+        1,
+        [4, 4, 0, 0, 0],
+    ),
+    (
+        "three open calls, 20 times",
+        THREE_OPEN,
+        MOST_ROWS,
+        20,
+        [61, 61, 0, 0, 0],
+    ),
+    // The innermost number has no row, so `hold` doesn't call `keep`.
+    (
+        "three open calls, two rows",
+        THREE_OPEN,
+        2,
+        1,
+        [3, 3, 0, 0, 0],
+    ),
+    ("own turns", OWN_TURNS, MOST_ROWS, 1, [7, 7, 0, 0, 0]),
+    ("own turns, four rows", OWN_TURNS, 4, 1, [5, 5, 0, 0, 0]),
+    (
+        "eight open calls",
+        EIGHT_OPEN,
+        MOST_ROWS,
+        5,
+        [6, 6, 0, 0, 0],
+    ),
+    (
+        "eight open calls, three rows",
+        EIGHT_OPEN,
+        3,
+        5,
+        [4, 4, 0, 0, 0],
+    ),
 ];
 
 #[test]
@@ -110,7 +189,7 @@ fn the_gate_hears_each_call_of_thread_1_begin_and_end(rt: HostRuntime) -> Result
     Ok(())
 }
 
-/// Lets a worker call the first function of the text's module `times` times, with at most `steps` instructions, and
+/// Lets a worker call the last function of the text's module `times` times, with at most `steps` instructions, and
 /// then once more without a bound. Returns of each of the two runs the births that the worker has counted, and what a
 /// gate of its own has heard.
 fn two_runs<R: Wait>(
@@ -121,17 +200,19 @@ fn two_runs<R: Wait>(
     steps: u64,
 ) -> Result<[(u32, Option<u64>); 2], Fail> {
     let checked = accepted(alloc, text)?;
+    let function = last_function(&checked)?;
     let mut host = FakeHost::new(&[]);
     let (heap, mut main) = opened(alloc, MOST_ROWS)?;
     let mut hand = worker_hand(&heap, &mut main)?;
     let (gate, other) = (Hearing::new(), Hearing::new());
     let first = makes_calls(
-        rt, &heap, &checked, times, steps, &mut hand, &mut host, &gate,
+        rt, &heap, &checked, function, times, steps, &mut hand, &mut host, &gate,
     );
     let second = makes_calls(
         rt,
         &heap,
         &checked,
+        function,
         1,
         u64::MAX,
         &mut hand,

@@ -1,6 +1,6 @@
-ghost use Rattle.std.specs.Prelude.{◌<◌, length};
+ghost use Rattle.brc_world_tests.specs.Callable.{HasCallableEnds};
 
-use crate::steps::{TAKE_AND_DROP, accepted, accepted_text, counted, step};
+use crate::steps::{TAKE_AND_DROP, accepted, accepted_text, counted, last_call, step};
 use brc_check::Checked;
 use brc_world::{Call, Choice, Did, NoMemory, World};
 use std::alloc::{AllocError, Global};
@@ -32,19 +32,21 @@ pub const SWAP_AND_CLEAR: &[u8] =
     b"module 1\nfunc swap\nnum v1 7 else @7\nlock v0\nset v0 0 v1 else @6\nunlock v0\nnone v1\nret v1\nunlock v0\n\
       fail\nend\nfunc clear\nnone v1\nlock v0\nput v0 0 v1 else @3\nunlock v0\nret v1\nend\n";
 
+/// The same, the other way round: `swap` calls `keep`, which steals the number.
+pub const CLEAR_AND_KEEP: &[u8] =
+    b"module 2\nfunc clear\nnone v1\nlock v0\nput v0 0 v1 else @3\nunlock v0\nret v1\nend\n\
+      func keep steal num\nlock v0\nset v0 0 v1 else @2\nunlock v0\nfail\nend\n\
+      func swap\nnum v1 7 else @3\ncall v2 keep v1 else @3\ndrop v2\nfail\nend\n";
+
 /// Returns a world with two workers of one row each. Worker 1 calls the first function once, and worker 2 the last one.
 fn first(alloc: Global, checked: &Checked) -> Result<World<'_>, NoMemory>
-    requires { 0 < length checked.now.module.functions }
+    requires { HasCallableEnds checked.now.module }
 {
     let one = Call {
         function: 0,
         times: 1,
     };
-    let other = Call {
-        function: checked.module().functions.len() - 1,
-        times: 1,
-    };
-    World::new(alloc, checked, 2, 1, &[one, other])
+    World::new(alloc, checked, 2, 1, &[one, last_call(checked)])
 }
 
 /// Makes the move. The root is in row 1, and the workers' rows follow.
@@ -63,7 +65,7 @@ fn after<'a>(
     checked: &'a Checked,
     moves: &[u8],
 ) -> Result<(World<'a>, Option<Did>), NoMemory>
-    requires { 0 < length checked.now.module.functions }
+    requires { HasCallableEnds checked.now.module }
 {
     let mut world = first(alloc, checked)?;
     let mut did = None;
@@ -126,7 +128,7 @@ fn visit(
     seen: &mut BTreeSet<String>,
     paths: &mut Vec<Vec<u8>>,
 ) -> Result<(Option<Did>, bool), Fail>
-    requires { 0 < length checked.now.module.functions }
+    requires { HasCallableEnds checked.now.module }
 {
     let (world, did) = after(alloc, checked, &moves)?;
     if did != Some(Did::Moved) || !seen.insert(format!(in alloc; "{world:?}")?)? {
@@ -139,7 +141,7 @@ fn visit(
 
 /// Visits each state that moves lead to.
 fn search(alloc: Global, checked: &Checked, objects: u64) -> Result<Found, Fail>
-    requires { 0 < length checked.now.module.functions }
+    requires { HasCallableEnds checked.now.module }
 {
     let mut seen = BTreeSet::new(alloc);
     let mut paths: Vec<Vec<u8>> = Vec::new(alloc);
@@ -177,7 +179,7 @@ fn assert_ends<R: Abort + AllocGlobal + Print>(
     objects: u64,
     waits: bool,
 ) -> Result<(), Fail>
-    requires { 0 < length checked.now.module.functions }
+    requires { HasCallableEnds checked.now.module }
 {
     let found = search(rt.alloc(), checked, objects)?;
     println!(rt;
@@ -210,9 +212,12 @@ fn every_interleaving_of_items(rt: HostRuntime) -> Result<(), Fail> {
     assert_ends(&rt, &checked, 3, true)
 }
 
-/// Worker 1 stores a number in the root. Worker 2 takes it out, perhaps while worker 1 leaves.
+/// One worker stores a number in the root. The other one takes it out, perhaps while the first one leaves.
 #[test]
 fn every_interleaving_of_a_race(rt: HostRuntime) -> Result<(), Fail> {
-    let checked = accepted_text(rt.alloc(), SWAP_AND_CLEAR)?;
-    assert_ends(&rt, &checked, 2, true)
+    for text in [SWAP_AND_CLEAR, CLEAR_AND_KEEP] {
+        let checked = accepted_text(rt.alloc(), text)?;
+        assert_ends(&rt, &checked, 2, true)?;
+    }
+    Ok(())
 }

@@ -15,6 +15,8 @@ mod schedules;
 #[cfg(test)]
 mod steps;
 #[cfg(test)]
+mod stops;
+#[cfg(test)]
 mod words;
 #[cfg(test)]
 mod words_at_fault;

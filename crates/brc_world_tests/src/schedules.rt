@@ -1,10 +1,10 @@
 //! Whole schedules, run by one call.
 
-ghost use Rattle.std.specs.Prelude.{◌<◌, length};
 ghost use Rattle.brc_schedule.specs.Text.{IsSchedule};
+ghost use Rattle.brc_world_tests.specs.Callable.{HasCallableEnds};
 
-use crate::interleavings::SWAP_AND_CLEAR;
-use crate::steps::{accepted_text, counted};
+use crate::interleavings::{CLEAR_AND_KEEP, SWAP_AND_CLEAR};
+use crate::steps::{accepted_text, counted, last_call};
 use brc_check::Checked;
 use brc_world::{Call, Schedule, World, read_schedule};
 use std::alloc::Global;
@@ -25,8 +25,12 @@ const SECOND_WORD: &[u8] =
       unlock v0\ndrop v1\ngoto @9\nfail\nend\n\
       func clear\nnone v1\nlock v0\nput v0 0 v1 else @3\nunlock v0\nret v1\nend\n";
 
-/// A module of two functions, a schedule in which worker 1 calls the first one and worker 2 the other one, and the
-/// numbers of the report afterwards.
+/// `g` makes three numbers, and `f` calls it twice: each open call has turns of its own.
+pub const OWN_TURNS: &[u8] = b"module 2\nfunc g\nnum v1 1 else @3\ndrop v1\nagain @0 2\nfail\nend\n\
+      func f\ncall v1 g else @2\ndrop v1\nagain @0 1\nfail\nend\n";
+
+/// A module, a schedule in which worker 1 calls its first function and worker 2 its last one, and the numbers of the
+/// report afterwards.
 const RUNS: &[(&str, &[u8], &[u8], [u64; 7])] = &[
     (
         "queued_then_merged_at_exit",
@@ -109,12 +113,49 @@ const RUNS: &[(&str, &[u8], &[u8], [u64; 7])] = &[
           claim 1 66\nstep 1 ok 1000\nstep 0 ok 1000\n",
         [2, 0, 66, 66, 0, 0, 0],
     ),
+    (
+        "each open call has turns of its own",
+        OWN_TURNS,
+        b"schedule 1\nworkers 2\nrows 8\ncall 1 g 1\ncall 2 f 1\nstep 1 ok 1000\nstep 2 ok 1000\n\
+          step 0 ok 1000\n",
+        [2, 0, 10, 10, 0, 0, 0],
+    ),
+    // Worker 2 has made its number (2 steps), called `keep` (1) and locked the root (1).
+    (
+        "stopped inside `keep`, worker 2 gone",
+        CLEAR_AND_KEEP,
+        b"schedule 1\nworkers 2\nrows 4\ncall 1 clear 1\ncall 2 swap 1\nstep 2 ok 4\nstop 2\nstep 2 ok 1000\n",
+        [2, 2, 2, 1, 1, 0, 0],
+    ),
+    // Worker 1 waits for the root until worker 2 has unlocked it, and leaves before worker 2 gives up its number.
+    (
+        "stopped inside `keep`, the root unlocked",
+        CLEAR_AND_KEEP,
+        b"schedule 1\nworkers 2\nrows 4\ncall 1 clear 1\ncall 2 swap 1\nstep 2 ok 4\nstep 1 ok 100\nstop 2\n\
+          step 2 ok 1\nstep 1 ok 1000\n",
+        [2, 2, 2, 0, 2, 0, 0],
+    ),
+    (
+        "stopped inside `keep`, to the end",
+        CLEAR_AND_KEEP,
+        b"schedule 1\nworkers 2\nrows 4\ncall 1 clear 1\ncall 2 swap 1\nstep 2 ok 4\nstep 1 ok 100\nstop 2\n\
+          step 2 ok 1\nstep 1 ok 1000\nstep 2 ok 1000\nstep 0 ok 1000\n",
+        [2, 0, 2, 2, 0, 0, 0],
+    ),
+    // `keep` has stored the number, and hasn't returned.
+    (
+        "stopped at the end of `keep`, to the end",
+        CLEAR_AND_KEEP,
+        b"schedule 1\nworkers 2\nrows 4\ncall 1 clear 1\ncall 2 swap 1\nstep 2 ok 7\nstop 2\nstep 2 ok 1000\n\
+          step 1 ok 1000\nstep 0 ok 1000\n",
+        [2, 0, 2, 2, 0, 0, 0],
+    ),
 ];
 
 /// Runs the schedule over a world of two workers, of which the first one calls the first function once, and the second
 /// one the last function. Returns the numbers of the tally afterwards. Memory isn't refused here.
 fn tally_after(alloc: Global, checked: &Checked, schedule: &Schedule) -> Result<[u64; 7], Fail>
-    requires functions { 0 < length checked.now.module.functions }
+    requires functions { HasCallableEnds checked.now.module }
     requires schedule { IsSchedule schedule.now }
 {
     if schedule.workers != 2 {
@@ -124,11 +165,8 @@ fn tally_after(alloc: Global, checked: &Checked, schedule: &Schedule) -> Result<
         function: 0,
         times: 1,
     };
-    let other = Call {
-        function: checked.module().functions.len() - 1,
-        times: 1,
-    };
-    let mut world = World::new(alloc, checked, 2, schedule.rows, &[one, other])?;
+    let calls = [one, last_call(checked)];
+    let mut world = World::new(alloc, checked, 2, schedule.rows, &calls)?;
     world.run(schedule)?;
     let (numbers, _) = counted(alloc, &world)?;
     Ok(numbers)

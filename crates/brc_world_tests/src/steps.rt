@@ -1,5 +1,7 @@
-ghost use Rattle.std.specs.Prelude.{◌<◌, ◌≤◌, length, IfOk};
+ghost use Rattle.std.specs.Prelude.{◌≡◌, ◌<◌, ◌≤◌, true, IfOk};
 ghost use Rattle.brc_model.specs.Limits.{row_limit};
+ghost use Rattle.brc_model.specs.Safety.{IsCall};
+ghost use Rattle.brc_world_tests.specs.Callable.{HasCallableEnds};
 
 use brc_check::{Checked, check};
 use brc_lang::{Kind, read};
@@ -12,7 +14,7 @@ const ROUNDS: u32 = 50_000;
 
 /// Reads and checks the module with one function `f` of these lines.
 pub fn accepted(alloc: Global, lines: &[u8]) -> Result<Checked, Fail>
-    ensures { IfOk result (λ checked. 0 < length checked.module.functions) }
+    ensures { IfOk result (λ checked. HasCallableEnds checked.module) }
 {
     let mut text = Vec::from_slice(alloc, b"module 1\nfunc f\n")?;
     text.extend_from_slice(lines)?;
@@ -20,16 +22,39 @@ pub fn accepted(alloc: Global, lines: &[u8]) -> Result<Checked, Fail>
     accepted_text(alloc, &text)
 }
 
-/// Reads and checks the module of this text.
+/// Reads and checks the module of this text, whose first and last functions have no parameters.
 pub fn accepted_text(alloc: Global, text: &[u8]) -> Result<Checked, Fail>
-    ensures { IfOk result (λ checked. 0 < length checked.module.functions) }
+    ensures { IfOk result (λ checked. HasCallableEnds checked.module) }
 {
     let Ok(module) = read(alloc, text) else {
         return Err("the text is a module")?;
     };
     match check(alloc, module) {
-        Ok(checked) => Ok(checked),
+        Ok(checked) if has_callable_ends(&checked) => Ok(checked),
+        Ok(_) => Err("the first and the last function have no parameters")?,
         Err(_) => Err("the module is accepted")?,
+    }
+}
+
+/// Returns whether the module's first function and its last one have no parameters, as those that workers call.
+#[tactic(auto, using(crate::proofs::Callable::has_no_parameters))]
+fn has_callable_ends(checked: &Checked) -> bool
+    ensures { result ≡ true → HasCallableEnds checked.now.module }
+{
+    // The accepted module has a first function.
+    let functions = checked.module().functions.as_slice();
+    let last = functions.len() - 1;
+    functions[0].parameters.len() == 0 && functions[last].parameters.len() == 0
+}
+
+/// Returns the call of the module's last function, made once.
+pub fn last_call(checked: &Checked) -> Call
+    requires { HasCallableEnds checked.now.module }
+    ensures { IsCall checked.now.module result }
+{
+    Call {
+        function: checked.module().functions.len() - 1,
+        times: 1,
     }
 }
 
@@ -110,15 +135,11 @@ fn only(left: &[Left]) -> Option<Left> {
     }
 }
 
-/// Returns a world with one worker, which calls the function once.
-fn one_worker(alloc: Global, checked: &Checked) -> Result<World<'_>, NoMemory>
-    requires { 0 < length checked.now.module.functions }
+/// Returns a world with one worker, which has four rows and calls the last function once.
+pub fn one_worker(alloc: Global, checked: &Checked) -> Result<World<'_>, NoMemory>
+    requires { HasCallableEnds checked.now.module }
 {
-    let call = Call {
-        function: 0,
-        times: 1,
-    };
-    World::new(alloc, checked, 1, 4, &[call])
+    World::new(alloc, checked, 1, 4, &[last_call(checked)])
 }
 
 /// Returns whether the worker is gone at the end, what one more step of it answers, and the tally afterwards.
@@ -146,10 +167,7 @@ pub const TAKE_AND_DROP: &[u8] = b"newref v1 v0\ndrop v1\nfail\n";
 /// Returns the number of threads of a world with two workers, the answer of its first step, and the tally afterwards.
 fn first_step(alloc: Global) -> Result<(usize, Option<Did>, Told), Fail> {
     let checked = accepted(alloc, TAKE_AND_DROP)?;
-    let call = Call {
-        function: 0,
-        times: 1,
-    };
+    let call = last_call(&checked);
     let mut world = World::new(alloc, &checked, 2, 1024, &[call, call])?;
     let threads = world.threads();
     let did = step(&mut world, 1, Choice::Ok)?;
@@ -174,10 +192,7 @@ fn one_uses_all_rows(alloc: Global, rows: u16) -> Result<Told, Fail>
     requires most_rows { rows ≤ row_limit }
 {
     let checked = accepted(alloc, USE_ALL_ROWS)?;
-    let call = Call {
-        function: 0,
-        times: 1,
-    };
+    let call = last_call(&checked);
     let mut world = World::new(alloc, &checked, 1, rows, &[call])?;
     finish(&mut world)?;
     Ok(told(alloc, &world)?)
@@ -186,10 +201,7 @@ fn one_uses_all_rows(alloc: Global, rows: u16) -> Result<Told, Fail>
 /// Returns the same for three workers of 64 rows each.
 fn three_use_all_rows(alloc: Global) -> Result<Told, Fail> {
     let checked = accepted(alloc, USE_ALL_ROWS)?;
-    let call = Call {
-        function: 0,
-        times: 1,
-    };
+    let call = last_call(&checked);
     let mut world = World::new(alloc, &checked, 3, 64, &[call, call, call])?;
     finish(&mut world)?;
     Ok(told(alloc, &world)?)

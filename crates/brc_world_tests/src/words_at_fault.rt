@@ -189,9 +189,9 @@ const TEXTS: &[Case] = &[
         b"No line feed ends the line.",
     ),
     (
-        b"module 2\nfunc f\n",
-        b"  1 | module 2\n    |        ^\n",
-        b"the version 1.",
+        b"module 3\nfunc f\n",
+        b"  1 | module 3\n    |        ^\n",
+        b"the version",
     ),
     (
         b"module 1\r\nfunc f\n",
@@ -273,6 +273,41 @@ const TEXTS: &[Case] = &[
         b"module 1\nfunc g\nfail\nend\nfunc f\nfail\nnum v1 7 else @1\nend\n",
         b"  7 | num v1 7 else @1\n    |               ^^\n",
         b"the function's last one",
+    ),
+    (
+        b"module 1\nfunc f\ncall v1 f else @1\nfail\nend\n",
+        b"  3 | call v1 f else @1\n    | ^^^^\n",
+        b"No instruction has this name.",
+    ),
+    (
+        b"module 2\nfunc k steal bar\n",
+        b"  2 | func k steal bar\n    |              ^^^\n",
+        b"There is no such kind.",
+    ),
+    (
+        b"module 2\nfunc k any\n",
+        b"  2 | func k any\n    |        ^^^\n",
+        b"`borrow` or `steal`",
+    ),
+    (
+        b"module 2\nfunc k borrow\n",
+        b"  2 | func k borrow\n    |              ^\n",
+        b"has no kind.",
+    ),
+    (
+        b"module 2\nfunc k steal any steal any steal any steal any steal any\n",
+        b"steal any steal any\n    |                                                ^^^^^\n",
+        b"four parameters at most.",
+    ),
+    (
+        b"module 2\nfunc f\ncall v1 f else @1\nfail\nend\n",
+        b"  3 | call v1 f else @1\n    |         ^\n",
+        b"No function above",
+    ),
+    (
+        b"module 2\nfunc g\nfail\nend\nfunc f\ncall v1 g v0 else @1\nfail\nend\n",
+        b"  6 | call v1 g v0 else @1\n    |         ^\n",
+        b"The function of line 2 has 0 parameters, and the call has 1 argument.",
     ),
 ];
 
