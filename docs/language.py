@@ -1,19 +1,20 @@
 #!/usr/bin/env python3
-"""Runs the examples of docs/LANGUAGE.md and FROM_C.md and the modules of examples/README.md, and compares what
-is printed.
+"""Runs the examples of docs/LANGUAGE.md, FROM_C.md and C_API.md and the modules of examples/README.md, and compares
+what is printed.
 
     python3 docs/language.py          takes the program at crates/brc/out/brc
     python3 docs/language.py --try    takes `rt try`, which needs no proof, but some minutes
 
 A block marked `module` or `schedule` is the file f.brc or f.schedule of the blocks `console` below it. If the mark goes
-on with a name, it is the file of this name, and has to be the same as the one in examples/from_c. A console block is
-one command, on a line that begins with `$`, and what it prints: standard output, then standard error. A block marked
+on with a name, it is the file of this name, and has to be the same as the one in examples/from_c. A block marked
+`function` and a name is some functions of that file, one after another. Commands may name each file there. A console
+block is one command, on a line that begins with `$`, and what it prints: standard output, then standard error. A block marked
 `part` has some lines of that, one after another. The exit status has to be the one that LANGUAGE.md's table gives to
 such a line; an explanation has the line at its end. Of several lines, each with its file's name or an object, it is the
 greatest.
 
 A row of a table in examples/README.md names a module and what `brc check` prints of it. Each module has a row, and each
-file of examples/from_c a block in FROM_C.md.
+file of examples/from_c a block in FROM_C.md or C_API.md.
 """
 import json
 import re
@@ -25,8 +26,7 @@ from pathlib import Path
 
 ROOT = Path(__file__).resolve().parents[1]
 DOCS = ROOT / "docs"
-FROM_C_PAGE = DOCS / "FROM_C.md"
-PAGES = [DOCS / "LANGUAGE.md", FROM_C_PAGE]
+PAGES = [DOCS / "LANGUAGE.md", DOCS / "FROM_C.md", DOCS / "C_API.md"]
 EXAMPLES = ROOT / "examples"
 FROM_C = EXAMPLES / "from_c"
 PROGRAM = ROOT / "crates" / "brc" / "out" / "brc"
@@ -57,21 +57,24 @@ def status_of(line):
 
 
 def page_examples(page):
-    """The examples of a page, and the files that its blocks name."""
+    """The examples of a page, the files that its blocks are, and the functions that they have of files."""
     text = page.read_text()
-    files, found, named = {}, [], {}
-    for block in re.finditer(r"^```(module|schedule|console|part)(?: (\S+))?\n(.*?)^```$", text, re.M | re.S):
+    files, found, named, functions = {path.name: path.read_text() for path in FROM_C.iterdir()}, [], {}, []
+    marks = "module|schedule|function|console|part"
+    for block in re.finditer(rf"^```({marks})(?: (\S+))?\n(.*?)^```$", text, re.M | re.S):
         mark, name, inner = block.groups()
         if mark in ("console", "part"):
             line = text.count("\n", 0, block.start()) + 1
             command, wanted = inner.split("\n", 1)
             words = command.removeprefix("$ brc ")
             found.append(Example(f"{page.name}, line {line}", words, dict(files), wanted, mark == "part"))
+        elif mark == "function":
+            functions.append((name, inner))
         else:
             files[name or ("f.brc" if mark == "module" else "f.schedule")] = inner
             if name:
                 named[name] = inner
-    return found, named
+    return found, named, functions
 
 
 def table_examples():
@@ -91,12 +94,14 @@ def examples():
     """All examples, and the faults of files that differ or aren't named."""
     found, faults, in_pages = [], [], set()
     for page in PAGES:
-        more, named = page_examples(page)
+        more, named, functions = page_examples(page)
         found += more
-        in_pages |= set(named)
+        in_pages |= {*named, *(name for name, _ in functions)}
         faults += [f"{page.name}: {name} differs from examples/from_c" for name, text in named.items()
                    if not (FROM_C / name).exists() or (FROM_C / name).read_text() != text]
-    faults += [f"{FROM_C_PAGE.name}: {path.name} has no block" for path in sorted(FROM_C.iterdir())
+        faults += [f"{page.name}: {name} of examples/from_c has other functions" for name, text in functions
+                   if not (FROM_C / name).exists() or f"\n{text}" not in (FROM_C / name).read_text()]
+    faults += [f"examples/from_c: {path.name} has no block" for path in sorted(FROM_C.iterdir())
                if path.name not in in_pages]
     more, named = table_examples()
     modules = [str(path.relative_to(EXAMPLES)) for path in sorted(EXAMPLES.rglob("*.brc"))]
