@@ -14,7 +14,7 @@ use clap::{Arg, ArgAction, ArgMatches, Command, Error, value_parser};
 use std::alloc::{AllocError, Global};
 use std::convert::AsStr;
 
-const UNKNOWN_CODE: &str = "no such code: C1 to C12 and L1 to L9 can be explained";
+const UNKNOWN_CODE: &str = "no such code: C1 to C12 and L1 to L10 can be explained";
 
 const SIGNED: &str = "invalid value for a number: a sign or a leading zero";
 
@@ -191,7 +191,7 @@ fn explain_command<'a>(alloc: Global) -> Result<Command<'a>, AllocError> {
                 .conflicts_with("FILE")?
                 .conflicts_with("function")?
                 .conflicts_with("format")?
-                .help("A code to explain: C1 to C12, or L1 to L9"),
+                .help("A code to explain: C1 to C12, or L1 to L10"),
         )?
         .arg(format_argument(alloc))
 }

@@ -1,13 +1,13 @@
 -- Hands that rest, and rest again after each call.
 use Rattle.std.proofs.Common.{◌≡◌, ◌≤◌, ◌+◌, ℕ, Bool, true, false, List, [], ◌∷◌, ◌++◌, None, Some, inl, inr, refl, sym, ap, ◌∙◌, subst, arith}
-use Rattle.std.specs.Prelude.{not, cond, count_by, ◌==◌, ◌&&◌, ◌||◌, nat_le, nat_lt, if◌then◌else◌}
+use Rattle.std.specs.Prelude.{not, cond, count_by, ◌==◌, if◌then◌else◌}
 use Rattle.std.specs.List.{filter}
-use Rattle.std.proofs.lemmas.Bool.{cases_Bool, eq-eqb, leb-true, ltb-true}
+use Rattle.std.proofs.lemmas.Bool.{eq-eqb}
 use Rattle.std.proofs.lemmas.List.Sums.{sum_by-cons}
 use Rattle.brc_host.specs.HostCalls.{HostCall}
 use Rattle.brc_model.specs.declared.duty.Duty.{Duty}
 use Rattle.brc_model.specs.declared.layout.Layout.{Layout}
-use Rattle.brc_model.specs.Layout.{first_immortal_list, IsCounted}
+use Rattle.brc_model.specs.Layout.{IsCounted}
 use Rattle.brc_model.specs.OpenWork.{is_about}
 use Rattle.brc_table.specs.declared.view.View.{View}
 use Rattle.brc_table.specs.Views.{holds, without_one, with_reference, without_reference}
@@ -16,7 +16,6 @@ use Rattle.brc_table.specs.Calls.{IsFree}
 use Rattle.brc_heap.specs.Calls.{HasGiven, Leaves}
 use Rattle.brc_heap.specs.Steps.{Keeps}
 use Rattle.brc_free.specs.Works.{HasReleased, HasWorked, ComesToSettle, AtOnce, to_settle}
-use Rattle.brc_model.specs.Counting.{IsPlainLayout}
 use Rattle.brc_bench.specs.Swaps.{IsResting}
 use Rattle.brc_bench.proofs.Readiness.{both_leave}
 
@@ -133,29 +132,3 @@ pub lists_one_less : {layout other : Layout} (x : ℕ) (rows : List ℕ) → IsC
 lists_one_less {layout} {other} x rows counted same =
     ap (λ (l : Layout). without_reference l x rows) same
     ∙ ap (λ (b : Bool). if b then rows else without_one x rows) counted
-
--- ---- rows
-
-and_first : (a b : Bool) → (a && b) ≡ true → a ≡ true
-and_first true b e = refl
-and_first false b e = absurd cc
-
-and_second : (a b : Bool) → (a && b) ≡ true → b ≡ true
-and_second true b e = e
-and_second false b e = absurd cc
-
-no_range : (first x n : ℕ) → n ≡ 0 → (nat_le first x && nat_lt x (first + n)) ≡ false
-no_range first x n none = elim (cases_Bool (nat_le first x && nat_lt x (first + n))) [
-  | inl within ↦
-      let low = leb-true first x (and_first (nat_le first x) (nat_lt x (first + n)) within) in
-      let high = ltb-true x (first + n) (and_second (nat_le first x) (nat_lt x (first + n)) within) in
-      absurd (omega (arith, low, high, none))
-  | inr apart ↦ apart
-]
-
--- A plain layout has no immortal object but none.
-pub some_counted : {layout : Layout} (x : ℕ) → IsPlainLayout layout → (x == 0) ≡ false → IsCounted layout x
-some_counted {layout} x plain some =
-    ap (λ (b : Bool).
-    b || (nat_le (first_immortal_list layout) x && nat_lt x (first_immortal_list layout + layout.immortal_lists))) some
-    ∙ no_range (first_immortal_list layout) x layout.immortal_lists plain.immortals

@@ -4,9 +4,9 @@ use Rattle.std.specs.Prelude.{count_by, cond, ◌==◌, if◌then◌else◌}
 use Rattle.std.proofs.lemmas.List.Sums.{sum_by-cons}
 use Rattle.std.specs.List.{filter}
 use Rattle.brc_model.specs.declared.layout.Layout.{Layout}
-use Rattle.brc_model.specs.Counting.{IsPlainLayout}
 use Rattle.brc_model.specs.Layout.{root_row, IsCounted}
 use Rattle.brc_model.specs.OpenWork.{is_about}
+use Rattle.brc_model.proofs.Basics.Blocks.{root_counted}
 use Rattle.brc_table.specs.declared.view.View.{View}
 use Rattle.brc_table.specs.Views.{holds, behind_first, open_work, next_row, worker_view}
 use Rattle.brc_table.specs.KnownWords.{KnowsCell}
@@ -16,7 +16,6 @@ use Rattle.brc_heap.specs.Calls.{HasBorn}
 use Rattle.brc_list.specs.Calls.{KeepsWork, word_of}
 use Rattle.brc_bench.specs.Ready.{IsReady}
 use Rattle.brc_bench.specs.Swaps.{IsAtRest, IsAtPlace, HoldsBeside, IsReadyToSwap}
-use Rattle.brc_bench.proofs.AtRest.{some_counted}
 use Rattle.brc_bench.proofs.LockedSwaps.{count_here, count_more, length_with}
 
 -- A worker's hand is at rest at first,
@@ -74,15 +73,13 @@ place_with {heap} {hand} row item others rest counted item_counted is held few =
 }
 
 -- Main holds the root.
-pub main_place : {heap : TableState} {hand : HandState} → IsPlainLayout heap.layout → IsAtRest heap hand
+pub main_place : {heap : TableState} {hand : HandState} → IsAtRest heap hand
     → hand.view.references ≡ root_row ∷ [] → IsAtPlace heap hand root_row None
-main_place {heap} {hand} plain rest is =
+main_place {heap} {hand} rest is =
     let here = count_here root_row [] in
     let all = ap (count_by (λ y. y == root_row)) is in
     let few = ap length is in
-    place_without root_row rest
-    (subst (λ (l : Layout). IsCounted l root_row) (sym rest.table.1)
-    (some_counted {layout = heap.layout} root_row plain refl))
+    place_without root_row rest (root_counted hand.view.layout)
     (omega (arith, here, all)) (omega (arith, few))
 
 -- A worker that has given birth to a list and to an item holds both, and the root.

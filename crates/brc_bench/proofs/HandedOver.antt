@@ -1,6 +1,6 @@
 -- A hand that holds a batch of objects, and the root behind them.
-use Rattle.std.proofs.Common.{◌≡◌, ◌≤◌, ℕ, suc, Bool, List, [], ◌∷◌, ◌++◌, refl, ap, ◌∙◌, subst, arith}
-use Rattle.std.specs.Prelude.{All, cond, count_by, length, ◌==◌}
+use Rattle.std.proofs.Common.{◌≡◌, ◌≤◌, ℕ, suc, Bool, Option, Some, List, [], ◌∷◌, ◌++◌, refl, ap, ◌∙◌, subst, arith}
+use Rattle.std.specs.Prelude.{All, cond, count_by, if◌then◌else◌, length, ◌==◌}
 use Rattle.std.proofs.lemmas.Bool.{eq-eqb}
 use Rattle.std.proofs.lemmas.List.Sums.{sum_by-cons}
 use Rattle.std.proofs.lemmas.List.Elements.{All-tail}
@@ -8,9 +8,14 @@ use Rattle.brc_model.specs.declared.layout.Layout.{Layout}
 use Rattle.brc_model.specs.Layout.{IsCounted}
 use Rattle.brc_table.specs.declared.view.View.{View}
 use Rattle.brc_table.specs.Views.{holds, without_one}
+use Rattle.brc_table.specs.Hands.{HandState}
+use Rattle.brc_table.specs.Swaps.{with_item}
+use Rattle.brc_list.specs.Calls.{word_of}
+use Rattle.brc_bench.specs.Swaps.{HoldsBeside}
 use Rattle.brc_bench.proofs.AtRest.{without_first}
 
-counts_last : (x : ℕ) (rows : List ℕ) → 1 ≤ count_by (λ y. y == x) (rows ++ x ∷ [])
+-- One of its references is to that object.
+pub counts_last : (x : ℕ) (rows : List ℕ) → 1 ≤ count_by (λ y. y == x) (rows ++ x ∷ [])
 counts_last x [] =
     omega (
       arith,
@@ -27,6 +32,14 @@ holds_last v x rows is = omega (arith, ap (count_by (λ y. y == x)) is, counts_l
 pub length_with_root : (x : ℕ) (rows : List ℕ) → length (rows ++ x ∷ []) ≡ suc (length rows)
 length_with_root x [] = refl
 length_with_root x (y ∷ rows) = ap suc (length_with_root x rows)
+
+-- A hand that took a counted object holds it beside what it held before.
+pub took_item : (hand : HandState) (row x : ℕ) (held : Option ℕ) (others : List ℕ) → HoldsBeside hand x held others
+    → held ≡ Some row → IsCounted hand.view.layout row → hand.view.references ≡ row ∷ others
+took_item hand row x held others has is counted =
+    has.references
+    ∙ (ap (λ (o : Option ℕ). with_item hand.view.layout (word_of o) others) is
+    ∙ ap (λ (b : Bool). if b then others else row ∷ others) counted)
 
 -- A hand that has one more reference holds what it held,
 pub holds_behind : (u v : View) (x y : ℕ) → v.references ≡ y ∷ u.references → 1 ≤ holds u x → 1 ≤ holds v x

@@ -3,3 +3,5 @@ mod LockedSwaps
 mod FirstSwaps
 mod AtRest
 mod HandedOver
+pub mod Opening
+pub mod NoLines

@@ -120,7 +120,7 @@ may_put {heap} {hand} {row} {cell} (Some y) at_list =
                 let row_is : row ≡ y = cc in
                 let other : 1 ≤ count_by (λ z. z == y) at_list.others =
                 subst (λ (x : ℕ). 1 ≤ count_by (λ z. z == x) at_list.others) row_is at_list.list in
-                omega (arith, all, one, other),
+                inr (omega (arith, all, one, other)),
           )
     ]
 

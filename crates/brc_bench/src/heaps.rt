@@ -6,6 +6,7 @@ ghost use Rattle.brc_bench.specs.Swaps.{IsAtRest};
 
 use crate::lives::lives;
 use crate::pairs::births;
+use crate::plain::plain_module;
 use crate::posts::{hands_over, posts_each};
 use crate::resting::worker;
 use crate::work::{Run, WORKERS, Work};
@@ -26,17 +27,19 @@ pub const ROWS_EACH: u16 = 512;
 const MOST_HEAPS: u32 = 10_000;
 
 /// Does the work `times` times, over as many heaps as it takes. The heaps are made outside the time.
+#[tactic(auto, using(crate::proofs::NoLines::has_no_lines))]
 pub fn over_heaps<R: Clock + Wait>(rt: &R, alloc: Global, work: Work, times: u32) -> Result<Run> {
     let mut run = Run {
         done: 0,
         time: Duration::ZERO,
     };
+    let plain = plain_module(alloc);
     for _ in 0..MOST_HEAPS {
         if run.done >= times {
             break;
         }
         let most = times - run.done;
-        let (heap, mut main) = Heap::new(alloc, WORKERS, ROWS_EACH)?;
+        let (heap, mut main) = Heap::new(alloc, WORKERS, ROWS_EACH, &plain)?;
         let more = match work {
             Work::Births | Work::Lives => in_turn(rt, &heap, &mut main, work, most)?,
             _ => by_two(rt, alloc, &heap, &mut main, work, most)?,

@@ -127,8 +127,8 @@ pub fn hands_over(
         let Some(row) = taken else {
             bail!("the root's cell is empty");
         };
-        if row == 0 {
-            bail!("no number was handed over");
+        if row != item {
+            bail!("another object was handed over");
         }
         posts_or_keeps(heap, other, rows, row, at_once)?;
         made += 1;

@@ -148,6 +148,7 @@ fn is_callable(checked: &Checked) -> bool
 
 /// Lets each worker of a fresh heap call the accepted module's first function `times` times, in a thread of its own and
 /// over a host of its own. Then main leaves, and the heap ends. Returns its counts.
+#[tactic(auto, using(crate::proofs::Opening::lists_have_rows, crate::proofs::Opening::is_heap_of))]
 fn run_heap<R: Threads + Wait + Sync>(
     rt: &R,
     alloc: Global,
@@ -157,7 +158,7 @@ fn run_heap<R: Threads + Wait + Sync>(
     if !is_callable(checked) {
         bail!("the first function has parameters");
     }
-    let (heap, mut main) = Heap::new(alloc, WORKERS, ROWS)?;
+    let (heap, mut main) = Heap::new(alloc, WORKERS, ROWS, checked.module())?;
     let mut hosts = hosts_of(alloc)?;
     let mut main_host = FakeHost::new(&[]);
     let ran = fan_out(
@@ -210,6 +211,9 @@ fn counts_of(
         faults: failed,
     };
     for row in ROOT..end.rows() {
+        if end.is_immortal(row) {
+            continue;
+        }
         counts.created = counts.created.saturating_add(u64::from(end.born(row)));
         counts.closed = counts.closed.saturating_add(u64::from(end.closed(row)));
     }

@@ -5,6 +5,7 @@ ghost use Rattle.brc_model.specs.Layout.{root_row};
 ghost use Rattle.brc_bench.specs.Swaps.{IsAtRest, IsAtPlace, place-prop};
 
 use crate::pairs::pairs;
+use crate::plain::plain_module;
 use crate::resting::worker;
 use crate::swaps::{CELL, locked_swaps};
 use crate::work::{ROOT, Run, WORKERS, Work};
@@ -153,7 +154,6 @@ fn workers_of<'a>(
     requires references { main.view.references ≡ root_row ∷ [] }
     requires main { main.view.thread ≡ 0 }
 {
-    heap.words().layout_is_plain();
     let mut main = main;
     let of_main = matches!(work, Work::PairsOfMain);
     let mut workers = Vec::new(alloc);
@@ -173,6 +173,7 @@ fn workers_of<'a>(
 
 /// Lets `threads` threads of one heap do the work at once, `times` times each. Returns how often they did it in all,
 /// and how long the slowest took.
+#[tactic(auto, using(crate::proofs::NoLines::has_no_lines))]
 pub fn in_threads<R: Clock + Threads + Wait + Sync>(
     rt: &R,
     alloc: Global,
@@ -180,7 +181,8 @@ pub fn in_threads<R: Clock + Threads + Wait + Sync>(
     threads: u8,
     times: u32,
 ) -> Result<Run> {
-    let (heap, main) = Heap::new(alloc, WORKERS, ROWS_EACH)?;
+    let plain = plain_module(alloc);
+    let (heap, main) = Heap::new(alloc, WORKERS, ROWS_EACH, &plain)?;
     let workers = workers_of(alloc, &heap, main, work, threads)?;
     let all = Mutex::new(Run {
         done: 0,

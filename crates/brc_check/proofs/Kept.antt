@@ -6,8 +6,8 @@ use Rattle.std.specs.List.{list_any, range_with_len, slice_index_or}
 use Rattle.std.proofs.lemmas.Bool.{eqb-true, eq-eqb}
 use Rattle.std.proofs.lemmas.Option.{none-some, same_Some, slice_get_read}
 use Rattle.brc_lang.specs.declared.module.Instr.{Instr}
-use Rattle.brc_lang.specs.declared.module.Instr.TheVariants.{Num, List as ListObject, NoneObject, Newref, Move}
-use Rattle.brc_lang.specs.declared.module.Instr.TheVariants.{Drop, Lock, Unlock, Borrow, Fetch, Set, Put, As}
+use Rattle.brc_lang.specs.declared.module.Instr.TheVariants.{Num, List as ListObject, NoneObject, Take, Newref}
+use Rattle.brc_lang.specs.declared.module.Instr.TheVariants.{Move, Drop, Lock, Unlock, Borrow, Fetch, Set, Put, As}
 use Rattle.brc_lang.specs.declared.module.Instr.TheVariants.{Open, Connect, Read, Write, Call, Goto, Again, Ret, Fail}
 use Rattle.brc_lang.specs.declared.check_code.CheckCode.{CheckCode}
 use Rattle.brc_lang.specs.declared.check_code.CheckCode.TheVariants.{RunsOff}
@@ -50,6 +50,7 @@ instr_arrives (Num to value otherwise) Fault at next s e = inl (same_target othe
 instr_arrives (ListObject to cells otherwise) Success at next s e = inr (onward at next e, e, refl)
 instr_arrives (ListObject to cells otherwise) Fault at next s e = inl (same_target otherwise next false e)
 instr_arrives (NoneObject to) exit at next s e = inr (onward at next e, e, refl)
+instr_arrives (Take to list) exit at next s e = inr (onward at next e, e, refl)
 instr_arrives (Newref to from) exit at next s e = inr (onward at next e, e, refl)
 instr_arrives (Move to from) exit at next s e = inr (onward at next e, e, refl)
 instr_arrives (Drop from) exit at next s e = inr (onward at next e, e, refl)

@@ -22,6 +22,7 @@ pub fn refusal(instr: Instr, state: &State) -> Option<CheckCode>
         Instr::Num { to, .. }
         | Instr::List { to, .. }
         | Instr::NoneObject { to }
+        | Instr::Take { to, .. }
         | Instr::Open { to, .. }
         | Instr::Connect { to, .. } => into_refusal(state, to),
         Instr::Newref { to, from } => newref_refusal(state, to, from),
@@ -67,6 +68,7 @@ pub fn apply(instr: Instr, exit: Exit, state: &mut State)
         Instr::Open { to, .. } => put(state, to, filled(VarState::Owned(Kind::File), exit)),
         Instr::Connect { to, .. } => put(state, to, filled(VarState::Owned(Kind::Sock), exit)),
         Instr::NoneObject { to } => put(state, to, VarState::Owned(Kind::None)),
+        Instr::Take { to, .. } => put(state, to, VarState::Owned(Kind::List)),
         Instr::Newref { to, from } => {
             let kind = kind_of(var(state, from));
             put(state, to, VarState::Owned(kind));
@@ -132,6 +134,7 @@ pub fn target_of(instr: Instr, exit: Exit, at: usize) -> Option<usize>
             Exit::Fault => otherwise as usize,
         }),
         Instr::NoneObject { .. }
+        | Instr::Take { .. }
         | Instr::Newref { .. }
         | Instr::Move { .. }
         | Instr::Drop { .. }

@@ -22,6 +22,7 @@ pub fn has_two_exits(instr: &Instr) -> bool
 {
     match instr {
         Instr::NoneObject { .. }
+        | Instr::Take { .. }
         | Instr::Newref { .. }
         | Instr::Move { .. }
         | Instr::Drop { .. }

@@ -7,7 +7,7 @@ use crate::variables::{any_owned, is_locked, kind_of, may_be, put, var};
 use brc_lang::{CheckCode, Instr, Kind, Variable};
 use brc_model::{State, VarState};
 
-/// Returns the lowest code that `none`, `num`, `list`, `open` or `connect` reports in the state.
+/// Returns the lowest code that `none`, `take`, `num`, `list`, `open` or `connect` reports in the state.
 pub fn into_refusal(state: &State, to: Variable) -> Option<CheckCode>
     ensures { result ≡ lowest (Instr.NoneObject to) state.now }
 {

@@ -37,6 +37,10 @@ mod reports;
 #[cfg(test)]
 mod schedules;
 #[cfg(test)]
+mod static_cases;
+#[cfg(test)]
+mod statics;
+#[cfg(test)]
 mod tables;
 #[cfg(test)]
 mod target_cases;

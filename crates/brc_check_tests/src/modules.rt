@@ -10,6 +10,7 @@ use crate::line_cases::{
     AS_WORDS, IN_ORDER, ITEM_NUMBERS, ITEM_WORDS, LIST_NUMBERS, LIST_WORDS, LOCK_AND_UNLOCK,
     NONE_AND_MOVE, NUM_NUMBERS, NUM_WORDS, READ, STORE_NUMBERS, STORE_WORDS, TARGETS,
 };
+use crate::static_cases::{NO_TAKES, STATICS, STATICS_WRITTEN_BACK, TAKES, TWO_LISTS};
 use crate::target_cases::{AHEAD, BACK, EARLIER, NOT_AHEAD, NOT_BACK};
 use brc_lang::{FaultCode, Instr, Kind, ReadFault, Sequence, Variable, read, write, write_bytes};
 use std::alloc::{AllocError, Global};
@@ -31,7 +32,7 @@ const HEAD: &[u8] = b"module 1\nfunc f\n";
 const BELOW: &[u8] = b"\nfail\nend\n";
 
 // The text above the cases, the cases, and the text below them.
-const TABLES: [(&[u8], &str, &[u8]); 36] = [
+const TABLES: [(&[u8], &str, &[u8]); 39] = [
     (b"", MODULES, b""),
     (HEAD, READ, BELOW),
     (HEAD, NUM_NUMBERS, BELOW),
@@ -68,6 +69,9 @@ const TABLES: [(&[u8], &str, &[u8]); 36] = [
     (CALLED, CALLEES, BELOW),
     (CALLED, CALL_TARGETS, b""),
     (SEVEN_DEEP, DEPTHS, b""),
+    (b"", STATICS, b""),
+    (TWO_LISTS, TAKES, BELOW),
+    (b"", NO_TAKES, b""),
 ];
 
 // The first case with another answer. A case is the answer, a colon and a part of a text, with a bar for each line
@@ -98,7 +102,7 @@ fn first_other<'a>(
 const MODULES: &str = "\
 line 5 L2: module 1|func f|fail|end||
 line 1 L1: module 1\r|func f|fail|end|
-line 1 L1: module 3|func f|fail|end|
+line 1 L1: module 4|func f|fail|end|
 line 1 L1: module 1 |func f|fail|end|
 line 2 L2: module 1|func  f|fail|end|
 line 2 L2: module 1|func f |fail|end|
@@ -304,6 +308,24 @@ const SIZES: [Size; 8] = [
     (1, b"goto @0\n", 256, b"", "line 259 L6"),
 ];
 
+// A static list that isn't there comes before the 257th instruction, and one that is there doesn't.
+fn last_takes(alloc: Global) -> Result<bool, AllocError> {
+    for (line, wanted) in [
+        (b"take v1 3\n", "line 260 L10"),
+        (b"take v1 0\n", "line 260 L6"),
+    ] {
+        let mut text = Vec::from_slice(alloc, b"module 3\nstatic 5\nfunc f\n")?;
+        for _ in 0..256 {
+            text.extend_from_slice(b"fail\n")?;
+        }
+        text.extend_from_slice(line)?;
+        if answer(alloc, &text)?.as_str() != wanted {
+            return Ok(false);
+        }
+    }
+    Ok(true)
+}
+
 // The first size with another answer.
 fn first_other_size(alloc: Global) -> Result<Option<(u8, usize)>, AllocError> {
     for (functions, first, fails, below, wanted) in SIZES {
@@ -323,16 +345,19 @@ fn read_and_written(alloc: Global, text: &[u8]) -> Result<Vec<u8>, Fail> {
     Ok(out)
 }
 
-// With ample memory and a writer that takes all, the largest module is read and written. So are modules of version 2.
+// With ample memory and a writer that takes all, the largest module is read and written. So are modules of the later
+// versions.
 #[test]
 fn reads_and_writes_the_largest_module(rt: HostRuntime) -> Result<(), Fail> {
     let first = b"num v15 4294967295 else @255\n";
     let text = many(rt.alloc(), 64, first, 255, b"")?;
     let again = read_and_written(rt.alloc(), &text)?;
     assert!(rt; again.as_slice() == text.as_slice());
-    for text in WRITTEN_BACK {
-        let again = read_and_written(rt.alloc(), text)?;
-        assert!(rt; again.as_slice() == *text, "{text:?}");
+    for texts in [WRITTEN_BACK, STATICS_WRITTEN_BACK] {
+        for text in texts {
+            let again = read_and_written(rt.alloc(), text)?;
+            assert!(rt; again.as_slice() == *text, "{text:?}");
+        }
     }
     Ok(())
 }
@@ -358,6 +383,7 @@ fn takes_two_mebibytes(alloc: Global) -> Result<bool, Fail> {
 fn takes_each_size(rt: HostRuntime) -> Result<(), Fail> {
     assert_eq!(rt; first_other_front(rt.alloc())?, None);
     assert_eq!(rt; first_other_size(rt.alloc())?, None);
+    assert!(rt; last_takes(rt.alloc())?);
     assert!(rt; takes_two_mebibytes(rt.alloc())?);
     assert_eq!(rt; pushed(rt.alloc(), 100_000)?, 100_000);
     Ok(())

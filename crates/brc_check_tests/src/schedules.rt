@@ -82,7 +82,7 @@ line 7 L2: step 1 ok 1||step 3 ok 1|
 
 // Claims and stops below them.
 const CLAIMS_AND_STOPS: &str = "\
-line 6 L3: claim 0 32770|
+line 6 L3: claim 0 33810|
 line 6 L3: claim 3 1|
 line 6 L3: claim x 1|
 line 6 L3: claim 0 01|
@@ -156,12 +156,12 @@ fn reads_each_line(rt: HostRuntime) {
     let call: [(&[u8], u32); 1] = [(b"a23456789_bcdefg", 1_000_000)];
     assert!(rt; reads_as(rt.alloc(), one, (1, 1024), &call, &[]));
     let two = b"schedule 1\nworkers 2\nrows 4\ncall 1 f 1\ncall 2 f 1\n\
-        step 0 fault 1000000\nstep 2 ok 1\nclaim 0 32769\nstep 1 ok 3\nclaim 2 0\nstop 2\nstop 0\n";
+        step 0 fault 1000000\nstep 2 ok 1\nclaim 0 33809\nstep 1 ok 3\nclaim 2 0\nstop 2\nstop 0\n";
     let calls: [(&[u8], u32); 2] = [(b"f", 1), (b"f", 1)];
     let steps = [
         (0, Choice::Fault, 1_000_000),
         (2, Choice::Ok, 1),
-        (0, Choice::Claim { row: 32_769 }, 1),
+        (0, Choice::Claim { row: 33_809 }, 1),
         (1, Choice::Ok, 3),
         (2, Choice::Claim { row: 0 }, 1),
         (2, Choice::Stop, 1),
@@ -179,7 +179,7 @@ fn largest(alloc: Global, times: usize) -> Result<Vec<u8>, Fail> {
         text.extend_from_slice(b" f 1000000\n")?;
     }
     for _ in 0..times {
-        text.extend_from_slice(b"step 32 fault 1000000\nclaim 32 32769\n")?;
+        text.extend_from_slice(b"step 32 fault 1000000\nclaim 32 33809\n")?;
     }
     Ok(text)
 }

@@ -52,9 +52,10 @@ fn function(alloc: Global, name: &[u8], code: &[Instr]) -> Result<Function, Allo
     Ok(made)
 }
 
-fn module(functions: Sequence<Function>) -> Module {
+fn module(alloc: Global, functions: Sequence<Function>) -> Module {
     Module {
         version: Version::One,
+        statics: Sequence::new(alloc),
         functions,
     }
 }
@@ -66,7 +67,7 @@ pub fn written(alloc: Global, table: &[(&[u8], &[Instr])]) -> Result<Vec<u8>, Fa
         functions.push(function(alloc, name, code)?)?;
     }
     let mut out: Vec<u8> = Vec::new(alloc);
-    write(&module(functions), &mut out)?;
+    write(&module(alloc, functions), &mut out)?;
     Ok(out)
 }
 
@@ -234,6 +235,7 @@ fn writes_parameters_and_calls(rt: HostRuntime) -> Result<(), Fail> {
     write(
         &Module {
             version: Version::Two,
+            statics: Sequence::new(rt.alloc()),
             functions,
         },
         &mut out,
@@ -254,7 +256,7 @@ fn over_narrow(alloc: Global, stop: Stop, left: usize) -> Result<(bool, Vec<u8>)
         left,
         stop,
     };
-    let answer = write(&module(functions), &mut writer);
+    let answer = write(&module(alloc, functions), &mut writer);
     Ok((answer.is_ok(), writer.taken))
 }
 

@@ -11,8 +11,10 @@ use Rattle.brc_lang.specs.declared.check_code.CheckCode.TheVariants.{RunsOff}
 use Rattle.brc_lang.specs.declared.module.Function.{Function}
 use Rattle.brc_lang.specs.declared.module.Instr.{Instr}
 use Rattle.brc_lang.specs.declared.module.Module.{Module}
-use Rattle.brc_lang.specs.Grammar.{IsFunction, IsModule, Spells}
-use Rattle.brc_lang.specs.Limits.{function_limit, instruction_limit}
+use Rattle.brc_lang.specs.declared.version.Version.{Version}
+use Rattle.brc_lang.specs.declared.version.Version.TheVariants as versions
+use Rattle.brc_lang.specs.Grammar.{most_statics, IsFunction, IsModule, Spells}
+use Rattle.brc_lang.specs.Limits.{function_limit, instruction_limit, static_limit}
 use Rattle.brc_model.specs.declared.state.Exit.{Exit}
 use Rattle.brc_model.specs.declared.state.State.{State}
 use Rattle.brc_model.specs.Paths.{PathEnd, At, Ended, Reports, arrives, unless_reported, passes, follow}
@@ -168,10 +170,16 @@ most_above m i fits =
     let most = most_instructions m fits in
     omega (arith, few, most)
 
+-- A module of any version has 16 static lines at most.
+few_statics : (v : Version) → most_statics v ≤ static_limit
+few_statics versions.One = omega arith
+few_statics versions.Two = omega arith
+few_statics versions.Three = omega arith
+
 -- the sum that gives a line
 pub few_lines : (m : Module) (r : Refusal) (number : ℕ) → IsModule m → IsRefusedFor m.functions r
     → position (is_named r.function) m.functions ≡ Some number
-    → instruction_count (take number m.functions) + 2 * number + r.at + 3 ≤ 20000
+    → length m.statics + instruction_count (take number m.functions) + 2 * number + r.at + 3 ≤ 20000
 few_lines m r number fits refused found =
     let there = found_at (is_named r.function) m.functions number found in
     let inside : position_or_len (is_named r.function) m.functions < length m.functions = there.0 in
@@ -179,4 +187,6 @@ few_lines m r number fits refused found =
     let few : length m.functions ≤ function_limit = fits.most in
     let above = most_above m number fits in
     let at = most_points m r fits refused in
-    omega (arith, inside, same, few, above, at)
+    let lines : length m.statics ≤ most_statics m.version = fits.statics.most in
+    let most = few_statics m.version in
+    omega (arith, inside, same, few, above, at, lines, most)

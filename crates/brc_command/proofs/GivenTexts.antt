@@ -1,5 +1,6 @@
 -- What is proved of the bytes that were read of a file holds of a text that the loader may give.
-use Rattle.std.proofs.Common.{◌≡◌, ℕ, List, Option, Some, ◌⊎◌, subst, sym, inl, inr}
+use Rattle.std.proofs.Common.{◌≡◌, ℕ, List, Option, Some, Ok, Err, IfErr, ◌⊎◌, subst, sym, inl, inr}
+use Rattle.std.specs.Prelude.{Result, IsErrAnd}
 use Rattle.brc_lang.specs.declared.module.Module.{Module}
 use Rattle.brc_schedule.specs.declared.schedule.Schedule.{Schedule}
 use Rattle.brc_check.specs.Accepted.{Accepted}
@@ -13,6 +14,12 @@ use Rattle.brc_command.specs.Explanations.{Subject, Code, UnreadableText, Accept
 use Rattle.brc_command.specs.Explanations.{IsAccepted, IsAbout, IsUnexplained, fault_of}
 use Rattle.brc_command.specs.Loading.{ReadsAsModule, ReadsAsSchedule}
 use Rattle.brc_command.specs.Texts.{IsReady, IsFaultOfTexts}
+
+-- A fault that `?` hands over stops the call.
+pub stopped_by : {T : Type 0} (P : Stop → Type 0) (r : Result T Stop) (e : StepFault)
+    → IsErrAnd r (λ s. s ≡ Fault e) → P (Fault e) → IfErr r P
+stopped_by P (Ok x) e handed is = tt
+stopped_by P (Err s) e handed is = subst P (sym handed) is
 
 -- ---- one module
 

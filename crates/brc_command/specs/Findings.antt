@@ -1,6 +1,5 @@
 -- What is found of the module of a file.
-use Rattle.std.specs.Prelude.{◌≡◌, ℕ, ◌+◌, ◌*◌, List, take, Option, Some, option_map, position}
-use Rattle.brc_lang.specs.declared.module.Function.{Function}
+use Rattle.std.specs.Prelude.{◌≡◌, ℕ, ◌+◌, ◌*◌, List, length, take, Option, Some, option_map, position}
 use Rattle.brc_lang.specs.declared.module.Module.{Module}
 use Rattle.brc_lang.specs.Grammar.{Spells}
 use Rattle.brc_lang.specs.Fault.{HasFault}
@@ -19,20 +18,21 @@ use Rattle.brc_command.specs.Explanations.{IsAccepted, HasOnly, LacksNamed}
 use Rattle.brc_command.specs.Lines.{stop_status}
 
 -- The line of the text with an instruction of the function of a number, counted from 1. Above it are the first line,
--- the functions before, each with a heading and an end, and the function's own heading and earlier instructions.
-abbrev pub line_at : List Function → ℕ → ℕ → ℕ
-line_at functions number at = instruction_count (take number functions) + 2 * number + at + 3
+-- the static lines, the functions before, each with a heading and an end, and the function's own heading and earlier
+-- instructions.
+abbrev pub line_at : Module → ℕ → ℕ → ℕ
+line_at m number at = length m.statics + instruction_count (take number m.functions) + 2 * number + at + 3
 
 -- the line of the instruction at fault
-abbrev pub line_of : List Function → Refusal → Option ℕ
-line_of functions r = option_map (λ number. line_at functions number r.at) (position (is_named r.function) functions)
+abbrev pub line_of : Module → Refusal → Option ℕ
+line_of m r = option_map (λ number. line_at m number r.at) (position (is_named r.function) m.functions)
 
 -- the module that the text spells is refused, and this is where, by which paths
 pub record IsLocated (text : List ℕ) (found : Located) : Type 0 where
   pub m : Module
   pub spelled : Spells text m
   pub refusal : IsRefusedFor m.functions found.refused
-  pub line : found.line ≡ line_of m.functions found.refused
+  pub line : found.line ≡ line_of m found.refused
   pub steps : LeadToRefusal m.functions found.refused found.steps
 
 -- the text spells a module with the function that was asked for, if one was

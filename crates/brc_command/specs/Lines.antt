@@ -31,6 +31,7 @@ fault_code faults.OverLimit = codes "L6"
 fault_code faults.CutOff = codes "L7"
 fault_code faults.NoMemory = codes "L8"
 fault_code faults.Callee = codes "L9"
+fault_code faults.StaticList = codes "L10"
 
 abbrev pub check_code : CheckCode → List ℕ
 check_code checks.EmptyUsed = codes "C1"

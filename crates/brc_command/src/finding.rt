@@ -124,11 +124,13 @@ fn locate(alloc: Global, bytes: &[u8], refused: Refused) -> Result<Located, Step
 fn line_of(module: &Module, refused: &Refused) -> Option<u64>
     requires fits { IsModule «module».now }
     requires refusal { IsRefusedFor «module».now.functions refused.now }
-    ensures { result ≡ line_of «module».now.functions refused.now }
+    ensures { result ≡ line_of «module».now refused.now }
 {
     let functions = module.functions.as_slice();
     let number = number_of(functions, refused.function.as_bytes())?;
-    // Each function before has a heading and an `end`. The first line and the function's own heading come before, too.
-    let above = instruction_count(&functions[..number]) + 2 * number as u64;
+    // Each function before has a heading and an `end`. The first line, the static lines and the function's own heading
+    // come before, too.
+    let top = module.statics.len() as u64;
+    let above = top + instruction_count(&functions[..number]) + 2 * number as u64;
     Some(above + refused.at as u64 + 3)
 }

@@ -116,6 +116,7 @@ pub fn fault_code(code: FaultCode) -> &'static str
         FaultCode::CutOff => "L7",
         FaultCode::NoMemory => "L8",
         FaultCode::Callee => "L9",
+        FaultCode::StaticList => "L10",
     }
 }
 

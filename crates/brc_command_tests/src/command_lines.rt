@@ -188,6 +188,7 @@ const EXPLAINED: &[(&[&str], &[u8])] = &[
     (&["brc", "explain", "--code", "L1"], b"L1"),
     (&["brc", "explain", "--code", "L8"], b"L8"),
     (&["brc", "explain", "--code", "L9"], b"L9"),
+    (&["brc", "explain", "--code", "L10"], b"L10"),
 ];
 
 #[test]
@@ -244,7 +245,7 @@ const REFUSED: &[(&[&str], &[u8])] = &[
     (&["brc", "explain", "n.brc", "--function"], b"error: "),
     (&["brc", "explain", "n.brc", "--code", "C5"], b"error: "),
     (&["brc", "explain", "--code", "C13"], b"error: "),
-    (&["brc", "explain", "--code", "L10"], b"error: "),
+    (&["brc", "explain", "--code", "L11"], b"error: "),
     (&["brc", "explain", "--code", "c5"], b"error: "),
     (
         &["brc", "explain", "--code", "C5", "--function", "f"],

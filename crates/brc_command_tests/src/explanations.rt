@@ -3,6 +3,7 @@
 use crate::cases::{
     Case, FIRST, LEAKING, MISSPELT, SMALLEST, UNREAD, assert_cases, contains, outputs,
 };
+use crate::statics::{FETCHED, NOT_THERE};
 use crate::worked::KEEP;
 use brc_check::CheckCode;
 use brc_command::{Asked, LoadError};
@@ -36,6 +37,13 @@ const MODULES: &[(&[u8], Option<&str>, &[u8], (&[u8], u8))] = &[
         b"L9",
         (b"unreadable line 3 L9\n", 2),
     ),
+    (FETCHED, None, b"take vD S", (b"", 0)),
+    (
+        NOT_THERE,
+        None,
+        b"The module has 1 static list, counted from 0.\n",
+        (b"unreadable line 4 L10\n", 2),
+    ),
 ];
 
 // A code, and a part of its page.
@@ -43,6 +51,7 @@ const PAGES: &[(Topic, &[u8])] = &[
     (Topic::Check(CheckCode::LeftOwned), b"C5"),
     (Topic::Read(FaultCode::UnknownWord), b"L2"),
     (Topic::Read(FaultCode::Callee), b"L9"),
+    (Topic::Read(FaultCode::StaticList), b"L10"),
 ];
 
 // Nothing is explained if the module lacks the function, also if it is refused, or if the file gives nothing.

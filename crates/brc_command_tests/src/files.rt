@@ -2,6 +2,7 @@
 
 use crate::cases::{Bytes, LEAKING, MISSPELT, SMALLEST};
 use crate::command_lines::acts;
+use crate::statics::KEPT;
 use brc_command::LoadError;
 
 /// A module, the words, and the texts on standard output and on standard error, and the status. There is no `n.brc`,
@@ -101,7 +102,18 @@ const LEFT_AT_4: &[u8] =
 \"other_path\":null,\"path\":[{\"at\":0,\"exit\":\"ok\"},{\"at\":1,\"exit\":\"else\"},\
 {\"at\":4,\"exit\":\"ok\"}],\"verdict\":\"refused\"}\n";
 
+/// The first line, two static lines, and the three lines of `func e` come before `func f`, whose line is 7.
+const KEPT_AT_1: &[u8] =
+    b"{\"at\":1,\"code\":\"C5\",\"file\":\"m.brc\",\"function\":\"f\",\"line\":9,\
+\"message\":\"Instruction @1 of f is refused: a reference is left at the end of the call.\",\
+\"other_path\":null,\"path\":[{\"at\":0,\"exit\":\"ok\"},{\"at\":1,\"exit\":\"ok\"}],\"verdict\":\"refused\"}\n";
+
 const IN_JSON: &[Row<'static>] = &[
+    (
+        Ok(KEPT),
+        &["brc", "check", "--format", "json", "m.brc"],
+        (KEPT_AT_1, b"", 1),
+    ),
     (
         Ok(SMALLEST),
         &["brc", "check", "m.brc", "--format", "json"],

@@ -32,6 +32,8 @@ mod reasons;
 #[cfg(test)]
 mod runs;
 #[cfg(test)]
+mod statics;
+#[cfg(test)]
 mod steps;
 #[cfg(test)]
 mod terminals;

@@ -1,5 +1,6 @@
 use crate::cases::SMALLEST;
 use crate::command_lines::acts;
+use crate::statics::FETCHED;
 use brc_command::trace_text;
 
 // Worker 1 calls `f` once and exits. Main then claims the root, which the worker has queued.
@@ -113,10 +114,39 @@ close faults 0
 left 1 list
 ";
 
+const STATICS_PLAN: &[u8] = b"schedule 1\nworkers 1\nrows 4\ncall 1 f 1\nstep 1 ok 13\n";
+
+// No count of the static list in row 6 changes. The number in row 8 is main's, so the worker counts in its shared word.
+const STATICS_TRACE: &[u8] = b"1  thread 1  f @0 take v1 0  Silent
+2  thread 1  f @1 lock v1  Locks  row 6 gate: free -> locked by 1  row 6 locked
+3  thread 1  f @2 fetch v2 v1 1 else @6  KindRead  row 6 kind: list 2
+4  thread 1  f @2 fetch v2 v1 1 else @6  CellRead  row 6 cell 1: row 8
+5  thread 1  f @2 fetch v2 v1 1 else @6  OtherRetains  row 8 local: owner 0, 1
+6  thread 1  f @2 fetch v2 v1 1 else @6  SharedRaised  row 8 shared: 0 default -> 1 default  row 8 gained
+7  thread 1  f @3 unlock v1  Unlocks  row 6 gate: locked by 1 -> free  row 6 unlocked
+8  thread 1  f @4 drop v2  OtherReleases  row 8 local: owner 0, 1
+9  thread 1  f @4 drop v2  SharedRead  row 8 shared: 1 default
+10  thread 1  f @4 drop v2  Decrements  row 8 shared: 1 default -> 0 default  row 8 given up
+11  thread 1  f @5 goto @7  Silent
+12  thread 1  f @7 drop v1  ReleasesImmortal  row 6 local: immortal  row 6 given up
+13  thread 1  f @8 fail  Silent
+threads 1
+running 2
+created 3
+closed 0
+alive 3
+host faults 0
+close faults 0
+left 1 list
+left 7 num
+left 8 num
+";
+
 const TRACES: &[(&[u8], &[u8], &[u8])] = &[
     (SMALLEST, PLAN, TRACE),
     (TWO_OWNED, STOP_PLAN, STOP_TRACE),
     (HANDED_BACK, CALL_PLAN, CALL_TRACE),
+    (FETCHED, STATICS_PLAN, STATICS_TRACE),
 ];
 
 // By the command line, and by its texts. Nothing is traced of a text that can't be read.

@@ -2,6 +2,7 @@
 //! `brc_explain` and `brc_pages` write themselves.
 
 use crate::cases::{FIRST, MISSPELT, UNREAD, outputs};
+use crate::statics::{FETCHED, KEPT, NOT_THERE};
 use crate::worked::KEEP;
 use brc_check::{CheckCode, check, infer};
 use brc_command::Asked;
@@ -16,7 +17,9 @@ const TWO_PATHS: &[u8] =
     b"module 1\nfunc f\nlist v1 8 else @9\nnewref v2 v1\nlock v1\nset v1 0 v2 else @5\nnone v2\nunlock v1\n\
       as v0 list else @8\ndrop v1\nnum v1 7 else @9\nfail\nend\n";
 
-const MODULES: &[&[u8]] = &[FIRST, TWO_PATHS, KEEP, MISSPELT, b""];
+const MODULES: &[&[u8]] = &[
+    FIRST, TWO_PATHS, KEEP, FETCHED, KEPT, NOT_THERE, MISSPELT, b"",
+];
 
 const TOPICS: &[Topic] = &[
     Topic::Check(CheckCode::StatesDiffer),

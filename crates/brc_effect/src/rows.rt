@@ -1,7 +1,8 @@
 //! The rows of each thread's block, by the layout, and the cells of their lists.
 
-ghost use Rattle.std.specs.Prelude.{◌≡◌, ◌<◌, ◌^◌};
-ghost use Rattle.brc_model.specs.Layout.{worker_rows, row_count, block_of, block_size, row_at, index_of, is_immortal_row};
+ghost use Rattle.std.specs.Prelude.{◌≡◌, ◌+◌, ◌<◌, ◌^◌};
+ghost use Rattle.brc_model.specs.Layout.{rear_rows, worker_rows, row_count, block_of, block_size, row_at, index_of};
+ghost use Rattle.brc_model.specs.Layout.{first_immortal_list, first_number, is_immortal_row};
 
 use brc_model::Layout;
 
@@ -14,7 +15,7 @@ pub const ROOT: u32 = 1;
 /// Main's rows in front of the workers': none's and the root's.
 pub const FRONT_ROWS: u32 = 2;
 
-/// The most cells of a list in a text.
+/// The most cells of a list in a text of the first two versions.
 pub const TEXT_CELLS: u8 = 8;
 
 /// The cells of the root.
@@ -28,11 +29,19 @@ pub(crate) fn worker_rows(layout: Layout) -> u32
     u32::from(layout.workers) * u32::from(layout.rows)
 }
 
+/// Returns the number of main's rows behind the workers': the immortal lists', and the numbers' in their cells.
+#[inline(always)]
+fn rear_rows(layout: Layout) -> u32
+    ensures { result ≡ rear_rows layout }
+{
+    u32::from(layout.immortal_lists) + u32::from(layout.numbers)
+}
+
 /// Returns the number of all rows.
 pub fn row_count(layout: Layout) -> usize
     ensures { result ≡ row_count layout }
 {
-    (FRONT_ROWS + worker_rows(layout) + u32::from(layout.immortal_lists)) as usize
+    (FRONT_ROWS + worker_rows(layout) + rear_rows(layout)) as usize
 }
 
 /// Returns the thread whose block has the row.
@@ -47,12 +56,33 @@ pub fn block_of(layout: Layout, row: u32) -> u32
     }
 }
 
+/// Returns the first row of an immortal list.
+pub fn first_immortal_list(layout: Layout) -> u32
+    ensures { result ≡ first_immortal_list layout }
+{
+    FRONT_ROWS + worker_rows(layout)
+}
+
+/// Returns the row of the immortal list with this number.
+#[inline(always)]
+pub fn immortal_list(layout: Layout, number: u8) -> u32
+    ensures { result ≡ first_immortal_list layout + number }
+{
+    first_immortal_list(layout) + u32::from(number)
+}
+
+/// Returns the first row of a number in a cell of an immortal list.
+pub fn first_number(layout: Layout) -> u32
+    ensures { result ≡ first_number layout }
+{
+    first_immortal_list(layout) + u32::from(layout.immortal_lists)
+}
+
 /// Returns whether the row is an immortal object's: none's, or an immortal list's.
 pub fn is_immortal_row(layout: Layout, row: u32) -> bool
     ensures { result ≡ is_immortal_row layout row }
 {
-    let first = FRONT_ROWS + worker_rows(layout);
-    row == NONE_ROW || (first <= row && row < first + u32::from(layout.immortal_lists))
+    row == NONE_ROW || (first_immortal_list(layout) <= row && row < first_number(layout))
 }
 
 /// Returns the number of rows of the thread's block.
@@ -60,7 +90,7 @@ pub fn block_size(layout: Layout, number: u8) -> u32
     ensures { result ≡ block_size layout number }
 {
     match number {
-        0 => FRONT_ROWS + u32::from(layout.immortal_lists),
+        0 => FRONT_ROWS + rear_rows(layout),
         _ => u32::from(layout.rows),
     }
 }

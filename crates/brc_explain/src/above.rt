@@ -19,6 +19,10 @@ pub struct Situation<'a> {
     pub before: Option<&'a [u8]>,
     /// Whether a function is open above the line.
     pub inside: bool,
+    /// Whether a function begins above the line.
+    pub below_function: bool,
+    /// The number of static lists above the line.
+    pub statics: u32,
     /// The text below the last heading above the line, and the number of its first line.
     pub body: &'a [u8],
     pub body_line: u64,
@@ -29,6 +33,8 @@ pub fn find_line(text: &[u8], number: u64) -> Situation<'_> {
     let mut rest = text;
     let mut before = None;
     let mut inside = false;
+    let mut below_function = false;
+    let mut statics: u32 = 0;
     let mut body = text;
     let mut body_line = 1;
     for above in 1..number {
@@ -38,10 +44,13 @@ pub fn find_line(text: &[u8], number: u64) -> Situation<'_> {
         let (word, _) = split_word(line);
         if is_word(word, b"func") {
             inside = true;
+            below_function = true;
             body = below;
             body_line = above + 1;
         } else if is_word(line, b"end") {
             inside = false;
+        } else if is_word(word, b"static") {
+            statics = statics.saturating_add(1);
         }
         before = Some(line);
         rest = below;
@@ -57,6 +66,8 @@ pub fn find_line(text: &[u8], number: u64) -> Situation<'_> {
         is_there: !rest.is_empty(),
         before,
         inside,
+        below_function,
+        statics,
         body,
         body_line,
     }
@@ -66,6 +77,7 @@ pub fn find_line(text: &[u8], number: u64) -> Situation<'_> {
 fn version_of(text: &[u8]) -> Version {
     match split_line(text) {
         Some((line, _)) if is_word(line, b"module 2") => Version::Two,
+        Some((line, _)) if is_word(line, b"module 3") => Version::Three,
         _ => Version::One,
     }
 }

@@ -171,6 +171,22 @@ pub const FORMS: &[Form] = &[
     },
 ];
 
+/// The form that takes a static list, which only version 3 has.
+pub const TAKE: Form = Form {
+    name: "take",
+    text: "take vD S",
+    does: "vD = Py_NewRef(the static list S)",
+    operands: &[V, Operand::Number(0, 15)],
+};
+
+/// The form of a new list in version 3, where it may have more cells.
+const LONG_LIST: Form = Form {
+    name: "list",
+    text: "list vD N else @L",
+    does: "vD = PyList_New(N); goes to @L if NULL",
+    operands: &[V, Operand::Number(1, 64), E, T],
+};
+
 /// The form of a call, of which version 1 has none. The number of its operands is that of the function's parameters.
 pub const CALL: Form = Form {
     name: "call",
@@ -181,8 +197,14 @@ pub const CALL: Form = Form {
 
 /// Returns the form of the instruction of this name, or `None` if no instruction of the version has it.
 pub fn form_of(version: Version, name: &[u8]) -> Option<Form> {
-    if version == Version::Two && name == CALL.name.as_bytes() {
+    if version != Version::One && name == CALL.name.as_bytes() {
         return Some(CALL);
+    }
+    if version == Version::Three && name == TAKE.name.as_bytes() {
+        return Some(TAKE);
+    }
+    if version == Version::Three && name == LONG_LIST.name.as_bytes() {
+        return Some(LONG_LIST);
     }
     for form in FORMS {
         if name == form.name.as_bytes() {
@@ -198,6 +220,7 @@ pub fn name_of(instr: Instr) -> &'static str {
         Instr::Num { .. } => "num",
         Instr::List { .. } => "list",
         Instr::NoneObject { .. } => "none",
+        Instr::Take { .. } => TAKE.name,
         Instr::Newref { .. } => "newref",
         Instr::Move { .. } => "move",
         Instr::Drop { .. } => "drop",
@@ -227,6 +250,9 @@ pub fn write_forms<W: Write>(code: &[Instr], out: &mut W) -> io::Result<()> {
             write_form_line(form, out)?;
         }
     }
+    if has_instruction(code, TAKE.name) {
+        write_form_line(&TAKE, out)?;
+    }
     if has_instruction(code, CALL.name) {
         write_form_line(&CALL, out)?;
     }
@@ -243,6 +269,9 @@ pub fn write_all_forms<W: Write>(
         if any_has(functions, only, form.name) {
             write_form_line(form, out)?;
         }
+    }
+    if any_has(functions, only, TAKE.name) {
+        write_form_line(&TAKE, out)?;
     }
     if any_has(functions, only, CALL.name) {
         write_form_line(&CALL, out)?;

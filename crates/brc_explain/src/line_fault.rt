@@ -33,6 +33,10 @@ const HEADING: Wanted = Wanted::Said(
     "`func NAME`, as in `func f`, and the function's instructions below it",
 );
 
+const HEADING_OR_STATIC: Wanted = Wanted::Said(
+    "`static K ..`, as in `static 5 6`, or `func NAME`, as in `func f`",
+);
+
 const NAME: Wanted = Wanted::Said(
     "a name: a letter a to z, and up to 15 more of a to z, 0 to 9 and _",
 );
@@ -40,6 +44,12 @@ const NAME: Wanted = Wanted::Said(
 const PASSING: Wanted = Wanted::Said("`borrow` or `steal`, and the kind of the parameter");
 
 const PARAMETER_KIND: Wanted = Wanted::Said("a kind: none, num, list, file, sock or any");
+
+/// A number of a static list.
+const STATIC_NUMBER: Operand = Operand::Number(0, u32::MAX);
+
+/// The most numbers of a static list.
+const MOST_NUMBERS: usize = 64;
 
 /// The greatest number of a function's parameters.
 const MOST_PARAMETERS: usize = 4;
@@ -53,23 +63,65 @@ fn fault(span: Span, wrong: &'static str, wanted: Wanted) -> LineFault {
     }
 }
 
-/// Returns what is wrong with a line outside a function.
-pub fn heading_fault(version: Version, line: &[u8]) -> LineFault {
+/// Returns what is wrong with a line outside a function; `below_function` says whether one is above the line.
+pub fn heading_fault(version: Version, below_function: bool, line: &[u8]) -> LineFault {
+    let may_be_static = version == Version::Three && !below_function;
+    let wanted = if may_be_static {
+        HEADING_OR_STATIC
+    } else {
+        HEADING
+    };
     let Some(first) = word_at(line, 0) else {
-        return fault(whole(line), "The line is empty.", HEADING);
+        return fault(whole(line), "The line is empty.", wanted);
     };
     let word = part(line, first);
+    if is_word(word, b"static") && may_be_static {
+        return static_fault(line);
+    }
     if !is_word(word, b"func") {
-        return fault(first, outside(version, word), HEADING);
+        return fault(first, outside(version, word), wanted);
     }
     let Some(name) = word_at(line, 1) else {
         return fault(behind(line), "The function has no name.", NAME);
     };
     match version {
         Version::One => name_fault(line, name),
-        Version::Two if is_name(part(line, name)) => parameter_fault(line),
-        Version::Two => fault(name, "This is no name of a function.", NAME),
+        Version::Two | Version::Three if is_name(part(line, name)) => parameter_fault(line),
+        Version::Two | Version::Three => fault(name, "This is no name of a function.", NAME),
     }
+}
+
+/// Returns what is wrong with the words behind `static`: 1 to 64 numbers.
+fn static_fault(line: &[u8]) -> LineFault {
+    if word_at(line, 1).is_none() {
+        let wrong = "The static list has no number.";
+        return fault(behind(line), wrong, Wanted::Operand(STATIC_NUMBER));
+    }
+    if let Some(extra) = word_at(line, 1 + MOST_NUMBERS) {
+        return fault(
+            extra,
+            "This word is one too many: a static list has 64 numbers at most.",
+            Wanted::Said("the end of the line, behind the last number"),
+        );
+    }
+    for at in 1..1 + MOST_NUMBERS {
+        let Some(span) = word_at(line, at) else {
+            break;
+        };
+        let word = part(line, span);
+        if !fits(word, STATIC_NUMBER) {
+            return fault(
+                span,
+                misfit(word, STATIC_NUMBER),
+                Wanted::Operand(STATIC_NUMBER),
+            );
+        }
+    }
+    fault(
+        whole(line),
+        "The line isn't a static line.",
+        HEADING_OR_STATIC,
+    )
 }
 
 /// Returns what is wrong with a line outside a function that has its name there, and no parameters.
@@ -117,6 +169,8 @@ fn outside(version: Version, word: &[u8]) -> &'static str {
         "The line is empty or begins with a space, and no function is open here."
     } else if is_word(word, b"end") {
         "No function is open here, so there is none to end."
+    } else if is_word(word, b"static") && version == Version::Three {
+        "A static line is above all functions, and a function is above this one."
     } else if form_of(version, word).is_some() {
         "This is an instruction, and no function is open here."
     } else {

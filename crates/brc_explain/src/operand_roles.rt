@@ -28,6 +28,7 @@ pub fn roles_of(instr: Instr) -> Roles {
         Instr::Num { to, .. }
         | Instr::List { to, .. }
         | Instr::NoneObject { to }
+        | Instr::Take { to, .. }
         | Instr::Open { to, .. }
         | Instr::Connect { to, .. }
         | Instr::Call { to, .. } => filling(to),

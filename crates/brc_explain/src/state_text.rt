@@ -101,7 +101,7 @@ pub fn write_legend<W: Write>(version: Version, out: &mut W) -> io::Result<()> {
             \x20 list that the caller lends.\n",
             out,
         ),
-        Version::Two => write_bytes(
+        Version::Two | Version::Three => write_bytes(
             b"  borrows   the call uses the object, and the reference stays where it is\n\
             \x20 steals    the call takes the reference over, also if it fails: the variable is\n\
             \x20           empty behind it\n\

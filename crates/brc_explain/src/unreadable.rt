@@ -38,6 +38,7 @@ pub fn explain_unreadable<W: Write>(
             out,
         )?,
         FaultCode::Callee => write_callee(text, &found, fault.line, paint, out)?,
+        FaultCode::StaticList => write_static_list(&found, fault.line, paint, out)?,
     }
     write_pieces(
         &[b"\nMore: brc explain --code ", page.code.as_bytes(), b"\n"],
@@ -65,9 +66,15 @@ fn write_first_line<W: Write>(found: &Situation<'_>, paint: Paint, out: &mut W) 
     let first = word_at(line, 0).unwrap_or(whole(line));
     let (marked, wrong): (Span, &str) = if !found.is_there {
         (whole(line), "The text is empty.")
-    } else if is_word(line, b"module 1") || is_word(line, b"module 2") {
+    } else if is_word(line, b"module 1")
+        || is_word(line, b"module 2")
+        || is_word(line, b"module 3")
+    {
         (behind(line), "No line feed ends the line.")
-    } else if is_word(line, b"module 1\r") || is_word(line, b"module 2\r") {
+    } else if is_word(line, b"module 1\r")
+        || is_word(line, b"module 2\r")
+        || is_word(line, b"module 3\r")
+    {
         let end = Span { from: 8, to: 9 };
         (
             end,
@@ -86,7 +93,7 @@ fn write_first_line<W: Write>(found: &Situation<'_>, paint: Paint, out: &mut W) 
         };
         (
             version,
-            "The line is another: behind the word `module` is the version, 1 or 2.",
+            "The line is another: behind the word `module` is the version, 1, 2 or 3.",
         )
     } else {
         (whole(line), "The first line is another.")
@@ -94,7 +101,8 @@ fn write_first_line<W: Write>(found: &Situation<'_>, paint: Paint, out: &mut W) 
     write_line(found, 1, marked, paint, out)?;
     write_pieces(&[wrong.as_bytes(), b"\n"], out)?;
     write_bytes(
-        b"Expected: the line `module 1`, or `module 2`. The functions follow below it.\n",
+        b"Expected: the line `module 1`, `module 2` or `module 3`. The functions follow\n\
+        below it.\n",
         out,
     )
 }
@@ -108,7 +116,7 @@ fn write_words<W: Write>(
     let fault = if found.inside {
         instruction_fault(found.version, found.line)
     } else {
-        heading_fault(found.version, found.line)
+        heading_fault(found.version, found.below_function, found.line)
     };
     write_line(found, number, fault.span, paint, out)?;
     write_pieces(&[fault.wrong.as_bytes(), b"\n"], out)?;
@@ -164,6 +172,10 @@ fn write_names<W: Write>(version: Version, out: &mut W) -> io::Result<()> {
             b"Expected: `end`, or an instruction: num, list, none, newref, move, drop, lock,\n\
             unlock, borrow, fetch, set, put, open, connect, read, write, as, call, goto,\n\
             again, ret, fail.\n",
+        Version::Three =>
+            b"Expected: `end`, or an instruction: num, list, none, take, newref, move, drop,\n\
+            lock, unlock, borrow, fetch, set, put, open, connect, read, write, as, call,\n\
+            goto, again, ret, fail.\n",
     };
     write_bytes(names, out)
 }
@@ -299,6 +311,12 @@ fn write_limit<W: Write>(
             Expected: `end`. A function has 1 to 256 instructions.\n",
             out,
         )
+    } else if found.version == Version::Three && !found.below_function {
+        write_bytes(
+            b"This would be the 17th static list.\n\
+            Expected: the module's first function. A module has 16 static lists at most.\n",
+            out,
+        )
     } else {
         write_bytes(
             b"This would be the 65th function.\n\
@@ -351,6 +369,27 @@ fn write_callee<W: Write>(
             out,
         ),
     }
+}
+
+fn write_static_list<W: Write>(
+    found: &Situation<'_>,
+    number: u64,
+    paint: Paint,
+    out: &mut W,
+) -> io::Result<()> {
+    let list = word_at(found.line, 2).unwrap_or(whole(found.line));
+    write_line(found, number, list, paint, out)?;
+    if found.statics == 0 {
+        return write_bytes(
+            b"The module has no static list.\n\
+            Expected: a `static` line above all functions, and its number, counted from 0.\n",
+            out,
+        );
+    }
+    write_bytes(b"The module has ", out)?;
+    write_counted(u64::from(found.statics), "static list", out)?;
+    write_bytes(b", counted from 0.\n", out)?;
+    write_range(0, found.statics.saturating_sub(1), out)
 }
 
 /// Writes that the call has an argument too many or too few for the function.

@@ -280,6 +280,7 @@ impl<'h, T: Drop, Q: Marker<T>> Finaliser<'h, T, Q> {
         hand.rows_are_there();
         let words = self.heap.words();
         words.layout_is_plain();
+        words.lines_are_there();
         // `CellEmptied`: a swap, so that no reference is left in the cell.
         let item = words.step(hand, Duty::SettleCell { row, cell, cells });
         if item == 0 {

@@ -1,13 +1,13 @@
 -- Main may start a worker and give out its hand once it has retained the root for it.
-use Rattle.std.proofs.Common.{◌≡◌, ℕ, ◌+◌, ◌<◌, ◌≤◌, Bool, true, false, List, [], ◌∷◌, None, refl, sym, ap, ◌∙◌, subst, arith}
-use Rattle.std.specs.Prelude.{◌==◌, ◌&&◌, ◌||◌, cond, count_by, nat_lt, if◌then◌else◌}
+use Rattle.std.proofs.Common.{◌≡◌, ℕ, ◌+◌, ◌<◌, ◌≤◌, Bool, true, false, List, [], ◌∷◌, None, inr, refl, sym, ap, ◌∙◌, subst, arith}
+use Rattle.std.specs.Prelude.{◌==◌, ◌||◌, cond, count_by, if◌then◌else◌}
 use Rattle.std.specs.List.{list_any}
-use Rattle.std.proofs.lemmas.Bool.{lt-leb}
 use Rattle.std.proofs.lemmas.List.Folds.{list_any-append}
 use Rattle.std.proofs.lemmas.List.Sums.{sum_by-cons, fold-append}
 use Rattle.brc_model.specs.declared.address.Address.TheVariants.{ThreadWord}
 use Rattle.brc_model.specs.declared.layout.Layout.{Layout}
-use Rattle.brc_model.specs.Layout.{root_row, first_immortal_list, is_immortal_row}
+use Rattle.brc_model.specs.Layout.{root_row}
+use Rattle.brc_model.proofs.Basics.Blocks.{root_counted}
 use Rattle.brc_table.specs.declared.view.View.{View}
 use Rattle.brc_table.specs.Views.{holds, is_given, with_reference, without_one, open_work, giving}
 use Rattle.brc_table.specs.Hands.{HasNoWork}
@@ -18,12 +18,6 @@ use Rattle.brc_heap.specs.Calls.{HasGiven, Leaves}
 use Rattle.brc_heap.specs.Steps.{Keeps}
 use Rattle.brc_heap.proofs.Keeping.{keeps_then, keeps_rest}
 use Rattle.brc_heap.proofs.Turning.{all_away}
-
--- The root is counted.
-pub root_counted : (l : Layout) → is_immortal_row l root_row ≡ false
-root_counted l =
-    ap (λ (b : Bool). b && nat_lt root_row (first_immortal_list l + l.immortal_lists))
-    (lt-leb (first_immortal_list l) root_row (omega arith))
 
 -- With one reference more to the root, main holds two.
 two_held : (v u : View) → u.references ≡ with_reference v.layout root_row v.references → 1 ≤ holds v root_row
@@ -55,7 +49,7 @@ may_give v u thread main held leaves more start started =
       is_main = start.is_main;
       holds_root = omega (arith, two);
       no_work = leaves.left_is;
-      keeps = λ e. two;
+      keeps = λ e. inr two;
       some_worker = start.some_worker;
       known_worker = start.known_worker;
       not_given = start.not_given;

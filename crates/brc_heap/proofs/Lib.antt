@@ -13,3 +13,4 @@ mod Asking
 mod OwnRows
 pub mod Handing
 pub mod Borrowing
+pub mod FewRows

@@ -8,9 +8,8 @@ use Rattle.brc_model.specs.declared.duty.Duty.{Duty}
 use Rattle.brc_model.specs.declared.duty.Holding.TheVariants.{AsCaller}
 use Rattle.brc_model.specs.declared.duty.Duty.TheVariants.{RetainStore, RetainAdd}
 use Rattle.brc_model.specs.Duties.{ready}
-use Rattle.brc_model.specs.declared.layout.Layout.{Layout}
-use Rattle.brc_model.specs.Layout.{none_row, block_of, block_size, row_at, is_immortal_row, IsCounted}
-use Rattle.brc_model.proofs.Basics.Blocks.{only_none}
+use Rattle.brc_model.specs.Layout.{block_of, block_size, is_immortal_row, IsCounted}
+use Rattle.brc_model.proofs.Basics.Blocks.{block_at, immortal_block}
 use Rattle.brc_model.specs.Machine.{is_running, has_room}
 use Rattle.brc_model.specs.Within.{OwnerFits}
 use Rattle.brc_table.specs.declared.view.View.{View}
@@ -79,19 +78,16 @@ retain_owns v x word found runs fits mine = elim (cases_Bool (is_immortal_word w
 
 -- ---- the next row
 
--- Main has no room, and a worker's rows are behind none's.
-next_above : (layout : Layout) (t used : ℕ) → (t ≡ 0 → used ≡ block_size layout t) → has_room layout t used ≡ true
-    → row_at layout t used ≡ none_row → ⊥
-next_above layout zero used full room none =
-    omega (arith, ltb-true used (block_size layout zero) room, full refl)
-next_above layout (suc t) used full room none = omega (arith, none)
-
--- The row of a hand's next birth is a counted object's.
-pub next_is_counted : (v : View) → RowsAreThere v → v.layout.immortal_lists ≡ 0
-    → has_room v.layout v.thread v.actor.used ≡ true → IsCounted v.layout (next_row v)
-next_is_counted v there plain room = elim (cases_Bool (is_immortal_row v.layout (next_row v))) [
-  | inl immortal ↦
-      absurd (next_above v.layout v.thread v.actor.used there.main room
-      (only_none v.layout (next_row v) plain immortal))
-  | inr counted ↦ counted
-]
+-- The row of a hand's next birth is a counted object's: immortal rows are main's, which has no room.
+pub next_is_counted : (v : View) → RowsAreThere v → has_room v.layout v.thread v.actor.used ≡ true
+    → IsCounted v.layout (next_row v)
+next_is_counted v there room =
+    let low = ltb-true v.actor.used (block_size v.layout v.thread) room in
+    elim (cases_Bool (is_immortal_row v.layout (next_row v))) [
+      | inl immortal ↦
+          let main : v.thread ≡ 0 =
+          sym (block_at v.layout v.thread v.actor.used there.thread low)
+          ∙ immortal_block v.layout (next_row v) immortal in
+          absurd (omega (arith, low, there.main main))
+      | inr counted ↦ counted
+    ]

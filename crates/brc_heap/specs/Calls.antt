@@ -4,7 +4,6 @@ use Rattle.std.specs.Prelude.{◌≡◌, ◌≢◌, ◌⊎◌, ◌<◌, ◌≤�
 use Rattle.brc_word.specs.Words.{owner_part, most_local, half, local_part, is_immortal_word, free_word}
 use Rattle.brc_lang.specs.declared.kind.Kind.{Kind}
 use Rattle.brc_lang.specs.declared.kind.Kind.TheVariants as kinds
-use Rattle.brc_model.specs.Limits.{text_cells}
 use Rattle.brc_model.specs.declared.duty.Duty.{Duty}
 use Rattle.brc_model.specs.declared.duty.Reason.{Reason}
 use Rattle.brc_model.specs.declared.duty.Reason.TheVariants.{Own}
@@ -13,13 +12,13 @@ use Rattle.brc_model.specs.Kinds.{kind_number}
 use Rattle.brc_model.specs.Duties.{counts_locally, once_merged, resources_of}
 use Rattle.brc_model.specs.Machine.{is_running}
 use Rattle.brc_model.specs.declared.layout.Layout.{Layout}
-use Rattle.brc_model.specs.Layout.{none_row}
+use Rattle.brc_model.specs.FirstRows.{first_kind_word}
 use Rattle.brc_model.specs.declared.address.Address.TheVariants.{Local}
 use Rattle.brc_table.specs.declared.view.View.{View}
 use Rattle.brc_model.specs.declared.event.WordEvent.{WordEvent}
 use Rattle.brc_table.specs.Views.{view_after, resumed, turned, slot_filled, asking, retaining, releasing, bearing, work_about, open_work, with_work, rested, next_row, is_given}
 use Rattle.brc_table.specs.KnownWords.{knows_kind}
-use Rattle.brc_table.specs.Hands.{HandState, MayWait, carried_of}
+use Rattle.brc_table.specs.Hands.{TableState, HandState, MayWait, carried_of}
 use Rattle.brc_heap.specs.Steps.{Keeps}
 use Rattle.brc_effect.specs.Outcomes.{local_answer as local_release, merge_answer}
 use Rattle.brc_effect.specs.declared.outcomes.LocalRelease.{LocalRelease}
@@ -113,13 +112,14 @@ Merges r hand x = MergeIsFirst r hand x ⊎ ((carried : ℕ) × MergeIsBegun r h
 -- ---- kinds
 
 -- The hand has loaded the row's kind word. It is the word that the hand has seen there before, if it has. If the hand
--- has locked the object, the word says whether the object's slot has a resource. None's says that it is none.
-pub record SeesKind (x word : ℕ) (v u : View) : Type 0 where
+-- has locked the object, the word says whether the object's slot has a resource. That of an object that is there from
+-- the start is its first one.
+pub record SeesKind (heap : TableState) (x word : ℕ) (v u : View) : Type 0 where
   pub view_is : u ≡ view_after (asking v x) word
   pub seen : knows_kind x word u ≡ true
   pub stays : (before : ℕ) → 0 < before → knows_kind x before v ≡ true → word ≡ before
   pub slot : v.actor.locked ≡ Some x → v.in_slot ≡ resources_of word
-  pub named : x ≡ none_row → word ≡ half
+  pub first : 0 < first_kind_word heap.lines heap.layout x → word ≡ first_kind_word heap.lines heap.layout x
 
 -- ---- births
 
@@ -127,14 +127,14 @@ pub record SeesKind (x word : ℕ) (v u : View) : Type 0 where
 abbrev pub kind_word : Kind → ℕ → ℕ
 kind_word kind arg = kind_number kind * half + arg
 
--- An object of this kind may be born with this argument: the value of a number, or how many cells a list has. Files and
--- sockets have none.
-abbrev pub IsBornWith : Kind → ℕ → Type 0
-IsBornWith kinds.Num arg = Unit {0}
-IsBornWith kinds.List arg = arg ≤ text_cells
-IsBornWith kinds.File arg = arg ≡ 0
-IsBornWith kinds.Sock arg = arg ≡ 0
-IsBornWith _ arg = ⊥
+-- An object of this kind may be born with this argument: the value of a number, or how many cells a list has, at most
+-- this many. Files and sockets have none.
+abbrev pub IsBornWith : ℕ → Kind → ℕ → Type 0
+IsBornWith cells kinds.Num arg = Unit {0}
+IsBornWith cells kinds.List arg = arg ≤ cells
+IsBornWith cells kinds.File arg = arg ≡ 0
+IsBornWith cells kinds.Sock arg = arg ≡ 0
+IsBornWith cells _ arg = ⊥
 
 -- the hand has stored the kind word of a new object, put its resource into its slot if the kind has one, and stored its
 -- first local word

@@ -32,14 +32,14 @@ fn kind_number(kind: Kind) -> u32
 }
 
 impl<T: Drop> Heap<T> {
-    /// Gives birth to an object: a number of value `arg`, a list of `arg` empty cells (8 at most), or a file or a
-    /// socket with its resource (`arg` is 0). Returns its row, the next of the hand's block. The hand holds its only
-    /// reference, which is local.
+    /// Gives birth to an object: a number of value `arg`, a list of `arg` empty cells (at most as many as the layout
+    /// allows), or a file or a socket with its resource (`arg` is 0). Returns its row, the next of the hand's block.
+    /// The hand holds its only reference, which is local.
     pub fn birth(&self, hand: &mut Hand<T>, kind: Kind, arg: u32, resource: Option<T>) -> u32
         requires table { IsOf self.now hand.old }
         requires running { IsRunning hand.old.view }
         requires room { has_room hand.old.view.layout hand.old.view.thread hand.old.view.actor.used ≡ true }
-        requires kind { IsBornWith kind arg }
+        requires kind { IsBornWith hand.old.view.layout.cells kind arg }
         requires resource { resources resource ≡ resources_of (kind_word kind arg) }
         ensures row { result ≡ next_row hand.old.view }
         ensures counted { IsCounted hand.old.view.layout result }
@@ -52,7 +52,6 @@ impl<T: Drop> Heap<T> {
         ensures seen { knows_kind result (kind_word kind arg) hand.new.view ≡ true }
     {
         hand.rows_are_there();
-        self.words().layout_is_plain();
         let word = kind_word(kind_number(kind), arg);
         self.birth_steps(hand, word, resource)
     }

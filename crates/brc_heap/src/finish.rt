@@ -1,21 +1,21 @@
 //! The end of a heap: once every thread is gone, it tells what was closed, and what is left.
 
 ghost use Rattle.std.specs.Prelude.{◌≡◌, ◌<◌, IfOk, IfErr, All};
-ghost use Rattle.brc_model.specs.Limits.{text_cells};
 ghost use Rattle.brc_model.specs.Kinds.{kind_of_word};
-ghost use Rattle.brc_model.specs.Layout.{row_count};
+ghost use Rattle.brc_model.specs.Layout.{row_count, is_immortal_row};
 ghost use Rattle.brc_table.specs.Hands.{IsOf};
-ghost use Rattle.brc_table.specs.Ending.{kind_at, cell_at, slot_at};
+ghost use Rattle.brc_table.specs.Ending.{kind_at, slot_at};
 ghost use Rattle.brc_table.specs.Homes.{resources};
 ghost use Rattle.brc_table.specs.Joining.{RowsAreUsed};
-ghost use Rattle.brc_heap.specs.Ends.{was_born, is_closed, named_row, HasEnded, FoundRunning, ClosedBy};
+ghost use Rattle.brc_heap.specs.Ends.{was_born, is_closed, item_at, HasEnded, FoundRunning, ClosedBy};
 
 use crate::heap::Heap;
 use crate::kinds::kind_numbered;
+use brc_effect::rows::is_immortal_row;
 use brc_lang::Kind;
 use brc_table::{
-    Closed, Hand, joined_hands_are_gone, rows_end_in_every_table, seen_ends_are_so,
-    slots_end_in_every_table,
+    Closed, Hand, first_kinds_stay, joined_hands_are_gone, rows_end_in_every_table,
+    seen_ends_are_so, slots_end_in_every_table,
 };
 use brc_word::values::{EMPTY, LEAVING, RUNNING};
 use brc_word::{closed, kind_number};
@@ -57,6 +57,7 @@ impl<T: Drop> Heap<T> {
         requires main { main.view.thread ≡ 0 }
         ensures table { IfOk result (λ end. end.table ≡ self.table) }
         ensures layout { IfOk result (λ end. end.layout ≡ self.layout) }
+        ensures lines { IfOk result (λ end. end.lines ≡ self.lines) }
         ensures ended { IfOk result HasEnded }
         ensures closed { IfOk result (ClosedBy main.view) }
         ensures joined { IfOk result (λ end. All (RowsAreUsed end.layout end.words) main.view.joined) }
@@ -68,6 +69,7 @@ impl<T: Drop> Heap<T> {
         slots_end_in_every_table();
         seen_ends_are_so();
         joined_hands_are_gone();
+        first_kinds_stay();
         let mut main = main;
         let workers = self.words().workers();
         self.words().layout_is_plain();
@@ -87,14 +89,23 @@ impl<T: Drop> Heap<T> {
 }
 
 impl<T: Drop> Final<T> {
-    /// Returns the number of rows. Those from 2 on are the workers', block by block.
+    /// Returns the number of rows. Those from 2 on are the workers', block by block. Behind them are those of the
+    /// static lists, and of the numbers in their cells.
     pub fn rows(&self) -> u32
         ensures { result ≡ row_count self.now.layout }
     {
         self.closed.rows()
     }
 
-    /// Returns whether an object was born in the row.
+    /// Returns whether the row's object is immortal: it is none, or a static list. Its references aren't counted, and
+    /// it is never closed.
+    pub fn is_immortal(&self, row: u32) -> bool
+        ensures { result ≡ is_immortal_row self.now.layout row }
+    {
+        is_immortal_row(self.closed.layout(), row)
+    }
+
+    /// Returns whether an object was born in the row, or was there from the start.
     pub fn born(&self, row: u32) -> bool
         requires there { row < row_count self.now.layout }
         ensures { result ≡ was_born self.now row }
@@ -110,7 +121,8 @@ impl<T: Drop> Final<T> {
         kind_numbered(kind_number(self.closed.kind_word(row)))
     }
 
-    /// Returns whether the row's object is closed.
+    /// Returns whether the row's object is closed. An object that a cell of an open list names isn't: a number that is
+    /// still in the cell of a static list stays open.
     pub fn closed(&self, row: u32) -> bool
         requires there { row < row_count self.now.layout }
         ensures { result ≡ is_closed self.now row }
@@ -118,13 +130,17 @@ impl<T: Drop> Final<T> {
         self.closed.gate_word(row) == closed()
     }
 
-    /// Returns what a cell of the row has: the row of an object, or `None` if the cell is empty.
+    /// Returns what a cell of the row has: the row of an object, or `None` if the cell is empty. A cell beyond those
+    /// that a list may have is empty.
     pub fn cell(&self, row: u32, cell: u32) -> Option<u32>
         requires there { row < row_count self.now.layout }
-        requires cell { cell < text_cells }
-        ensures { result ≡ named_row (cell_at self.now.layout self.now.words row cell) }
+        ensures { result ≡ item_at self.now row cell }
     {
         self.closed.layout_is_plain();
+        self.closed.lines_are_there();
+        if cell >= u32::from(self.closed.layout().cells) {
+            return None;
+        }
         let word = self.closed.cell_word(row, cell);
         if word == EMPTY {
             None

@@ -3,14 +3,17 @@
 ghost use Rattle.std.specs.Prelude.{◌≡◌, ◌<◌, ◌≤◌, ◌⊎◌, ◌↔◌, true, false, List, [], ◌∷◌, length, IfOk, IsErr, OnOk, OnErr, ℕ};
 ghost use Rattle.brc_model.specs.Limits.{worker_limit, row_limit};
 ghost use Rattle.brc_model.specs.Layout.{root_row};
+ghost use Rattle.brc_model.specs.FirstRows.{HasLines};
 ghost use Rattle.brc_model.specs.Machine.{has_room};
+ghost use Rattle.brc_model.specs.StepMachine.{layout_of};
 ghost use Rattle.brc_table.specs.Giving.{starting};
 ghost use Rattle.brc_table.specs.Hands.{IsOf, IsRunning, HasNoWork, most_references, CarriesNothing};
-ghost use Rattle.brc_table.specs.Opening.{plain_layout};
 ghost use Rattle.brc_table.specs.Views.{holds, is_given, main_view, worker_view, giving};
 ghost use Rattle.brc_heap.specs.Calls.{retained, IsTaken, HasGiven};
 
 use crate::error::{NoMemory, Taken};
+use brc_effect::layout_of;
+use brc_lang::Module;
 use brc_table::{Hand, Words};
 use std::alloc::Global;
 use std::marker::Model;
@@ -35,21 +38,30 @@ impl<T: Drop> Model for Heap<T> {
 }
 
 impl<T: Drop> Heap<T> {
-    /// Returns a heap for 1 to 32 workers with 1 to 1024 rows each, and main's hand, which holds the only reference to
-    /// the root.
+    /// Returns a heap of the module for 1 to 32 workers with 1 to 1024 rows each, and main's hand, which holds the only
+    /// reference to the root. The module's static lists are filled before any thread shares the heap: they are
+    /// immortal, and main owns the numbers in their cells.
     ///
     /// # Errors
     ///
     /// H1 if memory is refused.
-    pub fn new(alloc: Global, workers: u8, rows: u16) -> Result<(Heap<T>, Hand<T>), NoMemory>
+    pub fn new(
+        alloc: Global,
+        workers: u8,
+        rows: u16,
+        module: &Module,
+    ) -> Result<(Heap<T>, Hand<T>), NoMemory>
         requires workers { (0 < workers) × (workers ≤ worker_limit) }
         requires rows { (0 < rows) × (rows ≤ row_limit) }
-        ensures layout { IfOk result (λ made. made.0.layout ≡ plain_layout workers rows) }
+        requires statics { HasLines «module».now.statics (layout_of «module».now workers rows) }
+        ensures layout { IfOk result (λ made. made.0.layout ≡ layout_of «module».now workers rows) }
+        ensures lines { IfOk result (λ made. made.0.lines ≡ «module».now.statics) }
         ensures table { IfOk result (λ made. IsOf made.0 made.1) }
-        ensures view { IfOk result (λ made. made.1.view ≡ main_view (plain_layout workers rows)) }
+        ensures view { IfOk result (λ made. made.1.view ≡ main_view (layout_of «module».now workers rows)) }
         ensures none { IfOk result (λ made. CarriesNothing made.1) }
     {
-        match Words::new(alloc, workers, rows) {
+        let layout = layout_of(module, workers, rows);
+        match Words::new(alloc, layout, &module.statics) {
             Ok((words, main)) => Ok((Heap { words }, main)),
             Err(_) => Err(NoMemory),
         }

@@ -30,8 +30,8 @@ pub(crate) fn kind_numbered(number: u32) -> Kind
 impl<T: Drop> Heap<T> {
     /// Returns the kind of an object to which the hand holds a reference, which it borrows from the list that it has
     /// locked, or which it is to finalise as the first of its dying chain. The kind word that it loads is the one that
-    /// the object's birth stored, and the one that the hand has seen before. If the hand has locked the object, the
-    /// word says whether the object's slot has a resource.
+    /// the object's birth stored, or had at the start, and the one that the hand has seen before. If the hand has locked
+    /// the object, the word says whether the object's slot has a resource.
     pub fn kind_of(&self, hand: &mut Hand<T>, row: u32) -> Kind
         requires table { IsOf self.now hand.old }
         requires running { IsRunning hand.old.view }
@@ -40,7 +40,8 @@ impl<T: Drop> Heap<T> {
         ensures table { IsOf self.now hand.new }
         ensures carried { hand.new.carried ≡ hand.old.carried }
         ensures slots { hand.new.slots ≡ hand.old.slots }
-        ensures sees { (word : ℕ) × SeesKind row word hand.old.view hand.new.view × (result ≡ kind_of_word word) }
+        ensures sees { (word : ℕ) × SeesKind self.now row word hand.old.view hand.new.view
+            × (result ≡ kind_of_word word) }
         ensures left { Leaves row [] hand.old.view hand.new.view }
         ensures references { hand.new.view.references ≡ hand.old.view.references }
         ensures head { hand.new.view.actor.head ≡ hand.old.view.actor.head }
@@ -59,7 +60,8 @@ impl<T: Drop> Heap<T> {
         ensures table { IsOf self.now hand.new }
         ensures carried { hand.new.carried ≡ hand.old.carried }
         ensures slots { hand.new.slots ≡ hand.old.slots }
-        ensures sees { (word : ℕ) × SeesKind row word hand.old.view hand.new.view × (result ≡ argument_part word) }
+        ensures sees { (word : ℕ) × SeesKind self.now row word hand.old.view hand.new.view
+            × (result ≡ argument_part word) }
         ensures left { Leaves row [] hand.old.view hand.new.view }
         ensures references { hand.new.view.references ≡ hand.old.view.references }
         ensures head { hand.new.view.actor.head ≡ hand.old.view.actor.head }

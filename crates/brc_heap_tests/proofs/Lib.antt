@@ -1,3 +1,4 @@
 pub mod Readiness
 mod Claiming
 mod Marking
+pub mod PlainModules

@@ -9,7 +9,7 @@ use Rattle.brc_model.specs.declared.layout.Layout.{Layout}
 use Rattle.brc_model.specs.Layout.{root_row, is_immortal_row}
 use Rattle.brc_table.specs.declared.view.View.{View}
 use Rattle.brc_table.specs.Views.{holds, work_about, open_work, with_reference, without_reference, without_one, main_view, worker_view, next_row}
-use Rattle.brc_table.specs.Opening.{plain_layout}
+use Rattle.brc_heap_tests.specs.Modules.{plain_layout}
 use Rattle.brc_model.specs.OpenWork.{is_about}
 use Rattle.std.specs.List.{filter}
 use Rattle.brc_table.specs.Hands.{TableState, HandState, IsOf, IsRunning, HoldsOne, Borrows, KeepsLock, MayWait, carried_place, CarriesNothing, most_references}

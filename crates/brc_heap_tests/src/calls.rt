@@ -5,13 +5,14 @@ ghost use Rattle.brc_model.specs.declared.duty.Reason.TheVariants.{Own};
 ghost use Rattle.brc_model.specs.declared.duty.Duty.TheVariants.{SharedLoad};
 ghost use Rattle.brc_model.specs.Layout.{root_row};
 ghost use Rattle.brc_model.specs.Limits.{worker_limit, row_limit};
-ghost use Rattle.brc_table.specs.Opening.{plain_layout};
 ghost use Rattle.brc_table.specs.Views.{work_about, without_reference, worker_view};
 ghost use Rattle.brc_table.specs.Hands.{IsOf, IsRunning, HoldsOne, KeepsLock, HasNoWork, CarriesNothing};
 ghost use Rattle.brc_table.specs.Calls.{CanAct};
 ghost use Rattle.brc_heap.specs.Calls.{Leaves, shared_left};
+ghost use Rattle.brc_heap_tests.specs.Modules.{plain_layout};
 ghost use Rattle.brc_heap_tests.specs.Ready.{IsReady, IsAlone};
 
+use crate::modules::plain_module;
 use brc_heap::{Hand, Heap, LocalRelease, SharedRelease};
 use std::alloc::Global;
 use std::test::*;
@@ -26,7 +27,7 @@ pub const ROOT: u32 = 1;
 const TRIES: u32 = 100_000_000;
 
 /// Returns a heap, and main's hand.
-#[tactic(auto, using(crate::proofs::Readiness::main_alone))]
+#[tactic(auto, using(crate::proofs::Readiness::main_alone, crate::proofs::PlainModules::has_no_lines))]
 pub fn opened(alloc: Global, workers: u8, rows: u16) -> Result<(Heap<u32>, Hand<u32>), Fail>
     requires workers { (0 < workers) × (workers ≤ worker_limit) }
     requires rows { (0 < rows) × (rows ≤ row_limit) }
@@ -34,7 +35,8 @@ pub fn opened(alloc: Global, workers: u8, rows: u16) -> Result<(Heap<u32>, Hand<
     ensures alone { IfOk result (λ made. IsAlone made.0 made.1) }
     ensures main { IfOk result (λ made. made.1.view.thread ≡ 0) }
 {
-    Ok(Heap::new(alloc, workers, rows)?)
+    let plain = plain_module(alloc);
+    Ok(Heap::new(alloc, workers, rows, &plain)?)
 }
 
 /// Gives out the worker's hand. Main's hand is as before.

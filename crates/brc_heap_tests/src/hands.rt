@@ -4,6 +4,7 @@ ghost use Rattle.std.specs.Prelude.{◌≡◌, true};
 ghost use Rattle.brc_heap_tests.specs.Ready.{IsAlone};
 
 use crate::calls::{opened, retain_and_release, worker};
+use crate::modules::plain_module;
 use brc_heap::{Hand, Heap, LocalRelease};
 use std::alloc::Global;
 use std::test::*;
@@ -67,8 +68,10 @@ fn mark_words_of_four_workers(rt: HostRuntime) -> Result<(), Fail> {
 // Under `rt try --test --fail-alloc N` the Nth allocation fails. A heap of 32 workers makes 37: for its first words,
 // the list of spares, what each of 33 hands carries, and the words and slots of its table.
 #[test]
+#[tactic(auto, using(crate::proofs::PlainModules::has_no_lines))]
 fn no_memory(rt: HostRuntime) -> Result<(), Fail> {
-    match Heap::<u32>::new(rt.alloc(), 32, 1024) {
+    let plain = plain_module(rt.alloc());
+    match Heap::<u32>::new(rt.alloc(), 32, 1024, &plain) {
         Ok((heap, main)) => assert_eq!(rt; heap.words().workers(), 32),
         Err(error) => assert_eq!(rt; format!(in rt.alloc(); "{error}")?.as_str(), "no memory"),
     }

@@ -14,6 +14,8 @@ mod kinds;
 #[cfg(test)]
 mod lists;
 #[cfg(test)]
+mod modules;
+#[cfg(test)]
 mod queue;
 #[cfg(test)]
 mod threads;

@@ -45,7 +45,7 @@ passes_line text p rest h =
 -- ---- the fault of a line
 
 pub fault_at : (b : Beginning) (rest text below : List ℕ) → IsFirstLineOf rest text below
-    → fault_of b rest ≡ line_fault_of b.version b.done b.open_function text
+    → fault_of b rest ≡ line_fault_of b.version b.statics b.done b.open_function text
 fault_at b rest text below h = ap (fault_of b) h.parts ∙ rw (line_any text below, line_before text below h.plain) refl
 
 -- ---- a list that grows at its end
@@ -54,6 +54,12 @@ pub all_push : {X : Type 0} (P : X → Type 0) (xs : List X) (x : X) → AllByRe
     → AllByRecursion P (xs ++ x ∷ [])
 all_push P [] x all here = (here, tt)
 all_push P (y ∷ xs) x all here = (all.0, all_push P xs x all.1 here)
+
+-- what holds of two lists holds of each
+pub all_parts : {X : Type 0} (P : X → Type 0) (xs ys : List X) → AllByRecursion P (xs ++ ys)
+    → AllByRecursion P xs × AllByRecursion P ys
+all_parts P [] ys all = (tt, all)
+all_parts P (x ∷ xs) ys all = let rest = all_parts P xs ys all.1 in ((all.0, rest.0), rest.1)
 
 pub instructions_push : (above : List Function) (code : List Instr) (i : Instr)
     → instructions above (code ++ i ∷ []) ≡ instructions above code ++ line (instruction above i)
@@ -74,31 +80,32 @@ ends_well code fine =
 
 -- ---- a loop over the lines of a function, below these functions
 
-module _ (version : Version) (done : List Function) (from : Cursor) where
+module _ (version : Version) (statics : List (List ℕ)) (done : List Function) (from : Cursor) where
   pub record IsInside (code : List Instr) (to : Cursor) : Type 0 where
-    pub instructions_fit : AreInstructions version done code
+    pub instructions_fit : AreInstructions version statics done code
     pub passed : Passes (instructions done code) from to
 
   -- one instruction more
   pub goes_on : (at : Cursor) (code new : List Instr) (text : List ℕ) (rest : Bor (List ℕ))
       → length done ≤ function_limit
-      → IsInside code at → IsFirstLineOf at.rest.now text rest.now → Appends version done code new text
+      → IsInside code at → IsFirstLineOf at.rest.now text rest.now → Appends version statics done code new text
       → IsInside new (at_cursor rest (at.line + 1))
   goes_on at code new text rest few so_far first next =
-      let spelled = instruction_spelled version done text next.instr few next.read in
+      let spelled = instruction_spelled version statics done text next.instr few next.read in
       let both =
       passes_both (instructions done code) (line text) from at (at_cursor rest (at.line + 1)) so_far.passed
       (passes_line text at rest first) in
       let lines : instructions done code ++ line text ≡ instructions done new =
       ap (λ (x : List ℕ). instructions done code ++ line x) spelled.0 ∙ sym (instructions_push done code next.instr)
       ∙ ap (instructions done) (sym next.appended) in
-      let more : AreInstructions version done (code ++ next.instr ∷ []) = record {
+      let more : AreInstructions version statics done (code ++ next.instr ∷ []) = record {
         most = omega (arith, length-append code (next.instr ∷ []), next.room);
         each = all_push _ code next.instr so_far.instructions_fit.each spelled.1;
         calls = all_push _ code next.instr so_far.instructions_fit.calls spelled.2;
+        allowed = all_push _ code next.instr so_far.instructions_fit.allowed spelled.3;
       } in
       record {
-        instructions_fit = subst (AreInstructions version done) (sym next.appended) more;
+        instructions_fit = subst (AreInstructions version statics done) (sym next.appended) more;
         passed = subst (λ (x : List ℕ). Passes x from (at_cursor rest (at.line + 1))) lines both;
       }
 
@@ -106,7 +113,7 @@ module _ (version : Version) (done : List Function) (from : Cursor) where
   pub ends : (at : Cursor) (code : List Instr) (text : List ℕ) (rest : Bor (List ℕ))
       → IsInside code at → IsFirstLineOf at.rest.now text rest.now → bytes_eq text (codes "end") ≡ true
       → end_fault_of code ≡ None
-      → Ends version done from code (at_cursor rest (at.line + 1))
+      → Ends version statics done from code (at_cursor rest (at.line + 1))
   ends at code text rest so_far first last fine =
       let same : text ≡ codes "end" = (bytes_eq-Decides text (codes "end")).0 last in
       let both =
@@ -125,8 +132,8 @@ module _ (version : Version) (done : List Function) (from : Cursor) where
   -- ---- its faults
 
   fault_inside : (at : Cursor) (code : List Instr) (e : FaultCode) → IsInside code at
-      → fault_of (inside version done code) at.rest.now ≡ Some e
-      → HasFaultInside version done from (record { line = at.line; code = e })
+      → fault_of (inside version statics done code) at.rest.now ≡ Some e
+      → HasFaultInside version statics done from (record { line = at.line; code = e })
   fault_inside at code e so_far h =
       record {
         code = code;
@@ -140,16 +147,16 @@ module _ (version : Version) (done : List Function) (from : Cursor) where
   pub end_fault : (at : Cursor) (code : List Instr) (text rest : List ℕ) (e : FaultCode)
       → IsInside code at → IsFirstLineOf at.rest.now text rest → bytes_eq text (codes "end") ≡ true
       → end_fault_of code ≡ Some e
-      → IsFaultInside version done from (record { line = at.line; code = e })
+      → IsFaultInside version statics done from (record { line = at.line; code = e })
   end_fault at code text rest e so_far first last h =
       inr (fault_inside at code e so_far
-      (fault_at (inside version done code) at.rest.now text rest first ∙ rw last h))
+      (fault_at (inside version statics done code) at.rest.now text rest first ∙ rw last h))
 
   pub other_fault : (at : Cursor) (code : List Instr) (text rest : List ℕ) (e : FaultCode)
       → IsInside code at → IsFirstLineOf at.rest.now text rest → bytes_eq text (codes "end") ≡ false
-      → IsLineFault (next_instruction_fault_of code (instruction_in version done (words text))) e
-      → IsFaultInside version done from (record { line = at.line; code = e })
+      → IsLineFault (next_instruction_fault_of code (instruction_in version statics done (words text))) e
+      → IsFaultInside version statics done from (record { line = at.line; code = e })
   other_fault at code text rest e so_far first other (inl memory) = inl memory
   other_fault at code text rest e so_far first other (inr h) =
       inr (fault_inside at code e so_far
-      (fault_at (inside version done code) at.rest.now text rest first ∙ rw other h))
+      (fault_at (inside version statics done code) at.rest.now text rest first ∙ rw other h))

@@ -10,10 +10,10 @@ use Rattle.brc_lang.specs.declared.parameter.Argument.{Argument}
 use Rattle.brc_lang.specs.declared.module.Function.{Function}
 use Rattle.brc_lang.specs.declared.module.Instr.{Instr}
 use Rattle.brc_lang.specs.declared.module.Instr.TheVariants.{Call}
-use Rattle.brc_lang.specs.declared.version.Version.TheVariants.{Two}
+use Rattle.brc_lang.specs.declared.version.Version.{Version}
 use Rattle.brc_lang.specs.declared.fault.FaultCode.TheVariants.{UnknownWord, OverLimit, Callee, NoMemory}
 use Rattle.brc_lang.specs.Grammar.{variable, target, is_name, name_of, name_or_none, argument_words, instruction_words}
-use Rattle.brc_lang.specs.Grammar.{IsInstruction, IsFunction, AreNamedApart, MayCall, IfFound, CallFits, depths}
+use Rattle.brc_lang.specs.Grammar.{IsInstruction, IsFunction, AreNamedApart, has_calls, MayCall, IfFound, CallFits, depths}
 use Rattle.brc_lang.specs.InstructionWords.{variable_in, target_in, name_in, variables_in, callee_at, callee_found, callee_in}
 use Rattle.brc_lang.specs.InstructionWords.{call_of, call_in}
 use Rattle.brc_lang.specs.Fault.{IsOwn}
@@ -27,81 +27,85 @@ use Rattle.brc_lang.proofs.OperandForms.{both_same, else_spelled}
 use Rattle.brc_lang.proofs.ArgumentLists.{variables_spelled, variables_again, from_variables}
 use Rattle.brc_lang.proofs.ArgumentLists.{argument_words_are, argument_words_plain}
 use Rattle.brc_lang.proofs.Callees.{number_of, callee_spelled, callee_again}
+use Rattle.brc_lang.proofs.Allowed.{Spelled}
 use Rattle.brc_lang.proofs.OwnWords.{own_then, own_either, own_word, own_limit, variable_own, target_own, name_own}
 
 -- ---- from words to the call
 
--- the words behind `call` are those of this instruction, which fits below these functions
-abbrev IsCallOf : List Function → List (List ℕ) → Instr → Type 0
-IsCallOf above ws i = ((codes "call" ∷ ws) ≡ instruction_words above i) × IsInstruction i × CallFits Two above i
+-- the words behind `call` are those of this instruction, which fits below these static lines and functions
+abbrev IsCallOf : Version → List (List ℕ) → List Function → List (List ℕ) → Instr → Type 0
+IsCallOf version statics above ws i = Spelled version statics above (codes "call" ∷ ws) i
 
--- the parts of a call are those of its words
-parts_spelled : (above : List Function) (to name : List ℕ) (ws : List (List ℕ)) (word l : List ℕ) (d : ℕ)
-    (vs : List ℕ) (t : ℕ) (c : ℕ × List Argument) → length above ≤ function_limit → length ws ≤ parameter_limit
-    → bytes_eq word (codes "else") ≡ true → variable_in to ≡ Ok d → variables_in ws ≡ Ok vs → target_in l ≡ Ok t
-    → callee_in above name vs ≡ Ok c → IsCallOf above (to ∷ name ∷ (ws ++ word ∷ l ∷ [])) (Call d c.0 c.1 t)
-parts_spelled above to name ws word l d vs t c few short same to_is ws_are l_is found =
-    let called = callee_spelled above name vs c found in
-    let p = variable_spelled to d to_is in
-    let q = variables_spelled ws vs ws_are in
-    let r = target_spelled l t l_is in
-    let here : name ≡ name_of above c.0 = sym called.named ∙ sym (ap name_or_none called.found) in
-    let rest : (ws ++ word ∷ l ∷ []) ≡ argument_words c.1 t =
-    ap (λ (x : List (List ℕ)). x ++ word ∷ l ∷ []) q.0
-    ∙ ap (λ (x : List (List ℕ)). map variable vs ++ x) (else_spelled word l t same r.0)
-    ∙ ap (λ (x : List ℕ). map variable x ++ codes "else" ∷ target t ∷ []) (sym called.from)
-    ∙ sym (argument_words_are c.1 t) in
-    let operands = both_same to (variable d) _ _ p.0 (both_same name (name_of above c.0) _ _ here rest) in
-    let count : length c.1 ≡ length ws =
-    sym (length-map c.1 (λ a. a.from)) ∙ ap length called.from ∙ sym (length-map vs variable) ∙ sym (ap length q.0) in
-    let froms = from_variables c.1 (subst (AllByRecursion (λ v. v < variable_count)) (sym called.from) q.1) in
-    let fits : CallFits Two above (Call d c.0 c.1 t) =
-    subst (λ (o : Option Function). IfFound o (MayCall (slice_index_or (depths above) c.0 0) c.1)) (sym called.found)
-    called.fits in (
-      ap (λ (x : List (List ℕ)). codes "call" ∷ x) operands,
-      (p.1, omega (arith, called.within, few), omega (arith, count, short), froms, r.1),
-      fits,
-    )
+module _ (version : Version) (statics : List (List ℕ)) (above : List Function) (has : has_calls version ≡ true)
+    (few : length above ≤ function_limit) where
+  -- the parts of a call are those of its words
+  parts_spelled : (to name : List ℕ) (ws : List (List ℕ)) (word l : List ℕ) (d : ℕ) (vs : List ℕ) (t : ℕ)
+      (c : ℕ × List Argument) → length ws ≤ parameter_limit
+      → bytes_eq word (codes "else") ≡ true → variable_in to ≡ Ok d → variables_in ws ≡ Ok vs → target_in l ≡ Ok t
+      → callee_in above name vs ≡ Ok c
+      → IsCallOf version statics above (to ∷ name ∷ (ws ++ word ∷ l ∷ [])) (Call d c.0 c.1 t)
+  parts_spelled to name ws word l d vs t c short same to_is ws_are l_is found =
+      let called = callee_spelled above name vs c found in
+      let p = variable_spelled to d to_is in
+      let q = variables_spelled ws vs ws_are in
+      let r = target_spelled l t l_is in
+      let here : name ≡ name_of above c.0 = sym called.named ∙ sym (ap name_or_none called.found) in
+      let rest : (ws ++ word ∷ l ∷ []) ≡ argument_words c.1 t =
+      ap (λ (x : List (List ℕ)). x ++ word ∷ l ∷ []) q.0
+      ∙ ap (λ (x : List (List ℕ)). map variable vs ++ x) (else_spelled word l t same r.0)
+      ∙ ap (λ (x : List ℕ). map variable x ++ codes "else" ∷ target t ∷ []) (sym called.from)
+      ∙ sym (argument_words_are c.1 t) in
+      let operands = both_same to (variable d) _ _ p.0 (both_same name (name_of above c.0) _ _ here rest) in
+      let count : length c.1 ≡ length ws =
+      sym (length-map c.1 (λ a. a.from)) ∙ ap length called.from ∙ sym (length-map vs variable) ∙ sym (ap length q.0) in
+      let froms = from_variables c.1 (subst (AllByRecursion (λ v. v < variable_count)) (sym called.from) q.1) in
+      let found_there : IfFound (slice_get above c.0) (MayCall (slice_index_or (depths above) c.0 0) c.1) =
+      subst (λ (o : Option Function). IfFound o (MayCall (slice_index_or (depths above) c.0 0) c.1)) (sym called.found)
+      called.fits in (
+        ap (λ (x : List (List ℕ)). codes "call" ∷ x) operands,
+        (p.1, omega (arith, called.within, few), omega (arith, count, short), froms, r.1),
+        (has, found_there),
+        tt,
+      )
 
--- a call with these variables, of which there are at most four
-of_spelled : (above : List Function) (to name : List ℕ) (ws : List (List ℕ)) (word l : List ℕ) (i : Instr)
-    → length above ≤ function_limit → length ws ≤ parameter_limit → call_of above to name ws word l ≡ Ok i
-    → IsCallOf above (to ∷ name ∷ (ws ++ word ∷ l ∷ [])) i
-of_spelled above to name ws word l i few short e =
-    either_way (bytes_eq word (codes "else")) _ (Err UnknownWord) (Ok i) e
-    (λ same read.
-    let d = bind_ok (variable_in to) _ i read in
-    let n = bind_ok (name_in name) _ i d.2 in
-    let vs = bind_ok (variables_in ws) _ i n.2 in
-    let t = bind_ok (target_in l) _ i vs.2 in
-    let c = bind_ok (callee_in above n.0 vs.0) _ i t.2 in
-    let named = (guarded (is_name name) UnknownWord name n.0 n.1).1 in
-    let found : callee_in above name vs.0 ≡ Ok c.0 =
-    ap (λ (x : List ℕ). callee_in above x vs.0) named ∙ c.1 in
-    subst (IsCallOf above (to ∷ name ∷ (ws ++ word ∷ l ∷ []))) {x = Call d.0 c.0.0 c.0.1 t.0}
-    (ok_is (Call d.0 c.0.0 c.0.1 t.0) i c.2)
-    (parts_spelled above to name ws word l d.0 vs.0 t.0 c.0 few short same d.1 vs.1 t.1 found))
-    (λ never. absurd cc)
+  -- a call with these variables, of which there are at most four
+  of_spelled : (to name : List ℕ) (ws : List (List ℕ)) (word l : List ℕ) (i : Instr)
+      → length ws ≤ parameter_limit → call_of above to name ws word l ≡ Ok i
+      → IsCallOf version statics above (to ∷ name ∷ (ws ++ word ∷ l ∷ [])) i
+  of_spelled to name ws word l i short e =
+      either_way (bytes_eq word (codes "else")) _ (Err UnknownWord) (Ok i) e
+      (λ same read.
+      let d = bind_ok (variable_in to) _ i read in
+      let n = bind_ok (name_in name) _ i d.2 in
+      let vs = bind_ok (variables_in ws) _ i n.2 in
+      let t = bind_ok (target_in l) _ i vs.2 in
+      let c = bind_ok (callee_in above n.0 vs.0) _ i t.2 in
+      let named = (guarded (is_name name) UnknownWord name n.0 n.1).1 in
+      let found : callee_in above name vs.0 ≡ Ok c.0 =
+      ap (λ (x : List ℕ). callee_in above x vs.0) named ∙ c.1 in
+      subst (IsCallOf version statics above (to ∷ name ∷ (ws ++ word ∷ l ∷ []))) {x = Call d.0 c.0.0 c.0.1 t.0}
+      (ok_is (Call d.0 c.0.0 c.0.1 t.0) i c.2)
+      (parts_spelled to name ws word l d.0 vs.0 t.0 c.0 short same d.1 vs.1 t.1 found))
+      (λ never. absurd cc)
 
--- words that are read as the operands of a call are its spelling, and the call fits below these functions
-pub call_spelled : (above : List Function) (ws : List (List ℕ)) (i : Instr) → length above ≤ function_limit
-    → call_in above ws ≡ Ok i
-    → ((codes "call" ∷ ws) ≡ instruction_words above i) × IsInstruction i × CallFits Two above i
-call_spelled above [] i few e = absurd cc
-call_spelled above (to ∷ []) i few e = absurd cc
-call_spelled above (to ∷ name ∷ []) i few e = absurd cc
-call_spelled above (to ∷ name ∷ word ∷ []) i few e = absurd cc
-call_spelled above (to ∷ name ∷ word ∷ l ∷ []) i few e =
-    of_spelled above to name [] word l i few (omega arith) e
-call_spelled above (to ∷ name ∷ a ∷ word ∷ l ∷ []) i few e =
-    of_spelled above to name (a ∷ []) word l i few (omega arith) e
-call_spelled above (to ∷ name ∷ a ∷ b ∷ word ∷ l ∷ []) i few e =
-    of_spelled above to name (a ∷ b ∷ []) word l i few (omega arith) e
-call_spelled above (to ∷ name ∷ a ∷ b ∷ c ∷ word ∷ l ∷ []) i few e =
-    of_spelled above to name (a ∷ b ∷ c ∷ []) word l i few (omega arith) e
-call_spelled above (to ∷ name ∷ a ∷ b ∷ c ∷ d ∷ word ∷ l ∷ []) i few e =
-    of_spelled above to name (a ∷ b ∷ c ∷ d ∷ []) word l i few (omega arith) e
-call_spelled above (to ∷ name ∷ a ∷ b ∷ c ∷ d ∷ word ∷ l ∷ more ∷ ws) i few e = absurd cc
+  -- words that are read as the operands of a call are its spelling, and the call fits below these functions
+  pub call_spelled : (ws : List (List ℕ)) (i : Instr) → call_in above ws ≡ Ok i
+      → IsCallOf version statics above ws i
+  call_spelled [] i e = absurd cc
+  call_spelled (to ∷ []) i e = absurd cc
+  call_spelled (to ∷ name ∷ []) i e = absurd cc
+  call_spelled (to ∷ name ∷ word ∷ []) i e = absurd cc
+  call_spelled (to ∷ name ∷ word ∷ l ∷ []) i e =
+      of_spelled to name [] word l i (omega arith) e
+  call_spelled (to ∷ name ∷ a ∷ word ∷ l ∷ []) i e =
+      of_spelled to name (a ∷ []) word l i (omega arith) e
+  call_spelled (to ∷ name ∷ a ∷ b ∷ word ∷ l ∷ []) i e =
+      of_spelled to name (a ∷ b ∷ []) word l i (omega arith) e
+  call_spelled (to ∷ name ∷ a ∷ b ∷ c ∷ word ∷ l ∷ []) i e =
+      of_spelled to name (a ∷ b ∷ c ∷ []) word l i (omega arith) e
+  call_spelled (to ∷ name ∷ a ∷ b ∷ c ∷ d ∷ word ∷ l ∷ []) i e =
+      of_spelled to name (a ∷ b ∷ c ∷ d ∷ []) word l i (omega arith) e
+  call_spelled (to ∷ name ∷ a ∷ b ∷ c ∷ d ∷ word ∷ l ∷ more ∷ ws) i e = absurd cc
 
 -- ---- from the call to words
 
@@ -117,57 +121,59 @@ found_function : (o : Option Function) (P : Function → Type 0) → IfFound o P
 found_function None P found = absurd found
 found_function (Some f) P found = (f, refl, found)
 
--- the call of these arguments
-of_again : (above : List Function) (to callee : ℕ) (given : List Argument) (otherwise : ℕ)
-    → AllByRecursion IsFunction above → AreNamedApart above → IsInstruction (Call to callee given otherwise)
-    → CallFits Two above (Call to callee given otherwise)
-    → call_of above (variable to) (name_of above callee) (map (λ a. variable a.from) given) (codes "else")
-    (target otherwise) ≡ Ok (Call to callee given otherwise)
-of_again above to callee given otherwise whole apart fits calls =
-    let f = found_function (slice_get above callee) _ calls in
-    let named : name_of above callee ≡ f.0.name = ap name_or_none f.1 in
-    let name : is_name f.0.name ≡ true = (at_place IsFunction above callee f.0 whole f.1).name in
-    rw (
-      named,
-      variable_again to fits.0,
-      name,
-      variables_again given fits.3,
-      target_again otherwise fits.4,
-      callee_again above callee f.0 given apart f.1 f.2,
-    ) refl
+module _ (version : Version) (above : List Function) (whole : AllByRecursion IsFunction above)
+    (apart : AreNamedApart above) where
+  -- the call of these arguments
+  of_again : (to callee : ℕ) (given : List Argument) (otherwise : ℕ)
+      → IsInstruction (Call to callee given otherwise)
+      → CallFits version above (Call to callee given otherwise)
+      → call_of above (variable to) (name_of above callee) (map (λ a. variable a.from) given) (codes "else")
+      (target otherwise) ≡ Ok (Call to callee given otherwise)
+  of_again to callee given otherwise fits calls =
+      let f = found_function (slice_get above callee) _ calls.1 in
+      let named : name_of above callee ≡ f.0.name = ap name_or_none f.1 in
+      let name : is_name f.0.name ≡ true = (at_place IsFunction above callee f.0 whole f.1).name in
+      rw (
+        named,
+        variable_again to fits.0,
+        name,
+        variables_again given fits.3,
+        target_again otherwise fits.4,
+        callee_again above callee f.0 given apart f.1 f.2,
+      ) refl
 
--- the words of a call that fits below these functions are read as it
-pub call_again : (above : List Function) (to callee : ℕ) (arguments : List Argument) (otherwise : ℕ)
-    → AllByRecursion IsFunction above → AreNamedApart above → IsInstruction (Call to callee arguments otherwise)
-    → CallFits Two above (Call to callee arguments otherwise)
-    → call_in above (variable to ∷ name_of above callee ∷ argument_words arguments otherwise)
-    ≡ Ok (Call to callee arguments otherwise)
-call_again above to callee [] otherwise whole apart fits calls =
-    of_again above to callee [] otherwise whole apart fits calls
-call_again above to callee (a ∷ []) otherwise whole apart fits calls =
-    of_again above to callee (a ∷ []) otherwise whole apart fits calls
-call_again above to callee (a ∷ b ∷ []) otherwise whole apart fits calls =
-    of_again above to callee (a ∷ b ∷ []) otherwise whole apart fits calls
-call_again above to callee (a ∷ b ∷ c ∷ []) otherwise whole apart fits calls =
-    of_again above to callee (a ∷ b ∷ c ∷ []) otherwise whole apart fits calls
-call_again above to callee (a ∷ b ∷ c ∷ d ∷ []) otherwise whole apart fits calls =
-    of_again above to callee (a ∷ b ∷ c ∷ d ∷ []) otherwise whole apart fits calls
-call_again above to callee (a ∷ b ∷ c ∷ d ∷ x ∷ given) otherwise whole apart fits calls =
-    absurd (omega (arith, fits.2))
+  -- the words of a call that fits below these functions are read as it
+  pub call_again : (to callee : ℕ) (arguments : List Argument) (otherwise : ℕ)
+      → IsInstruction (Call to callee arguments otherwise)
+      → CallFits version above (Call to callee arguments otherwise)
+      → call_in above (variable to ∷ name_of above callee ∷ argument_words arguments otherwise)
+      ≡ Ok (Call to callee arguments otherwise)
+  call_again to callee [] otherwise fits calls =
+      of_again to callee [] otherwise fits calls
+  call_again to callee (a ∷ []) otherwise fits calls =
+      of_again to callee (a ∷ []) otherwise fits calls
+  call_again to callee (a ∷ b ∷ []) otherwise fits calls =
+      of_again to callee (a ∷ b ∷ []) otherwise fits calls
+  call_again to callee (a ∷ b ∷ c ∷ []) otherwise fits calls =
+      of_again to callee (a ∷ b ∷ c ∷ []) otherwise fits calls
+  call_again to callee (a ∷ b ∷ c ∷ d ∷ []) otherwise fits calls =
+      of_again to callee (a ∷ b ∷ c ∷ d ∷ []) otherwise fits calls
+  call_again to callee (a ∷ b ∷ c ∷ d ∷ x ∷ given) otherwise fits calls =
+      absurd (omega (arith, fits.2))
 
--- no word of a call has a space or a line feed
-pub call_plain : (above : List Function) (to callee : ℕ) (arguments : List Argument) (otherwise : ℕ)
-    → AllByRecursion IsFunction above → IsInstruction (Call to callee arguments otherwise)
-    → CallFits Two above (Call to callee arguments otherwise)
-    → ArePlain (instruction_words above (Call to callee arguments otherwise))
-call_plain above to callee arguments otherwise whole fits calls =
-    let f = found_function (slice_get above callee) _ calls in
-    let name : is_name f.0.name ≡ true = (at_place IsFunction above callee f.0 whole f.1).name in
-    let plain : IsPlain (name_of above callee) =
-    subst IsPlain (sym (ap name_or_none f.1)) (name_no_space f.0.name name, name_plain f.0.name name) in (
-      (refl, refl),
-      (variable_plain to fits.0, (plain, argument_words_plain arguments otherwise fits.3 fits.4)),
-    )
+  -- no word of a call has a space or a line feed
+  pub call_plain : (to callee : ℕ) (arguments : List Argument) (otherwise : ℕ)
+      → IsInstruction (Call to callee arguments otherwise)
+      → CallFits version above (Call to callee arguments otherwise)
+      → ArePlain (instruction_words above (Call to callee arguments otherwise))
+  call_plain to callee arguments otherwise fits calls =
+      let f = found_function (slice_get above callee) _ calls.1 in
+      let name : is_name f.0.name ≡ true = (at_place IsFunction above callee f.0 whole f.1).name in
+      let plain : IsPlain (name_of above callee) =
+      subst IsPlain (sym (ap name_or_none f.1)) (name_no_space f.0.name name, name_plain f.0.name name) in (
+        (refl, refl),
+        (variable_plain to fits.0, (plain, argument_words_plain arguments otherwise fits.3 fits.4)),
+      )
 
 -- ---- faults
 

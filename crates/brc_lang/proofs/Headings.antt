@@ -67,7 +67,7 @@ heading_spelled version text name ps read =
     let h = words_read version (words text) name ps read in
     (ap line (joined text (heading_words name ps) h.0), h.1, h.2)
 
-heading_words_plain : (name : List ℕ) (ps : List Parameter) → is_name name ≡ true → ArePlain (heading_words name ps)
+pub heading_words_plain : (name : List ℕ) (ps : List Parameter) → is_name name ≡ true → ArePlain (heading_words name ps)
 heading_words_plain name ps e = ((refl, refl), ((name_no_space name e, name_plain name e), parameters_plain ps))
 
 -- a heading is one line

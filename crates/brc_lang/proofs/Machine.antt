@@ -1,5 +1,5 @@
 -- Reading line by line, as a function of the text: what a text spells, and which fault it has, follows from it.
-use Rattle.std.proofs.Common.{◌≡◌, ℕ, ◌+◌, ◌<◌, ◌≤◌, true, false, cond, eqb, ◌&&◌, List, [], ◌∷◌, ◌++◌, length, drop}
+use Rattle.std.proofs.Common.{◌≡◌, ℕ, ◌+◌, ◌<◌, ◌≤◌, Bool, true, false, cond, eqb, ◌&&◌, List, [], ◌∷◌, ◌++◌, length, drop}
 use Rattle.std.proofs.Common.{get_or, Option, Some, None, Result, Ok, Err, refl, sym, ap, ◌∙◌, append_assoc, add-zero}
 use Rattle.std.proofs.Common.{arith, inl, inr}
 use Rattle.std.specs.Prelude.{codes}
@@ -17,19 +17,21 @@ use Rattle.brc_lang.specs.declared.fault.FaultCode.{FaultCode}
 use Rattle.brc_lang.specs.declared.fault.FaultCode.TheVariants.{FirstLine, CutOff}
 use Rattle.brc_lang.specs.Grammar.{line, spaced, instruction, instructions, heading, function, functions_below, functions}
 use Rattle.brc_lang.specs.Grammar.{first_line, is_name, IsInstruction, IsFunction, AreNamedApart, most_parameters}
-use Rattle.brc_lang.specs.Grammar.{CallFits, FitsBelow, CallsFit}
+use Rattle.brc_lang.specs.Grammar.{CallFits, FitsBelow, CallsFit, static_lines, most_statics, IsStatic, AreStatics, IsAllowed}
+use Rattle.brc_lang.specs.Grammar.{AreAllowed}
 use Rattle.brc_lang.specs.InstructionWords.{words, instruction_in}
-use Rattle.brc_lang.specs.Fault.{heading_in, Beginning, beginning, open_text, named, IsBeginning}
+use Rattle.brc_lang.specs.Fault.{heading_in, is_static, static_in, Beginning, beginning, open_text, named, IsBeginning}
 use Rattle.brc_lang.specs.Fault.{line_fault_of, is_whole, is_line_feed, fault_of, line_count, version_in}
-use Rattle.brc_lang.specs.Progress.{opened, closed}
-use Rattle.brc_lang.specs.Limits.{function_limit, instruction_limit}
+use Rattle.brc_lang.specs.Progress.{opened, at_line, closed}
+use Rattle.brc_lang.specs.Limits.{function_limit, instruction_limit, static_limit}
 use Rattle.brc_lang.proofs.Below.{calls_parts}
-use Rattle.brc_lang.proofs.Bodies.{all_push}
+use Rattle.brc_lang.proofs.Bodies.{all_push, all_parts}
 use Rattle.brc_lang.proofs.Cuts.{first_part, one_part, parts_some}
 use Rattle.brc_lang.proofs.Lines.{line_at, line_cut, line_count-append, line_count_one}
 use Rattle.brc_lang.proofs.Tests.{chosen}
 use Rattle.brc_lang.proofs.Instructions.{instruction_again, instruction_plain, instruction_not_end}
 use Rattle.brc_lang.proofs.TargetsFit.{means_fit}
+use Rattle.brc_lang.proofs.StaticLines.{static_words, static_plain, static_again, statics_room, heading_apart, outer_heading}
 use Rattle.brc_lang.proofs.Headings.{has_name, heading_words, heading_plain, heading_again, opening_fine, new_name_from}
 
 -- ---- the machine
@@ -46,15 +48,21 @@ opened_by (Ok h) = opened h.0 h.1 []
 opened_by (Err e) = opened [] [] []
 
 -- the text above a line of an open function
-abbrev open_at : Version → List Function → Function → Beginning
-open_at version done f = record { version = version; done = done; open_function = Some f }
+abbrev open_at : Version → List (List ℕ) → List Function → Function → Beginning
+open_at version statics done f = at_line version statics done (Some f)
+
+abbrev with_static : List (List ℕ) → Result (List ℕ) FaultCode → List (List ℕ)
+with_static statics (Ok numbers) = statics ++ numbers ∷ []
+with_static statics (Err e) = statics
 
 -- the text above the next line, if this one has no fault
-abbrev after : Version → List Function → Option Function → List ℕ → Beginning
-after version done None text = open_at version done (opened_by (heading_in version (words text)))
-after version done (Some f) text =
-    cond (bytes_eq text (codes "end")) (closed version (done ++ f ∷ []))
-    (open_at version done (with_instruction f (instruction_in version done (words text))))
+abbrev after : Version → List (List ℕ) → List Function → Option Function → List ℕ → Beginning
+after version statics done None text =
+    cond (is_static version done (words text)) (closed version (with_static statics (static_in (words text))) done)
+    (open_at version statics done (opened_by (heading_in version (words text))))
+after version statics done (Some f) text =
+    cond (bytes_eq text (codes "end")) (closed version statics (done ++ f ∷ []))
+    (open_at version statics done (with_instruction f (instruction_in version statics done (words text))))
 
 abbrev stop_or : Option FaultCode → ℕ → Answer → Answer
 stop_or None n answer = answer
@@ -64,10 +72,10 @@ stop_or (Some code) n answer = Err (n, code)
 abbrev read_from : ℕ → Beginning → List ℕ → List (List ℕ) → Answer
 read_from n b first [] =
     cond (eqb (length first) 0 && is_whole b.done b.open_function)
-    (Ok (record { version = b.version; functions = b.done })) (Err (n, CutOff))
+    (Ok (record { version = b.version; statics = b.statics; functions = b.done })) (Err (n, CutOff))
 read_from n b first (next ∷ others) =
-    stop_or (line_fault_of b.version b.done b.open_function first) n
-    (read_from (n + 1) (after b.version b.done b.open_function first) next others)
+    stop_or (line_fault_of b.version b.statics b.done b.open_function first) n
+    (read_from (n + 1) (after b.version b.statics b.done b.open_function first) next others)
 
 abbrev read_parts : ℕ → Beginning → List (List ℕ) → Answer
 read_parts n b [] = Err (n, CutOff)
@@ -78,7 +86,7 @@ read_rest n b text = read_parts n b (slice_split is_line_feed text)
 
 abbrev reading_below : Option Version → List ℕ → Answer
 reading_below None below = Err (1, FirstLine)
-reading_below (Some version) below = read_rest 2 (closed version []) below
+reading_below (Some version) below = read_rest 2 (closed version [] []) below
 
 abbrev pub reading : List ℕ → Answer
 reading bytes = reading_below (version_in bytes) (drop 9 bytes)
@@ -86,7 +94,8 @@ reading bytes = reading_below (version_in bytes) (drop 9 bytes)
 -- ---- one line
 
 passes_line : (n : ℕ) (b c : Beginning) (text rest : List ℕ) → list_any is_line_feed text ≡ false
-    → line_fault_of b.version b.done b.open_function text ≡ None → after b.version b.done b.open_function text ≡ c
+    → line_fault_of b.version b.statics b.done b.open_function text ≡ None
+    → after b.version b.statics b.done b.open_function text ≡ c
     → read_rest n b (line text ++ rest) ≡ read_rest (n + 1) c rest
 passes_line n b c text rest plain fine next =
     let q = parts_some is_line_feed rest in
@@ -99,7 +108,7 @@ pub stops : (n : ℕ) (b : Beginning) (rest : List ℕ) (code : FaultCode) → f
     → read_rest n b rest ≡ Err (n, code)
 stops n b rest code e =
     elim (chosen (list_any is_line_feed rest)
-    (line_fault_of b.version b.done b.open_function (before_first is_line_feed rest)) _ (Some code) e) [
+    (line_fault_of b.version b.statics b.done b.open_function (before_first is_line_feed rest)) _ (Some code) e) [
       | inl ended ↦
           let q = parts_some is_line_feed (after_first is_line_feed rest) in
           let parts : slice_split is_line_feed rest ≡ before_first is_line_feed rest ∷ q.0 ∷ q.1 =
@@ -122,27 +131,27 @@ then_more : (n : ℕ) (text rest : List ℕ) → list_any is_line_feed text ≡ 
 then_more n text rest plain = omega (arith, line_count-append (line text) rest, line_count_one text plain)
 
 -- an open function, as far as it goes
-module _ (version : Version) (done : List Function) (whole : AllByRecursion IsFunction done)
-    (apart : AreNamedApart done) where
+module _ (version : Version) (statics : List (List ℕ)) (done : List Function) (lines_fit : AreStatics version statics)
+    (whole : AllByRecursion IsFunction done) (apart : AreNamedApart done) where
   instructions_pass : (n : ℕ) (name : List ℕ) (ps : List Parameter) (front code : List Instr) (rest : List ℕ)
       → AllByRecursion IsInstruction code → AllByRecursion (CallFits version done) code
-      → length front + length code ≤ instruction_limit
-      → read_rest n (open_at version done (opened name ps front)) (instructions done code ++ rest)
-      ≡ read_rest (n + line_count (instructions done code)) (open_at version done (opened name ps (front ++ code)))
-      rest
-  instructions_pass n name ps front [] rest fits calls few = rw (append-nil front, add-zero n) refl
-  instructions_pass n name ps front (i ∷ code) rest fits calls few =
+      → AllByRecursion (IsAllowed version statics) code → length front + length code ≤ instruction_limit
+      → read_rest n (open_at version statics done (opened name ps front)) (instructions done code ++ rest)
+      ≡ read_rest (n + line_count (instructions done code))
+      (open_at version statics done (opened name ps (front ++ code))) rest
+  instructions_pass n name ps front [] rest fits calls allowed few = rw (append-nil front, add-zero n) refl
+  instructions_pass n name ps front (i ∷ code) rest fits calls allowed few =
       let text = instruction done i in
-      let plain = instruction_plain version done whole apart i fits.0 calls.0 in
-      let again = instruction_again version done whole apart i fits.0 calls.0 in
-      let here = open_at version done (opened name ps front) in
-      let there = open_at version done (opened name ps (front ++ i ∷ [])) in
-      let fine : line_fault_of version done (Some (opened name ps front)) text ≡ None =
+      let plain = instruction_plain version statics done lines_fit whole apart i fits.0 calls.0 allowed.0 in
+      let again = instruction_again version statics done lines_fit whole apart i fits.0 calls.0 allowed.0 in
+      let here = open_at version statics done (opened name ps front) in
+      let there = open_at version statics done (opened name ps (front ++ i ∷ [])) in
+      let fine : line_fault_of version statics done (Some (opened name ps front)) text ≡ None =
       rw (instruction_not_end done i, again, lt-leb instruction_limit (length front) (omega arith)) refl in
-      let next : after version done (Some (opened name ps front)) text ≡ there =
+      let next : after version statics done (Some (opened name ps front)) text ≡ there =
       rw (instruction_not_end done i, again) refl in
       let others =
-      instructions_pass (n + 1) name ps (front ++ i ∷ []) code rest fits.1 calls.1
+      instructions_pass (n + 1) name ps (front ++ i ∷ []) code rest fits.1 calls.1 allowed.1
       (omega (arith, length-append front (i ∷ []))) in
       ap (read_rest n here) (append_assoc (line text) (instructions done code) rest)
       ∙ passes_line n here there text (instructions done code ++ rest) plain fine next
@@ -151,48 +160,53 @@ module _ (version : Version) (done : List Function) (whole : AllByRecursion IsFu
 
   heading_passes : (n : ℕ) (name : List ℕ) (ps : List Parameter) (rest : List ℕ) → is_name name ≡ true
       → length ps ≤ most_parameters version → length done < function_limit → has_name name done ≡ false
-      → read_rest n (closed version done) (heading name ps ++ rest)
-      ≡ read_rest (n + 1) (open_at version done (opened name ps [])) rest
+      → read_rest n (closed version statics done) (heading name ps ++ rest)
+      ≡ read_rest (n + 1) (open_at version statics done (opened name ps [])) rest
   heading_passes n name ps rest fits few room new =
-      passes_line n (closed version done) (open_at version done (opened name ps [])) (spaced (heading_words name ps))
-      rest
-      (heading_plain name ps fits) (opening_fine version done name ps fits few room new)
-      (ap (λ r. open_at version done (opened_by r)) (heading_again version name ps fits few))
+      let text = spaced (heading_words name ps) in
+      let other = heading_apart version done name ps fits in
+      passes_line n (closed version statics done) (open_at version statics done (opened name ps [])) text rest
+      (heading_plain name ps fits)
+      (outer_heading version statics done text other ∙ opening_fine version done name ps fits few room new)
+      (ap (λ (b : Bool). cond b (closed version (with_static statics (static_in (words text))) done)
+      (open_at version statics done (opened_by (heading_in version (words text))))) other
+      ∙ ap (λ r. open_at version statics done (opened_by r)) (heading_again version name ps fits few))
 
   open_passes : (n : ℕ) (f : Function) (rest : List ℕ) → is_name f.name ≡ true
       → FitsBelow version done f → length done < function_limit → has_name f.name done ≡ false
-      → AllByRecursion IsInstruction f.code → length f.code ≤ instruction_limit
-      → read_rest n (closed version done) ((heading f.name f.parameters ++ instructions done f.code) ++ rest)
-      ≡ read_rest (n + line_count (heading f.name f.parameters ++ instructions done f.code)) (open_at version done f)
-      rest
-  open_passes n f rest fits below room new all few =
+      → AllByRecursion IsInstruction f.code → AllByRecursion (IsAllowed version statics) f.code
+      → length f.code ≤ instruction_limit
+      → read_rest n (closed version statics done) ((heading f.name f.parameters ++ instructions done f.code) ++ rest)
+      ≡ read_rest (n + line_count (heading f.name f.parameters ++ instructions done f.code))
+      (open_at version statics done f) rest
+  open_passes n f rest fits below room new all allowed few =
       let first = heading f.name f.parameters in
       let lines = instructions done f.code in
-      ap (read_rest n (closed version done)) (append_assoc first lines rest)
+      ap (read_rest n (closed version statics done)) (append_assoc first lines rest)
       ∙ heading_passes n f.name f.parameters (lines ++ rest) fits below.parameters room new
-      ∙ instructions_pass (n + 1) f.name f.parameters [] f.code rest all below.calls (omega arith)
-      ∙ ap (λ (k : ℕ). read_rest k (open_at version done f) rest)
+      ∙ instructions_pass (n + 1) f.name f.parameters [] f.code rest all below.calls allowed (omega arith)
+      ∙ ap (λ (k : ℕ). read_rest k (open_at version statics done f) rest)
       (then_more n (spaced (heading_words f.name f.parameters)) lines (heading_plain f.name f.parameters fits))
 
   function_passes : (n : ℕ) (f : Function) (rest : List ℕ) → IsFunction f → FitsBelow version done f
-      → length done < function_limit
+      → AllByRecursion (IsAllowed version statics) f.code → length done < function_limit
       → has_name f.name done ≡ false
-      → read_rest n (closed version done) (function done f ++ rest)
-      ≡ read_rest (n + line_count (function done f)) (closed version (done ++ f ∷ [])) rest
-  function_passes n f rest fits below room new =
+      → read_rest n (closed version statics done) (function done f ++ rest)
+      ≡ read_rest (n + line_count (function done f)) (closed version statics (done ++ f ∷ [])) rest
+  function_passes n f rest fits below allowed room new =
       let above = heading f.name f.parameters ++ instructions done f.code in
       let last = line (codes "end") in
       let some : eqb (length f.code) 0 ≡ false =
       (let has = fits.some in ne_eqb (length f.code) 0 (λ none. omega arith)) in
-      let fine : line_fault_of version done (Some f) (codes "end") ≡ None =
+      let fine : line_fault_of version statics done (Some f) (codes "end") ≡ None =
       rw (some, means_fit f.code fits.targets) refl in
       let count : (n + line_count above) + 1 ≡ n + line_count (function done f) =
       omega (arith, line_count-append above last) in
-      ap (read_rest n (closed version done)) (append_assoc above last rest)
-      ∙ open_passes n f (last ++ rest) fits.name below room new fits.code fits.most
-      ∙ passes_line (n + line_count above) (open_at version done f) (closed version (done ++ f ∷ [])) (codes "end")
-      rest refl fine refl
-      ∙ ap (λ (k : ℕ). read_rest k (closed version (done ++ f ∷ [])) rest) count
+      ap (read_rest n (closed version statics done)) (append_assoc above last rest)
+      ∙ open_passes n f (last ++ rest) fits.name below room new fits.code allowed fits.most
+      ∙ passes_line (n + line_count above) (open_at version statics done f) (closed version statics (done ++ f ∷ []))
+      (codes "end") rest refl fine refl
+      ∙ ap (λ (k : ℕ). read_rest k (closed version statics (done ++ f ∷ [])) rest) count
 
 -- the names of functions, and then of others
 front_apart : (done fs : List Function) → AreNamedApart (done ++ fs) → AreNamedApart done
@@ -202,24 +216,27 @@ front_apart done fs apart i j d lt below same =
     let longer : j < length (done ++ fs) = omega (arith, length-append done fs, below) in
     apart i j d lt longer (ap (λ (g : Function). g.name) first ∙ same ∙ sym (ap (λ (g : Function). g.name) second))
 
-functions_pass : (version : Version) (n : ℕ) (done fs : List Function) (rest : List ℕ) → AllByRecursion IsFunction done
-    → AllByRecursion IsFunction fs → CallsFit version done fs → AreNamedApart (done ++ fs)
+functions_pass : (version : Version) (statics : List (List ℕ)) (n : ℕ) (done fs : List Function) (rest : List ℕ)
+    → AreStatics version statics → AllByRecursion IsFunction done → AllByRecursion IsFunction fs
+    → CallsFit version done fs → AreAllowed version statics fs → AreNamedApart (done ++ fs)
     → length done + length fs ≤ function_limit
-    → read_rest n (closed version done) (functions_below done fs ++ rest)
-    ≡ read_rest (n + line_count (functions_below done fs)) (closed version (done ++ fs)) rest
-functions_pass version n done [] rest whole fits calls apart few = rw (append-nil done, add-zero n) refl
-functions_pass version n done (f ∷ fs) rest whole fits calls apart few =
+    → read_rest n (closed version statics done) (functions_below done fs ++ rest)
+    ≡ read_rest (n + line_count (functions_below done fs)) (closed version statics (done ++ fs)) rest
+functions_pass version statics n done [] rest lines whole fits calls allowed apart few =
+    rw (append-nil done, add-zero n) refl
+functions_pass version statics n done (f ∷ fs) rest lines whole fits calls allowed apart few =
     let regrouped : (done ++ f ∷ []) ++ fs ≡ done ++ f ∷ fs = append_assoc done (f ∷ []) fs in
     let text = function done f in
     let below = functions_below (done ++ f ∷ []) fs in
     let others =
-    functions_pass version (n + line_count text) (done ++ f ∷ []) fs rest (all_push IsFunction done f whole fits.0)
-    fits.1 calls.1 (rw regrouped apart) (omega (arith, length-append done (f ∷ []))) in
+    functions_pass version statics (n + line_count text) (done ++ f ∷ []) fs rest lines
+    (all_push IsFunction done f whole fits.0) fits.1 calls.1 allowed.1 (rw regrouped apart)
+    (omega (arith, length-append done (f ∷ []))) in
     let count : (n + line_count text) + line_count below ≡ n + line_count (functions_below done (f ∷ fs)) =
     omega (arith, line_count-append text below) in
-    ap (read_rest n (closed version done)) (append_assoc text below rest)
-    ∙ function_passes version done whole (front_apart done (f ∷ fs) apart) n f (below ++ rest) fits.0 calls.0
-    (omega arith) (new_name_from done f fs apart)
+    ap (read_rest n (closed version statics done)) (append_assoc text below rest)
+    ∙ function_passes version statics done lines whole (front_apart done (f ∷ fs) apart) n f (below ++ rest) fits.0
+    calls.0 allowed.0 (omega arith) (new_name_from done f fs apart)
     ∙ others
     ∙ rw (regrouped, count) refl
 
@@ -235,46 +252,89 @@ pub done_calls : (version : Version) (done : List Function) (o : Option Function
 done_calls version done None calls = calls
 done_calls version done (Some f) calls = (calls_parts version done (f ∷ []) calls).0
 
-open_end : (version : Version) (n : ℕ) (done : List Function) (o : Option Function) (rest : List ℕ)
-    → IsBeginning (record { version = version; done = done; open_function = o })
-    → read_rest n (closed version done) (open_text done o ++ rest)
-    ≡ read_rest (n + line_count (open_text done o)) (record { version = version; done = done; open_function = o }) rest
-open_end version n done None rest fits = rw (add-zero n) refl
-open_end version n done (Some f) rest fits =
+-- so do their instructions
+pub done_allowed : (version : Version) (statics : List (List ℕ)) (done : List Function) (o : Option Function)
+    → AreAllowed version statics (named done o) → AreAllowed version statics done
+done_allowed version statics done None allowed = allowed
+done_allowed version statics done (Some f) allowed = (all_parts _ done (f ∷ []) allowed).0
+
+open_end : (version : Version) (statics : List (List ℕ)) (n : ℕ) (done : List Function) (o : Option Function)
+    (rest : List ℕ) → IsBeginning (at_line version statics done o)
+    → read_rest n (closed version statics done) (open_text done o ++ rest)
+    ≡ read_rest (n + line_count (open_text done o)) (at_line version statics done o) rest
+open_end version statics n done None rest fits = rw (add-zero n) refl
+open_end version statics n done (Some f) rest fits =
     let room : length done < function_limit = omega (arith, length-append done (f ∷ []), fits.most) in
-    open_passes version done fits.done (done_apart done (Some f) fits.names fits.most).0 n f rest fits.open_fits.name
-    (calls_parts version done (f ∷ []) fits.calls).1.0 room
-    (new_name_from done f [] fits.names)
-    fits.open_fits.code fits.open_fits.most
+    open_passes version statics done fits.statics fits.done (done_apart done (Some f) fits.names fits.most).0 n f rest
+    fits.open_fits.name (calls_parts version done (f ∷ []) fits.calls).1.0 room (new_name_from done f [] fits.names)
+    fits.open_fits.code (all_parts _ done (f ∷ []) fits.allowed).1.0 fits.open_fits.most
+
+-- ---- static lines
+
+statics_pass : (version : Version) (n : ℕ) (front statics : List (List ℕ)) (rest : List ℕ)
+    → length front + length statics ≤ most_statics version → AllByRecursion IsStatic statics
+    → read_rest n (closed version front []) (static_lines statics ++ rest)
+    ≡ read_rest (n + line_count (static_lines statics)) (closed version (front ++ statics) []) rest
+statics_pass version n front [] rest few fits = rw (append-nil front, add-zero n) refl
+statics_pass version n front (numbers ∷ statics) rest few fits =
+    let text = spaced (static_words numbers) in
+    let plain = static_plain numbers fits.0 in
+    let room = statics_room version (length front) (omega (arith, few)) in
+    let again = static_again version numbers room.0 fits.0 in
+    let here = closed version front [] in
+    let there = closed version (front ++ numbers ∷ []) [] in
+    let fine : line_fault_of version front [] None text ≡ None =
+    rw (again.0, again.1, lt-leb static_limit (length front) room.1) refl in
+    let next : after version front [] None text ≡ there = rw (again.0, again.1) refl in
+    let others =
+    statics_pass version (n + 1) (front ++ numbers ∷ []) statics rest
+    (omega (arith, few, length-append front (numbers ∷ []))) fits.1 in
+    ap (read_rest n here) (append_assoc (line text) (static_lines statics) rest)
+    ∙ passes_line n here there text (static_lines statics ++ rest) plain fine next
+    ∙ others
+    ∙ rw (append_assoc front (numbers ∷ []) statics, then_more n text (static_lines statics) plain) refl
 
 first_line_is_one : (version : Version) → line_count (first_line version) ≡ 1
 first_line_is_one versions.One = refl
 first_line_is_one versions.Two = refl
+first_line_is_one versions.Three = refl
 
 -- the first line is read
 first_line_passes : (version : Version) (rest : List ℕ)
-    → reading (first_line version ++ rest) ≡ read_rest 2 (closed version []) rest
+    → reading (first_line version ++ rest) ≡ read_rest 2 (closed version [] []) rest
 first_line_passes versions.One rest = refl
 first_line_passes versions.Two rest = refl
+first_line_passes versions.Three rest = refl
 
 -- the text above is read, and then the rest
 pub beginning_passes : (b : Beginning) (rest : List ℕ) → IsBeginning b
     → reading (beginning b ++ rest) ≡ read_rest (line_count (beginning b) + 1) b rest
 beginning_passes b rest fits =
     let first = first_line b.version in
+    let lists = static_lines b.statics in
     let lines = functions b.done in
     let last = open_text b.done b.open_function in
     let apart = done_apart b.done b.open_function fits.names fits.most in
-    let start : reading (beginning b ++ rest) ≡ read_rest 2 (closed b.version []) (lines ++ (last ++ rest)) =
-    ap reading (ap (λ (x : List ℕ). x ++ rest) (append_assoc first lines last)
-    ∙ append_assoc first (lines ++ last) rest
-    ∙ ap (λ (x : List ℕ). first ++ x) (append_assoc lines last rest))
-    ∙ first_line_passes b.version (lines ++ (last ++ rest)) in
+    let start : reading (beginning b ++ rest)
+    ≡ read_rest 2 (closed b.version [] []) (lists ++ (lines ++ (last ++ rest))) =
+    ap reading (append_assoc ((first ++ lists) ++ lines) last rest
+    ∙ append_assoc (first ++ lists) lines (last ++ rest)
+    ∙ append_assoc first lists (lines ++ (last ++ rest)))
+    ∙ first_line_passes b.version (lists ++ (lines ++ (last ++ rest))) in
     let one : line_count first ≡ 1 = first_line_is_one b.version in
-    let count : (2 + line_count lines) + line_count last ≡ line_count (beginning b) + 1 =
-    omega (arith, one, line_count-append (first ++ lines) last, line_count-append first lines) in
+    let count : ((2 + line_count lists) + line_count lines) + line_count last ≡ line_count (beginning b) + 1 =
+    omega (
+      arith,
+      one,
+      line_count-append ((first ++ lists) ++ lines) last,
+      line_count-append (first ++ lists) lines,
+      line_count-append first lists,
+    ) in
     start
-    ∙ functions_pass b.version 2 [] b.done (last ++ rest) tt fits.done
-    (done_calls b.version b.done b.open_function fits.calls) apart.0 (omega (arith, apart.1))
-    ∙ open_end b.version (2 + line_count lines) b.done b.open_function rest fits
+    ∙ statics_pass b.version 2 [] b.statics (lines ++ (last ++ rest)) (omega (arith, fits.statics.most))
+    fits.statics.each
+    ∙ functions_pass b.version b.statics (2 + line_count lists) [] b.done (last ++ rest) fits.statics tt fits.done
+    (done_calls b.version b.done b.open_function fits.calls)
+    (done_allowed b.version b.statics b.done b.open_function fits.allowed) apart.0 (omega (arith, apart.1))
+    ∙ open_end b.version b.statics ((2 + line_count lists) + line_count lines) b.done b.open_function rest fits
     ∙ ap (λ (k : ℕ). read_rest k b rest) count

@@ -12,7 +12,7 @@ use Rattle.brc_lang.specs.declared.fault.FaultCode.TheVariants.{UnknownWord}
 use Rattle.brc_lang.specs.Grammar.{variable, target, kind_name}
 use Rattle.brc_lang.specs.InstructionWords.{number_in, variable_in, target_in, number_between, one_variable_in, two_variables_in}
 use Rattle.brc_lang.specs.InstructionWords.{one_target_in, again_in, birth_in, taking_in, store_in, kind_in, as_in}
-use Rattle.brc_lang.specs.Limits.{variable_count, target_count, index_count, last_index, value_limit, text_cells}
+use Rattle.brc_lang.specs.Limits.{variable_count, target_count, index_count, last_index, value_limit}
 use Rattle.brc_lang.specs.Limits.{last_peer, read_limit, turn_limit}
 use Rattle.brc_lang.specs.RoundTrips.{IsPlain}
 use Rattle.brc_lang.proofs.Tests.{either_way, same_text}
@@ -198,9 +198,6 @@ birth_form low high small = record {
 
 abbrev pub num_form : Form (ℕ × ℕ × ℕ)
 num_form = birth_form 0 value_limit (omega arith)
-
-abbrev pub list_form : Form (ℕ × ℕ × ℕ)
-list_form = birth_form 1 text_cells (omega arith)
 
 abbrev pub connect_form : Form (ℕ × ℕ × ℕ)
 connect_form = birth_form 0 last_peer (omega arith)

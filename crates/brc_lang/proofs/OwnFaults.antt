@@ -1,5 +1,5 @@
 -- The fault of a text is never `NoMemory`.
-use Rattle.std.proofs.Common.{◌≢◌, ℕ, ◌*◌, Bool, true, false, cond, leb, eqb, ◌&&◌, List, [], ◌∷◌, length, Option}
+use Rattle.std.proofs.Common.{◌≢◌, ℕ, ◌*◌, Bool, true, false, cond, leb, ltb, eqb, ◌&&◌, List, [], ◌∷◌, length, Option}
 use Rattle.std.proofs.Common.{Some, None, Result, Ok, Err, sym, subst, inl, inr}
 use Rattle.std.specs.Prelude.{codes}
 use Rattle.std.specs.List.{list_any, before_first}
@@ -11,19 +11,20 @@ use Rattle.brc_lang.specs.declared.parameter.Parameter.{Parameter}
 use Rattle.brc_lang.specs.declared.version.Version.{Version}
 use Rattle.brc_lang.specs.declared.fault.FaultCode.{FaultCode}
 use Rattle.brc_lang.specs.declared.fault.FaultCode.TheVariants.{FirstLine, UnknownWord, Number, Target, NameTwice}
-use Rattle.brc_lang.specs.declared.fault.FaultCode.TheVariants.{OverLimit, CutOff, NoMemory}
-use Rattle.brc_lang.specs.Grammar.{most_parameters}
+use Rattle.brc_lang.specs.declared.fault.FaultCode.TheVariants.{OverLimit, CutOff, NoMemory, StaticList}
+use Rattle.brc_lang.specs.declared.module.Instr.TheVariants.{Take}
+use Rattle.brc_lang.specs.Grammar.{most_parameters, has_calls, cells_in, has_statics}
 use Rattle.brc_lang.specs.InstructionWords.{words, number_in, variable_in, target_in, name_in, one_variable_in}
 use Rattle.brc_lang.specs.InstructionWords.{two_variables_in, one_target_in, number_between, birth_in, taking_in, store_in, kind_in}
 use Rattle.brc_lang.specs.InstructionWords.{mode_in, open_in, pair_in, as_in, fail_in, path_instruction_in, host_instruction_in}
-use Rattle.brc_lang.specs.InstructionWords.{item_instruction_in, plain_instruction_in, call_in, has_calls, instruction_in, again_in}
-use Rattle.brc_lang.specs.InstructionWords.{passing_in, parameter_kind_in}
+use Rattle.brc_lang.specs.InstructionWords.{item_instruction_in, plain_instruction_in, call_in, instruction_in, again_in}
+use Rattle.brc_lang.specs.InstructionWords.{passing_in, parameter_kind_in, numbers_in, take_in}
 use Rattle.brc_lang.specs.Fault.{parameters_in, parameters_within, heading_in}
-use Rattle.brc_lang.specs.Fault.{opening_fault_of, targets_fit}
+use Rattle.brc_lang.specs.Fault.{is_static, static_in, static_fault_of, opening_fault_of, targets_fit}
 use Rattle.brc_lang.specs.Fault.{Beginning, end_fault_of, next_instruction_fault_of, line_fault_of}
 use Rattle.brc_lang.specs.Fault.{is_whole, is_line_feed, fault_of, HasFault, IsOwn, IsOwnFault}
-use Rattle.brc_lang.specs.Limits.{function_limit, instruction_limit, value_limit}
-use Rattle.brc_lang.specs.Limits.{text_cells, last_index, last_path, last_peer, read_limit, turn_limit}
+use Rattle.brc_lang.specs.Limits.{function_limit, instruction_limit, value_limit, static_limit, static_number_limit}
+use Rattle.brc_lang.specs.Limits.{last_static, last_index, last_path, last_peer, read_limit, turn_limit}
 use Rattle.brc_lang.proofs.Calls.{call_own}
 use Rattle.brc_lang.proofs.Headings.{has_name}
 use Rattle.brc_lang.proofs.OwnWords.{own_then, own_either, own_word, own_number, own_limit, number_own, variable_own}
@@ -37,6 +38,9 @@ own_fault_either false x y here there = there
 
 own_target : Target ≢ NoMemory
 own_target e = cc
+
+own_static : StaticList ≢ NoMemory
+own_static e = cc
 
 own_name : NameTwice ≢ NoMemory
 own_name e = cc
@@ -206,13 +210,13 @@ item_instruction_own w ws =
     (own_either (bytes_eq w (codes "put")) _ _ (own_then (store_in ws) _ (store_own ws) (λ v. tt))
     (host_instruction_own w ws))))
 
-plain_instruction_own : (ws : List (List ℕ)) → IsOwn (plain_instruction_in ws)
-plain_instruction_own [] = own_word
-plain_instruction_own (w ∷ ws) =
+plain_instruction_own : (version : Version) (ws : List (List ℕ)) → IsOwn (plain_instruction_in version ws)
+plain_instruction_own version [] = own_word
+plain_instruction_own version (w ∷ ws) =
     own_either (bytes_eq w (codes "num")) _ _
     (own_then (birth_in 0 value_limit ws) _ (birth_own 0 value_limit ws) (λ v. tt))
     (own_either (bytes_eq w (codes "list")) _ _
-    (own_then (birth_in 1 text_cells ws) _ (birth_own 1 text_cells ws) (λ v. tt))
+    (own_then (birth_in 1 (cells_in version) ws) _ (birth_own 1 (cells_in version) ws) (λ v. tt))
     (own_either (bytes_eq w (codes "none")) _ _ (own_then (one_variable_in ws) _ (one_variable_own ws) (λ v. tt))
     (own_either (bytes_eq w (codes "newref")) _ _ (own_then (two_variables_in ws) _ (two_variables_own ws) (λ v. tt))
     (own_either (bytes_eq w (codes "move")) _ _ (own_then (two_variables_in ws) _ (two_variables_own ws) (λ v. tt))
@@ -221,14 +225,42 @@ plain_instruction_own (w ∷ ws) =
     (own_either (bytes_eq w (codes "unlock")) _ _ (own_then (one_variable_in ws) _ (one_variable_own ws) (λ v. tt))
     (item_instruction_own w ws))))))))
 
-instruction_own : (version : Version) (above : List Function) (ws : List (List ℕ))
-    → IsOwn (instruction_in version above ws)
-instruction_own version above [] = own_word
-instruction_own version above (w ∷ ws) =
+take_own : (statics : List (List ℕ)) (ws : List (List ℕ)) → IsOwn (take_in statics ws)
+take_own statics [] = own_word
+take_own statics (a ∷ []) = own_word
+take_own statics (a ∷ b ∷ []) =
+    own_then (variable_in a) _ (variable_own a) (λ d.
+    own_then (number_in last_static b) _ (number_own last_static b) (λ list.
+    own_either (ltb list (length statics)) (Ok (Take d list)) (Err StaticList) tt own_static))
+take_own statics (a ∷ b ∷ c ∷ ws) = own_word
+
+instruction_own : (version : Version) (statics : List (List ℕ)) (above : List Function) (ws : List (List ℕ))
+    → IsOwn (instruction_in version statics above ws)
+instruction_own version statics above [] = own_word
+instruction_own version statics above (w ∷ ws) =
     own_either (bytes_eq w (codes "call") && has_calls version) (call_in above ws) _ (call_own above ws)
-    (plain_instruction_own (w ∷ ws))
+    (own_either (bytes_eq w (codes "take") && has_statics version) (take_in statics ws) _ (take_own statics ws)
+    (plain_instruction_own version (w ∷ ws)))
 
 -- ---- lines
+
+numbers_own : (ws : List (List ℕ)) → IsOwn (numbers_in ws)
+numbers_own [] = tt
+numbers_own (w ∷ ws) =
+    own_then (number_in value_limit w) _ (number_own value_limit w) (λ n.
+    own_then (numbers_in ws) _ (numbers_own ws) (λ ns. tt))
+
+static_own : (ws : List (List ℕ)) → IsOwn (static_in ws)
+static_own [] = own_word
+static_own (w ∷ ws) =
+    own_either (ltb 0 (length ws) && leb (length ws) static_number_limit) (numbers_in ws) (Err UnknownWord)
+    (numbers_own ws) own_word
+
+static_fault_own : (statics : List (List ℕ)) (r : Result (List ℕ) FaultCode) → IsOwn r
+    → IsOwnFault (static_fault_of statics r)
+static_fault_own statics (Ok numbers) here =
+    own_fault_either (leb static_limit (length statics)) (Some OverLimit) None own_limit tt
+static_fault_own statics (Err code) here = here
 
 passing_own : (word : List ℕ) → IsOwn (passing_in word)
 passing_own word =
@@ -270,19 +302,22 @@ next_own : (code : List Instr) (r : Result Instr FaultCode) → IsOwn r → IsOw
 next_own code (Ok i) here = own_fault_either (leb instruction_limit (length code)) (Some OverLimit) None own_limit tt
 next_own code (Err fault) here = here
 
-line_own : (version : Version) (done : List Function) (o : Option Function) (line : List ℕ)
-    → IsOwnFault (line_fault_of version done o line)
-line_own version done None line =
-    opening_own done (heading_in version (words line)) (heading_in_own version (words line))
-line_own version done (Some f) line =
+line_own : (version : Version) (statics : List (List ℕ)) (done : List Function) (o : Option Function) (line : List ℕ)
+    → IsOwnFault (line_fault_of version statics done o line)
+line_own version statics done None line =
+    own_fault_either (is_static version done (words line)) (static_fault_of statics (static_in (words line))) _
+    (static_fault_own statics (static_in (words line)) (static_own (words line)))
+    (opening_own done (heading_in version (words line)) (heading_in_own version (words line)))
+line_own version statics done (Some f) line =
     own_fault_either (bytes_eq line (codes "end")) (end_fault_of f.code) _ (end_own f.code)
-    (next_own f.code (instruction_in version done (words line)) (instruction_own version done (words line)))
+    (next_own f.code (instruction_in version statics done (words line))
+    (instruction_own version statics done (words line)))
 
 rest_own : (b : Beginning) (rest : List ℕ) → IsOwnFault (fault_of b rest)
 rest_own b rest =
     let line = before_first is_line_feed rest in
-    own_fault_either (list_any is_line_feed rest) (line_fault_of b.version b.done b.open_function line) _
-    (line_own b.version b.done b.open_function line)
+    own_fault_either (list_any is_line_feed rest) (line_fault_of b.version b.statics b.done b.open_function line) _
+    (line_own b.version b.statics b.done b.open_function line)
     (own_fault_either (eqb (length rest) 0 && is_whole b.done b.open_function) None (Some CutOff) tt own_cut)
 
 -- ---- texts

@@ -11,21 +11,23 @@ use Rattle.brc_lang.specs.Fault.{beginning, IsBeginning, line_count, HasFault, I
 use Rattle.brc_lang.specs.Progress.{closed}
 use Rattle.brc_lang.proofs.Machine.{Answer, reading, stops, beginning_passes}
 
-whole_beginning : (m : Module) → IsModule m → IsBeginning (closed m.version m.functions)
+whole_beginning : (m : Module) → IsModule m → IsBeginning (closed m.version m.statics m.functions)
 whole_beginning m fits = record {
+  statics = fits.statics;
   most = fits.most;
   done = fits.functions;
   names = fits.names;
   calls = fits.calls;
+  allowed = fits.allowed;
   open_fits = tt;
 }
 
 reads_spelled : (bytes : List ℕ) (m : Module) → Spells bytes m → reading bytes ≡ Ok m
 reads_spelled bytes m h =
-    let whole : bytes ≡ beginning (closed m.version m.functions) ++ [] =
+    let whole : bytes ≡ beginning (closed m.version m.statics m.functions) ++ [] =
     h.spelled ∙ sym (append-nil (text m)) ∙ sym (append-nil (text m ++ [])) in
     let some : 0 < length m.functions = (let fits = h.module_fits in fits.some) in
-    ap reading whole ∙ beginning_passes (closed m.version m.functions) [] (whole_beginning m h.module_fits)
+    ap reading whole ∙ beginning_passes (closed m.version m.statics m.functions) [] (whole_beginning m h.module_fits)
     ∙ rw (lt-ltb 0 (length m.functions) some) refl
 
 reads_fault : (bytes : List ℕ) (n : ℕ) (code : FaultCode) → HasFault bytes n code → reading bytes ≡ Err (n, code)

@@ -15,9 +15,10 @@ use Rattle.brc_lang.specs.declared.fault.FaultCode.TheVariants.{OverLimit, CutOf
 use Rattle.brc_lang.specs.declared.fault.ReadFault.{ReadFault}
 use Rattle.brc_lang.specs.declared.module.Module.{Module}
 use Rattle.brc_lang.specs.Grammar.{is_name, IsInstruction, jump, turn, IsFunction, AreNamedApart, heading}
-use Rattle.brc_lang.specs.Grammar.{instructions, functions, first_line, most_parameters, CallsFit}
-use Rattle.brc_lang.specs.Limits.{function_limit, instruction_limit}
-use Rattle.brc_lang.specs.InstructionWords.{words, parameter_kind_in, passing_in, name_in, ◌>>=◌, instruction_in}
+use Rattle.brc_lang.specs.Grammar.{instructions, functions, first_line, top, most_parameters, has_statics, CallsFit}
+use Rattle.brc_lang.specs.Grammar.{AreStatics, AreAllowed}
+use Rattle.brc_lang.specs.Limits.{function_limit, instruction_limit, static_limit, static_number_limit}
+use Rattle.brc_lang.specs.InstructionWords.{words, parameter_kind_in, passing_in, name_in, ◌>>=◌, numbers_in, instruction_in}
 
 -- ---- the targets of a function
 
@@ -42,9 +43,10 @@ targets_fit code = targets_fit_from 0 (length code) code
 
 -- ---- a line after those above it
 
--- the text above a line: the first line, whole functions, and maybe one that is open
+-- the text above a line: the first line, static lines, whole functions, and maybe one that is open
 pub record Beginning : Type 0 where
   pub version : Version
+  pub statics : List (List ℕ)
   pub done : List Function
   pub open_function : Option Function
 
@@ -53,7 +55,7 @@ open_text above None = []
 open_text above (Some f) = heading f.name f.parameters ++ instructions above f.code
 
 abbrev pub beginning : Beginning → List ℕ
-beginning b = first_line b.version ++ functions b.done ++ open_text b.done b.open_function
+beginning b = top b.version b.statics ++ functions b.done ++ open_text b.done b.open_function
 
 -- the functions whose names are above
 abbrev pub named : List Function → Option Function → List Function
@@ -72,11 +74,29 @@ IfOpen (Some f) = IsOpen f
 
 -- each line so far is one that the grammar allows there
 pub record IsBeginning (b : Beginning) : Type 0 where
+  pub statics : AreStatics b.version b.statics
   pub most : length (named b.done b.open_function) ≤ function_limit
   pub done : AllByRecursion IsFunction b.done
   pub names : AreNamedApart (named b.done b.open_function)
   pub calls : CallsFit b.version [] (named b.done b.open_function)
+  pub allowed : AreAllowed b.version b.statics (named b.done b.open_function)
   pub open_fits : IfOpen b.open_function
+
+-- whether a line outside a function is a static line: its first word says so, and no function is above it
+abbrev pub is_static : Version → List Function → List (List ℕ) → Bool
+is_static version done [] = false
+is_static version done (w ∷ ws) = bytes_eq w (codes "static") && has_statics version && length done == 0
+
+-- the numbers of a static line; the count of words comes first
+abbrev pub static_in : List (List ℕ) → Result (List ℕ) FaultCode
+static_in [] = Err UnknownWord
+static_in (w ∷ ws) =
+    if nat_lt 0 (length ws) && nat_le (length ws) static_number_limit then numbers_in ws else Err UnknownWord
+
+-- the fault of a static line below others, which was read as these numbers
+abbrev pub static_fault_of : List (List ℕ) → Result (List ℕ) FaultCode → Option FaultCode
+static_fault_of statics (Err code) = Some code
+static_fault_of statics (Ok numbers) = if nat_le static_limit (length statics) then Some OverLimit else None
 
 -- a passing and a kind for each parameter
 abbrev pub parameters_in : List (List ℕ) → Result (List Parameter) FaultCode
@@ -108,6 +128,11 @@ opening_fault_of done (Ok opening) =
 abbrev pub heading_fault_of : Version → List Function → List (List ℕ) → Option FaultCode
 heading_fault_of version done ws = opening_fault_of done (heading_in version ws)
 
+-- the fault of a line outside a function
+abbrev pub outer_fault_of : Version → List (List ℕ) → List Function → List (List ℕ) → Option FaultCode
+outer_fault_of version statics done ws =
+    if is_static version done ws then static_fault_of statics (static_in ws) else heading_fault_of version done ws
+
 abbrev pub end_fault_of : List Instr → Option FaultCode
 end_fault_of code =
     if length code == 0 then Some OverLimit
@@ -119,12 +144,13 @@ abbrev pub next_instruction_fault_of : List Instr → Result Instr FaultCode →
 next_instruction_fault_of code (Err fault) = Some fault
 next_instruction_fault_of code (Ok i) = if nat_le instruction_limit (length code) then Some OverLimit else None
 
--- the fault of a line: outside a function only a heading is allowed, inside one only instructions and `end`
-abbrev pub line_fault_of : Version → List Function → Option Function → List ℕ → Option FaultCode
-line_fault_of version done None line = heading_fault_of version done (words line)
-line_fault_of version done (Some f) line =
+-- the fault of a line: outside a function only a heading is allowed, and above all functions a static line; inside one
+-- only instructions and `end`
+abbrev pub line_fault_of : Version → List (List ℕ) → List Function → Option Function → List ℕ → Option FaultCode
+line_fault_of version statics done None line = outer_fault_of version statics done (words line)
+line_fault_of version statics done (Some f) line =
     if bytes_eq line (codes "end") then end_fault_of f.code
-    else next_instruction_fault_of f.code (instruction_in version done (words line))
+    else next_instruction_fault_of f.code (instruction_in version statics done (words line))
 
 -- no function is open, and there is one
 abbrev pub is_whole : List Function → Option Function → Bool
@@ -138,7 +164,7 @@ is_line_feed c = c == 10
 abbrev pub fault_of : Beginning → List ℕ → Option FaultCode
 fault_of b rest =
     if list_any is_line_feed rest
-    then line_fault_of b.version b.done b.open_function (before_first is_line_feed rest)
+    then line_fault_of b.version b.statics b.done b.open_function (before_first is_line_feed rest)
     else if (length rest == 0) && is_whole b.done b.open_function then None
     else Some CutOff
 
@@ -161,6 +187,7 @@ abbrev pub version_in : List ℕ → Option Version
 version_in bytes =
     if starts_with nat_eq bytes (first_line versions.One) then Some versions.One
     else if starts_with nat_eq bytes (first_line versions.Two) then Some versions.Two
+    else if starts_with nat_eq bytes (first_line versions.Three) then Some versions.Three
     else None
 
 pub record HasFirstLineFault (bytes : List ℕ) (line : ℕ) (code : FaultCode) : Type 0 where

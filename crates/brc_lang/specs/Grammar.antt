@@ -1,6 +1,6 @@
 -- The one spelling of a module: ASCII lines, each with a line feed at its end, of words that single spaces separate.
-use Rattle.std.specs.Prelude.{◌≡◌, ◌≢◌, ℕ, ◌<◌, ◌≤◌, ◌^◌, Bool, false, ◌&&◌, ◌||◌, ◌==◌, nat_le, IsTrue, List, [], ◌∷◌}
-use Rattle.std.specs.Prelude.{◌++◌, length, map, Option, None, Some, slice_get, AllPairs, codes, max, suc}
+use Rattle.std.specs.Prelude.{◌≡◌, ◌≢◌, ℕ, ◌<◌, ◌≤◌, ◌^◌, Bool, true, false, ◌&&◌, ◌||◌, ◌==◌, nat_le, IsTrue, List}
+use Rattle.std.specs.Prelude.{if◌then◌else◌, [], ◌∷◌, ◌++◌, length, map, Option, None, Some, slice_get, AllPairs, codes, max, suc}
 use Rattle.std.specs.List.{flat_map, join_with_byte, AllByRecursion, list_all, slice_index_or}
 use Rattle.std.specs.Fmt.{decimal}
 use Rattle.brc_lang.specs.declared.kind.Kind.{Kind}
@@ -8,8 +8,8 @@ use Rattle.brc_lang.specs.declared.kind.Kind.TheVariants as kinds
 use Rattle.brc_lang.specs.declared.module.Module.{Module}
 use Rattle.brc_lang.specs.declared.module.Function.{Function}
 use Rattle.brc_lang.specs.declared.module.Instr.{Instr}
-use Rattle.brc_lang.specs.declared.module.Instr.TheVariants.{Num, List as ListObject, NoneObject, Newref, Move}
-use Rattle.brc_lang.specs.declared.module.Instr.TheVariants.{Drop, Lock, Unlock, Borrow, Fetch, Set, Put, As}
+use Rattle.brc_lang.specs.declared.module.Instr.TheVariants.{Num, List as ListObject, NoneObject, Take, Newref}
+use Rattle.brc_lang.specs.declared.module.Instr.TheVariants.{Move, Drop, Lock, Unlock, Borrow, Fetch, Set, Put, As}
 use Rattle.brc_lang.specs.declared.module.Instr.TheVariants.{Open, Connect, Read, Write, Call, Goto, Again, Ret, Fail}
 use Rattle.brc_lang.specs.declared.parameter.Parameter.{Parameter}
 use Rattle.brc_lang.specs.declared.parameter.Argument.{Argument}
@@ -19,7 +19,7 @@ use Rattle.brc_lang.specs.declared.version.Version.{Version}
 use Rattle.brc_lang.specs.declared.version.Version.TheVariants as versions
 use Rattle.brc_lang.specs.Limits.{function_limit, instruction_limit, variable_count, target_count, text_cells}
 use Rattle.brc_lang.specs.Limits.{index_count, path_count, peer_count, read_limit, turn_limit, name_rest_limit}
-use Rattle.brc_lang.specs.Limits.{parameter_limit, depth_limit}
+use Rattle.brc_lang.specs.Limits.{parameter_limit, depth_limit, cell_limit, static_limit, static_number_limit}
 use Rattle.brc_lang.specs.Modes.{mode_name, IsMode}
 
 -- ---- spellings
@@ -78,6 +78,7 @@ instruction_words above (Num to value otherwise) =
 instruction_words above (ListObject to cells otherwise) =
     codes "list" ∷ variable to ∷ decimal cells ∷ codes "else" ∷ target otherwise ∷ []
 instruction_words above (NoneObject to) = codes "none" ∷ variable to ∷ []
+instruction_words above (Take to list) = codes "take" ∷ variable to ∷ decimal list ∷ []
 instruction_words above (Newref to from) = codes "newref" ∷ variable to ∷ variable from ∷ []
 instruction_words above (Move to from) = codes "move" ∷ variable to ∷ variable from ∷ []
 instruction_words above (Drop from) = codes "drop" ∷ variable from ∷ []
@@ -132,12 +133,24 @@ functions fs = functions_below [] fs
 abbrev pub version_word : Version → List ℕ
 version_word versions.One = codes "1"
 version_word versions.Two = codes "2"
+version_word versions.Three = codes "3"
 
 abbrev pub first_line : Version → List ℕ
 first_line version = line (codes "module " ++ version_word version)
 
+-- the line of a static list
+abbrev pub static_line : List ℕ → List ℕ
+static_line numbers = line (spaced (codes "static" ∷ map decimal numbers))
+
+abbrev pub static_lines : List (List ℕ) → List ℕ
+static_lines statics = flat_map static_line statics
+
+-- the lines above the functions
+abbrev pub top : Version → List (List ℕ) → List ℕ
+top version statics = first_line version ++ static_lines statics
+
 abbrev pub text : Module → List ℕ
-text m = first_line m.version ++ functions m.functions
+text m = top m.version m.statics ++ functions m.functions
 
 -- ---- the modules that have a spelling
 
@@ -156,8 +169,9 @@ is_name (c ∷ cs) = is_letter c && list_all is_name_byte cs && nat_le (length c
 abbrev pub IsInstruction : Instr → Type 0
 IsInstruction (Num to value otherwise) = (to < variable_count) × (value < 2 ^ 32) × (otherwise < target_count)
 IsInstruction (ListObject to cells otherwise) =
-    (to < variable_count) × (0 < cells) × (cells ≤ text_cells) × (otherwise < target_count)
+    (to < variable_count) × (0 < cells) × (cells ≤ cell_limit) × (otherwise < target_count)
 IsInstruction (NoneObject to) = to < variable_count
+IsInstruction (Take to list) = (to < variable_count) × (list < static_limit)
 IsInstruction (Newref to from) = (to < variable_count) × (from < variable_count)
 IsInstruction (Move to from) = (to < variable_count) × (from < variable_count)
 IsInstruction (Drop from) = from < variable_count
@@ -193,6 +207,7 @@ abbrev pub jump : Instr → Option ℕ
 jump (Num to value otherwise) = Some otherwise
 jump (ListObject to cells otherwise) = Some otherwise
 jump (NoneObject to) = None
+jump (Take to list) = None
 jump (Newref to from) = None
 jump (Move to from) = None
 jump (Drop from) = None
@@ -242,6 +257,34 @@ pub record IsFunction (f : Function) : Type 0 where
   pub code : AllByRecursion IsInstruction f.code
   pub targets : TargetsFit f.code
 
+-- ---- versions
+
+-- version 1 has neither calls nor parameters
+abbrev pub has_calls : Version → Bool
+has_calls versions.One = false
+has_calls versions.Two = true
+has_calls versions.Three = true
+
+abbrev pub most_parameters : Version → ℕ
+most_parameters versions.One = 0
+most_parameters versions.Two = parameter_limit
+most_parameters versions.Three = parameter_limit
+
+-- the most cells of a list in a version
+abbrev pub cells_in : Version → ℕ
+cells_in versions.One = text_cells
+cells_in versions.Two = text_cells
+cells_in versions.Three = cell_limit
+
+-- versions 1 and 2 have no static lists, and no instruction that takes one
+abbrev pub has_statics : Version → Bool
+has_statics versions.One = false
+has_statics versions.Two = false
+has_statics versions.Three = true
+
+abbrev pub most_statics : Version → ℕ
+most_statics version = if has_statics version then static_limit else 0
+
 -- ---- calls
 
 -- the depth of the function that an instruction calls, where the functions above have these depths
@@ -271,21 +314,16 @@ abbrev pub IfFound : Option Function → (Function → Type 0) → Type 0
 IfFound None holds = ⊥
 IfFound (Some f) holds = holds f
 
--- the function of this number, which is one above, is called with these arguments; in version 1 no call is allowed
+-- the function of this number, which is one above, is called with these arguments
 abbrev pub IsCall : Version → List Function → ℕ → List Argument → Type 0
-IsCall versions.One above callee arguments = ⊥
-IsCall versions.Two above callee arguments =
-    IfFound (slice_get above callee) (MayCall (slice_index_or (depths above) callee 0) arguments)
+IsCall version above callee arguments =
+    IsTrue (has_calls version)
+    × IfFound (slice_get above callee) (MayCall (slice_index_or (depths above) callee 0) arguments)
 
 -- if the instruction is a call, it is one that the version and the functions above allow
 abbrev pub CallFits : Version → List Function → Instr → Type 0
 CallFits version above (Call to callee arguments otherwise) = IsCall version above callee arguments
 CallFits version above i = Unit {0}
-
--- in version 1 no function has parameters
-abbrev pub most_parameters : Version → ℕ
-most_parameters versions.One = 0
-most_parameters versions.Two = parameter_limit
 
 -- what a version and the functions above allow a function
 pub record FitsBelow (version : Version) (above : List Function) (f : Function) : Type 0 where
@@ -296,6 +334,29 @@ abbrev pub CallsFit : Version → List Function → List Function → Type 0
 CallsFit version above [] = Unit {0}
 CallsFit version above (f ∷ fs) = FitsBelow version above f × CallsFit version (above ++ f ∷ []) fs
 
+-- ---- static lists
+
+-- 1 to 64 numbers
+pub record IsStatic (numbers : List ℕ) : Type 0 where
+  pub some : 0 < length numbers
+  pub most : length numbers ≤ static_number_limit
+  pub each : AllByRecursion (λ n. n < 2 ^ 32) numbers
+
+-- 0 to 16 static lines; in versions 1 and 2 there are none
+pub record AreStatics (version : Version) (statics : List (List ℕ)) : Type 0 where
+  pub most : length statics ≤ most_statics version
+  pub each : AllByRecursion IsStatic statics
+
+-- a list has at most as many cells as the version allows, and a static list that is taken is one of these
+abbrev pub IsAllowed : Version → List (List ℕ) → Instr → Type 0
+IsAllowed version statics (ListObject to cells otherwise) = cells ≤ cells_in version
+IsAllowed version statics (Take to list) = list < length statics
+IsAllowed version statics i = Unit {0}
+
+-- the version and the static lines allow each instruction of the functions
+abbrev pub AreAllowed : Version → List (List ℕ) → List Function → Type 0
+AreAllowed version statics fs = AllByRecursion (λ f. AllByRecursion (IsAllowed version statics) f.code) fs
+
 -- ---- modules
 
 -- no two functions have the same name
@@ -304,11 +365,13 @@ AreNamedApart fs = AllPairs (λ f g. f.name ≢ g.name) fs
 
 -- 1 to 64 functions
 pub record IsModule (m : Module) : Type 0 where
+  pub statics : AreStatics m.version m.statics
   pub some : 0 < length m.functions
   pub most : length m.functions ≤ function_limit
   pub functions : AllByRecursion IsFunction m.functions
   pub names : AreNamedApart m.functions
   pub calls : CallsFit m.version [] m.functions
+  pub allowed : AreAllowed m.version m.statics m.functions
 
 -- the grammar: the bytes are the module's one text
 pub record Spells (bytes : List ℕ) (m : Module) : Type 0 where

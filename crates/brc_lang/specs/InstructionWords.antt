@@ -1,5 +1,5 @@
 -- The instruction that a line's words spell, or the line's fault.
-use Rattle.std.specs.Prelude.{ℕ, ◌+◌, Bool, true, false, ◌&&◌, ◌||◌, ◌==◌, not, nat_le}
+use Rattle.std.specs.Prelude.{ℕ, ◌+◌, Bool, false, ◌&&◌, ◌||◌, ◌==◌, not, nat_le, nat_lt}
 use Rattle.std.specs.Prelude.{if◌then◌else◌, List, [], ◌∷◌, length, Option, None, Some, Result, Ok, Err}
 use Rattle.std.specs.Prelude.{codes, slice_get, position}
 use Rattle.std.specs.List.{list_all, slice_split, slice_index_or}
@@ -11,22 +11,20 @@ use Rattle.brc_lang.specs.declared.kind.Kind.TheVariants as kinds
 use Rattle.brc_lang.specs.declared.mode.Mode.{Mode}
 use Rattle.brc_lang.specs.declared.module.Function.{Function}
 use Rattle.brc_lang.specs.declared.module.Instr.{Instr}
-use Rattle.brc_lang.specs.declared.module.Instr.TheVariants.{Num, List as ListObject, NoneObject, Newref, Move}
-use Rattle.brc_lang.specs.declared.module.Instr.TheVariants.{Drop, Lock, Unlock, Borrow, Fetch, Set, Put, As}
+use Rattle.brc_lang.specs.declared.module.Instr.TheVariants.{Num, List as ListObject, NoneObject, Take, Newref}
+use Rattle.brc_lang.specs.declared.module.Instr.TheVariants.{Move, Drop, Lock, Unlock, Borrow, Fetch, Set, Put, As}
 use Rattle.brc_lang.specs.declared.module.Instr.TheVariants.{Open, Connect, Read, Write, Call, Goto, Again, Ret, Fail}
 use Rattle.brc_lang.specs.declared.parameter.Parameter.{Parameter}
 use Rattle.brc_lang.specs.declared.parameter.Argument.{Argument}
 use Rattle.brc_lang.specs.declared.parameter.Passing.{Passing}
 use Rattle.brc_lang.specs.declared.parameter.Passing.TheVariants as passings
 use Rattle.brc_lang.specs.declared.version.Version.{Version}
-use Rattle.brc_lang.specs.declared.version.Version.TheVariants as versions
 use Rattle.brc_lang.specs.declared.fault.FaultCode.{FaultCode}
 use Rattle.brc_lang.specs.declared.fault.FaultCode.TheVariants.{UnknownWord, Number}
-use Rattle.brc_lang.specs.declared.fault.FaultCode.TheVariants.{OverLimit, Callee}
-use Rattle.brc_lang.specs.Grammar.{is_name}
-use Rattle.brc_lang.specs.Grammar.{functions, depths}
-use Rattle.brc_lang.specs.Limits.{last_variable, last_target, value_limit, depth_limit}
-use Rattle.brc_lang.specs.Limits.{text_cells, last_index, last_path, last_peer, read_limit, turn_limit}
+use Rattle.brc_lang.specs.declared.fault.FaultCode.TheVariants.{OverLimit, Callee, StaticList}
+use Rattle.brc_lang.specs.Grammar.{is_name, depths, has_calls, cells_in, has_statics}
+use Rattle.brc_lang.specs.Limits.{last_variable, last_target, last_static, value_limit, depth_limit}
+use Rattle.brc_lang.specs.Limits.{last_index, last_path, last_peer, read_limit, turn_limit}
 use Rattle.brc_lang.specs.Modes.{reads, writes, creates, mode_of}
 
 -- ---- one line
@@ -97,6 +95,10 @@ abbrev pub ◌>>=◌ : {A B : Type 0} → Result A FaultCode → (A → Result B
 -- a number from low to high
 abbrev pub number_between : ℕ → ℕ → List ℕ → Result ℕ FaultCode
 number_between low high word = number_in high word >>= λ n. if nat_le low n then Ok n else Err Number
+
+abbrev pub numbers_in : List (List ℕ) → Result (List ℕ) FaultCode
+numbers_in [] = Ok []
+numbers_in (w ∷ ws) = number_in value_limit w >>= λ n. numbers_in ws >>= λ ns. Ok (n ∷ ns)
 
 -- ---- the words after the first
 
@@ -204,12 +206,12 @@ item_instruction_in w ws =
     else if bytes_eq w (codes "put") then (store_in ws >>= λ b. Ok (Put b.0 b.1 b.2 b.3))
     else host_instruction_in w ws
 
--- one that calls no function
-abbrev pub plain_instruction_in : List (List ℕ) → Result Instr FaultCode
-plain_instruction_in [] = Err UnknownWord
-plain_instruction_in (w ∷ ws) =
+-- one that calls no function and takes no static list
+abbrev pub plain_instruction_in : Version → List (List ℕ) → Result Instr FaultCode
+plain_instruction_in version [] = Err UnknownWord
+plain_instruction_in version (w ∷ ws) =
     if bytes_eq w (codes "num") then (birth_in 0 value_limit ws >>= λ b. Ok (Num b.0 b.1 b.2))
-    else if bytes_eq w (codes "list") then (birth_in 1 text_cells ws >>= λ b. Ok (ListObject b.0 b.1 b.2))
+    else if bytes_eq w (codes "list") then (birth_in 1 (cells_in version) ws >>= λ b. Ok (ListObject b.0 b.1 b.2))
     else if bytes_eq w (codes "none") then (one_variable_in ws >>= λ d. Ok (NoneObject d))
     else if bytes_eq w (codes "newref") then (two_variables_in ws >>= λ v. Ok (Newref v.0 v.1))
     else if bytes_eq w (codes "move") then (two_variables_in ws >>= λ v. Ok (Move v.0 v.1))
@@ -267,12 +269,20 @@ call_in above (to ∷ name ∷ a ∷ b ∷ c ∷ word ∷ l ∷ []) = call_of ab
 call_in above (to ∷ name ∷ a ∷ b ∷ c ∷ d ∷ word ∷ l ∷ []) = call_of above to name (a ∷ b ∷ c ∷ d ∷ []) word l
 call_in above _ = Err UnknownWord
 
-abbrev pub has_calls : Version → Bool
-has_calls versions.One = false
-has_calls versions.Two = true
+-- ---- static lists
 
--- the instruction of a line below these functions
-abbrev pub instruction_in : Version → List Function → List (List ℕ) → Result Instr FaultCode
-instruction_in version above [] = Err UnknownWord
-instruction_in version above (w ∷ ws) =
-    if bytes_eq w (codes "call") && has_calls version then call_in above ws else plain_instruction_in (w ∷ ws)
+-- a variable, and the number of a static line, which is looked for last
+abbrev pub take_in : List (List ℕ) → List (List ℕ) → Result Instr FaultCode
+take_in statics (to ∷ list ∷ []) =
+    variable_in to >>= λ d. number_in last_static list >>= λ s.
+    if nat_lt s (length statics) then Ok (Take d s) else Err StaticList
+take_in statics _ = Err UnknownWord
+
+-- ---- the instruction of a line below these static lines and functions
+
+abbrev pub instruction_in : Version → List (List ℕ) → List Function → List (List ℕ) → Result Instr FaultCode
+instruction_in version statics above [] = Err UnknownWord
+instruction_in version statics above (w ∷ ws) =
+    if bytes_eq w (codes "call") && has_calls version then call_in above ws
+    else if bytes_eq w (codes "take") && has_statics version then take_in statics ws
+    else plain_instruction_in version (w ∷ ws)

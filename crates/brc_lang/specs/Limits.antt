@@ -34,9 +34,24 @@ last_target = 255
 abbrev pub value_limit : ℕ
 value_limit = 2 ^ 32 - 1
 
--- the most cells of a list in a text
+-- the most cells of a list in a text of version 1 or 2
 abbrev pub text_cells : ℕ
 text_cells = 8
+
+-- the most cells of any list
+abbrev pub cell_limit : ℕ
+cell_limit = 64
+
+-- static lines have numbers from 0
+abbrev pub static_limit : ℕ
+static_limit = 16
+
+abbrev pub last_static : ℕ
+last_static = 15
+
+-- the most numbers of a static line
+abbrev pub static_number_limit : ℕ
+static_number_limit = 64
 
 -- the index of an item, from 0; a list may have fewer cells
 abbrev pub index_count : ℕ

@@ -6,6 +6,8 @@ use crate::version::Version;
 #[derive(Debug, Drop)]
 pub(crate) struct Above {
     pub version: Version,
+    /// The numbers of each static line.
+    pub statics: Sequence<Sequence<u32>>,
     /// The functions whose `end` stands above.
     pub functions: Sequence<Function>,
     /// How many calls each of them may have open, with its own, 1 to 8, by its number.

@@ -5,7 +5,7 @@ use std::alloc::AllocError;
 use std::fmt;
 use thiserror::Error;
 
-/// What is wrong with a line of a text, by the codes L1 to L9.
+/// What is wrong with a line of a text, by the codes L1 to L10.
 #[derive(Clone, Copy, Debug, PartialEq, Eq)]
 pub enum FaultCode {
     /// L1: the first line is missing, has no line feed, or is another.
@@ -18,7 +18,7 @@ pub enum FaultCode {
     Target,
     /// L5: the name of an earlier function.
     NameTwice,
-    /// L6: too many functions, instructions or calls open at once, or a function without instructions.
+    /// L6: too many static lines, functions, instructions or calls open at once, or a function without instructions.
     OverLimit,
     /// L7: the text ends too early, or its last line has no line feed.
     CutOff,
@@ -26,6 +26,8 @@ pub enum FaultCode {
     NoMemory,
     /// L9: a call of a function that isn't above, or with an argument too many or too few.
     Callee,
+    /// L10: a `take` of a static list that the module doesn't have.
+    StaticList,
 }
 
 impl fmt::Display for FaultCode {
@@ -40,6 +42,7 @@ impl fmt::Display for FaultCode {
             FaultCode::CutOff => "L7",
             FaultCode::NoMemory => "L8",
             FaultCode::Callee => "L9",
+            FaultCode::StaticList => "L10",
         };
         write!(f, "{code}")
     }

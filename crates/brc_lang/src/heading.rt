@@ -26,6 +26,8 @@ const FIRST_LINE_OF_ONE: &[u8] = b"module 1\n";
 
 const FIRST_LINE_OF_TWO: &[u8] = b"module 2\n";
 
+const FIRST_LINE_OF_THREE: &[u8] = b"module 3\n";
+
 const MOST_FUNCTIONS: usize = 64;
 
 const MOST_PARAMETERS: usize = 4;
@@ -38,6 +40,8 @@ pub(crate) fn version(bytes: &[u8]) -> Option<Version>
         Some(Version::One)
     } else if bytes.starts_with(FIRST_LINE_OF_TWO) {
         Some(Version::Two)
+    } else if bytes.starts_with(FIRST_LINE_OF_THREE) {
+        Some(Version::Three)
     } else {
         None
     }
@@ -97,7 +101,7 @@ fn most_parameters(version: Version) -> usize
 {
     match version {
         Version::One => 0,
-        Version::Two => MOST_PARAMETERS,
+        Version::Two | Version::Three => MOST_PARAMETERS,
     }
 }
 

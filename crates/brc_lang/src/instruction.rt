@@ -1,11 +1,12 @@
 //! The instruction of a line.
 
-ghost use Rattle.std.specs.Prelude.{◌≡◌, ◌≤◌, List, ◌∷◌, [], length};
+ghost use Rattle.std.specs.Prelude.{◌≡◌, ◌≤◌, ℕ, List, ◌∷◌, [], length};
 ghost use Rattle.brc_lang.specs.declared.module.Function.{Function};
 ghost use Rattle.brc_lang.specs.declared.version.Version.{Version};
 ghost use Rattle.brc_lang.specs.InstructionWords.{words, instruction_in, plain_instruction_in, item_instruction_in};
-ghost use Rattle.brc_lang.specs.InstructionWords.{host_instruction_in, path_instruction_in, has_calls};
-ghost use Rattle.brc_lang.specs.Limits.{function_limit};
+ghost use Rattle.brc_lang.specs.InstructionWords.{host_instruction_in, path_instruction_in};
+ghost use Rattle.brc_lang.specs.Grammar.{has_calls, cells_in};
+ghost use Rattle.brc_lang.specs.Limits.{function_limit, cell_limit};
 ghost use Rattle.brc_lang.specs.Progress.{KnowsDepths};
 
 use crate::above::Above;
@@ -17,10 +18,14 @@ use crate::operands::{
     asked_kind, birth, loop_bounds, one_target, one_variable, opening, pair, store, taking,
     two_variables,
 };
+use crate::static_lines::{has_statics, take};
 use crate::version::Version;
 
+/// The most cells of a list in versions 1 and 2.
+const FEW_CELLS: u32 = 8;
+
 /// The most cells of a list.
-const MOST_CELLS: u32 = 8;
+const MOST_CELLS: u32 = 64;
 
 /// The greatest index of an item.
 const LAST_INDEX: u32 = 255;
@@ -33,11 +38,11 @@ const MOST_BYTES: u32 = 4096;
 /// Reads the instruction of a line.
 ///
 /// Returns the line's first fault: the first word, the number of words and `else` come first (`UnknownWord`), then the
-/// operands from left to right, and at last whether a call is of a function above.
+/// operands from left to right, and at last whether a call is of a function above, and a `take` of a static list.
 pub(crate) fn instruction(above: &Above, line: &[u8]) -> Result<Instr, FaultCode>
     requires known { KnowsDepths above.now }
     requires few { length above.now.functions ≤ function_limit }
-    ensures { result ≡ instruction_in above.now.version above.now.functions (words line.now) }
+    ensures { result ≡ instruction_in above.now.version above.now.statics above.now.functions (words line.now) }
 {
     let (word, operands) = split_word(line);
     match operands {
@@ -50,12 +55,15 @@ pub(crate) fn instruction(above: &Above, line: &[u8]) -> Result<Instr, FaultCode
 fn instruction_with(above: &Above, word: &[u8], operands: &[u8]) -> Result<Instr, FaultCode>
     requires known { KnowsDepths above.now }
     requires few { length above.now.functions ≤ function_limit }
-    ensures { result ≡ instruction_in above.now.version above.now.functions (word.now ∷ words operands.now) }
+    ensures { result ≡ instruction_in above.now.version above.now.statics above.now.functions
+        (word.now ∷ words operands.now) }
 {
     if is_word(word, b"call") && has_calls(above.version) {
         call(above, operands)
+    } else if is_word(word, b"take") && has_statics(above.version) {
+        take(above, operands)
     } else {
-        plain_instruction(word, operands)
+        plain_instruction(above.version, word, operands)
     }
 }
 
@@ -64,13 +72,25 @@ fn has_calls(version: Version) -> bool
 {
     match version {
         Version::One => false,
-        Version::Two => true,
+        Version::Two | Version::Three => true,
+    }
+}
+
+/// Returns the most cells of a list.
+fn cells_in(version: Version) -> u32
+    ensures value { result ≡ cells_in version }
+    ensures low { result ≤ cell_limit }
+{
+    match version {
+        Version::One | Version::Two => FEW_CELLS,
+        Version::Three => MOST_CELLS,
     }
 }
 
 /// Reads an instruction without operands.
 fn lone_word(word: &[u8]) -> Result<Instr, FaultCode>
-    ensures { (version : Version) (above : List Function) → result ≡ instruction_in version above (word.now ∷ []) }
+    ensures { (version : Version) (statics : List (List ℕ)) (above : List Function)
+        → result ≡ instruction_in version statics above (word.now ∷ []) }
 {
     if is_word(word, b"fail") {
         Ok(Instr::Fail)
@@ -79,9 +99,9 @@ fn lone_word(word: &[u8]) -> Result<Instr, FaultCode>
     }
 }
 
-/// Reads an instruction that calls no function.
-fn plain_instruction(word: &[u8], operands: &[u8]) -> Result<Instr, FaultCode>
-    ensures { result ≡ plain_instruction_in (word.now ∷ words operands.now) }
+/// Reads an instruction that calls no function and takes no static list.
+fn plain_instruction(version: Version, word: &[u8], operands: &[u8]) -> Result<Instr, FaultCode>
+    ensures { result ≡ plain_instruction_in version (word.now ∷ words operands.now) }
 {
     if is_word(word, b"num") {
         let (to, value, otherwise) = birth(0, u32::MAX, operands)?;
@@ -91,7 +111,7 @@ fn plain_instruction(word: &[u8], operands: &[u8]) -> Result<Instr, FaultCode>
             otherwise,
         })
     } else if is_word(word, b"list") {
-        let (to, cells, otherwise) = birth(1, MOST_CELLS, operands)?;
+        let (to, cells, otherwise) = birth(1, cells_in(version), operands)?;
         Ok(Instr::List {
             to,
             cells: cells as u8,

@@ -6,7 +6,7 @@ ghost use Rattle.std.specs.Io.KnownBytes.{Appends};
 ghost use Rattle.brc_lang.specs.Written.{AppendsBeginning};
 ghost use Rattle.brc_lang.specs.Grammar.{spaced, variable as variable_text, target as target_text};
 ghost use Rattle.brc_lang.specs.Grammar.{instruction as instruction_text, argument_words, name_of};
-ghost use Rattle.brc_lang.specs.declared.module.Instr.TheVariants.{Num, Open, As, Again};
+ghost use Rattle.brc_lang.specs.declared.module.Instr.TheVariants.{Take, Open, As, Again};
 
 use crate::kind::Kind;
 use crate::mode::Mode;
@@ -41,6 +41,7 @@ pub fn write_instruction<W: Write>(
             otherwise,
         } => write_birth(b"list ", to, u32::from(cells), otherwise, writer),
         Instr::NoneObject { to } => write_operand(b"none ", to, writer),
+        Instr::Take { to, list } => write_take(to, list, writer),
         Instr::Newref { to, from } => write_operands(b"newref ", to, from, writer),
         Instr::Move { to, from } => write_operands(b"move ", to, from, writer),
         Instr::Drop { from } => write_operand(b"drop ", from, writer),
@@ -264,6 +265,16 @@ fn write_as<W: Write>(from: Variable, kind: Kind, otherwise: u8, writer: &mut W)
     write_numeral(b" else @", u64::from(otherwise), writer)
 }
 
+fn write_take<W: Write>(to: Variable, list: u8, writer: &mut W) -> io::Result<()>
+    ensures whole { OnOk result (Appends (W.contents writer.old) (W.contents writer.new)
+        (instruction_text [] (Take to list))) }
+    ensures begun { OnErr result (AppendsBeginning (W.contents writer.old) (W.contents writer.new)
+        (instruction_text [] (Take to list))) }
+{
+    write_operand(b"take ", to, writer)?;
+    write_numeral(b" ", u64::from(list), writer)
+}
+
 fn write_again<W: Write>(target: u8, times: u16, writer: &mut W) -> io::Result<()>
     ensures whole { OnOk result (Appends (W.contents writer.old) (W.contents writer.new)
         (instruction_text [] (Again target times))) }
@@ -312,7 +323,7 @@ fn write_operand<W: Write>(before: &[u8], variable: Variable, writer: &mut W) ->
 }
 
 /// Writes the bytes and then the digits of the number.
-fn write_numeral<W: Write>(before: &[u8], number: u64, writer: &mut W) -> io::Result<()>
+pub(crate) fn write_numeral<W: Write>(before: &[u8], number: u64, writer: &mut W) -> io::Result<()>
     ensures whole { OnOk result (Appends (W.contents writer.old) (W.contents writer.new)
         (before.now ++ decimal number)) }
     ensures begun { OnErr result (AppendsBeginning (W.contents writer.old) (W.contents writer.new)

@@ -4,7 +4,7 @@ ghost use Rattle.brc_lang.specs.Grammar.{kind_name};
 /// The kind of an object: `none`, `num`, `list`, `file` or `sock` in the language.
 #[derive(Clone, Copy, Debug, PartialEq, Eq)]
 pub enum Kind {
-    /// The object none, the only immortal one (`Py_None`).
+    /// The object none, which is immortal (`Py_None`).
     None,
     Num,
     List,

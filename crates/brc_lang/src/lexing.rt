@@ -1,7 +1,7 @@
 //! Lines, words, and the values of single words.
 
 ghost use Rattle.std.specs.Prelude.{◌≡◌, ◌≢◌, ◌∷◌, [], length, ◌&&◌, ◌==◌, false, nat_le, position, MatchOption, Ok};
-ghost use Rattle.std.specs.Prelude.{Err, if◌then◌else◌};
+ghost use Rattle.std.specs.Prelude.{Err, if◌then◌else◌, ◌+◌, ◌≤◌, count_by};
 ghost use Rattle.std.specs.List.{list_any, list_all};
 ghost use Rattle.std.specs.Char.{is_ascii_digit};
 ghost use Rattle.std.specs.Str.Parse.{digits_value};
@@ -11,7 +11,7 @@ ghost use Rattle.brc_lang.specs.Grammar.{is_name, is_name_byte};
 ghost use Rattle.brc_lang.specs.InstructionWords.{words, number_in, number_between, variable_in, target_in, kind_in};
 ghost use Rattle.brc_lang.specs.Fault.{is_line_feed};
 ghost use Rattle.brc_lang.specs.InstructionWords.{mode_in};
-ghost use Rattle.brc_lang.specs.Limits.{last_index, last_path, turn_limit};
+ghost use Rattle.brc_lang.specs.Limits.{last_index, last_path, last_static, turn_limit};
 ghost use Rattle.brc_lang.specs.Progress.{IsFirstLineOf};
 
 use crate::fault::FaultCode;
@@ -27,6 +27,8 @@ const LAST_TARGET: u32 = 255;
 const LAST_INDEX: u32 = 255;
 
 const LAST_PATH: u32 = 15;
+
+const LAST_STATIC: u32 = 15;
 
 const MOST_TURNS: u32 = 65535;
 
@@ -157,6 +159,19 @@ pub(crate) fn eight_words(line: &[u8]) -> Option<EightWords<'_>>
     Some((first, second, third, fourth, fifth, sixth, seventh, eighth))
 }
 
+/// Returns how many words the line has: one more than spaces.
+pub(crate) fn word_count(line: &[u8]) -> usize
+    ensures { result ≡ length (words line.now) }
+{
+    count_of(b' ', line) + 1
+}
+
+fn count_of(wanted: u8, text: &[u8]) -> usize
+    ensures { result ≡ count_by (λ byte. byte == wanted) text.now }
+{
+    text.iter().filter(|byte| **byte == wanted).count()
+}
+
 fn position_of(wanted: u8, text: &[u8]) -> Option<usize>
     ensures { result ≡ position (λ byte. byte == wanted) text.now }
 {
@@ -267,6 +282,13 @@ pub(crate) fn path(word: &[u8]) -> Result<u8, FaultCode>
     ensures { result ≡ number_in last_path word.now }
 {
     Ok(number(LAST_PATH, word)? as u8)
+}
+
+/// Reads the number of a static line: a number below 16. Returns `Number` for another word.
+pub(crate) fn static_number(word: &[u8]) -> Result<u8, FaultCode>
+    ensures { result ≡ number_in last_static word.now }
+{
+    Ok(number(LAST_STATIC, word)? as u8)
 }
 
 /// Reads how often `again` goes back: a number from 1 to 65535. Returns `Number` for another word.

@@ -21,6 +21,7 @@ mod output;
 mod parameter;
 mod reading;
 mod sequence;
+mod static_lines;
 mod targets;
 mod variable;
 mod version;

@@ -10,10 +10,12 @@ use crate::sequence::Sequence;
 use crate::variable::Variable;
 use crate::version::Version;
 
-/// A module: its version, and 1 to 64 functions with names of their own, in the order of the text.
+/// A module: its version, 0 to 16 static lists, and 1 to 64 functions with names of their own, in text order.
 #[derive(Debug, Drop)]
 pub struct Module {
     pub version: Version,
+    /// The 1 to 64 numbers that each static list has at first, from list 0 on. In versions 1 and 2 there are none.
+    pub statics: Sequence<Sequence<u32>>,
     pub functions: Sequence<Function>,
 }
 
@@ -38,8 +40,8 @@ pub enum Instr {
         value: u32,
         otherwise: u8,
     },
-    /// `list vD N else @L`: makes a list of N empty cells, 1 to 8, and owns it in vD; goes on at L if the worker has no
-    /// row left (`PyList_New`).
+    /// `list vD N else @L`: makes a list of N empty cells, 1 to 8 or, in version 3, 1 to 64, and owns it in vD; goes on
+    /// at L if the worker has no row left (`PyList_New`).
     List {
         to: Variable,
         cells: u8,
@@ -48,6 +50,11 @@ pub enum Instr {
     /// `none vD`: owns a reference to none in vD.
     NoneObject {
         to: Variable,
+    },
+    /// `take vD S`: owns a reference to static list S, 0 to 15, in vD. Before version 3 there is none.
+    Take {
+        to: Variable,
+        list: u8,
     },
     /// `newref vD vS`: owns a new strong reference in vD to the object that vS names (`Py_NewRef`).
     Newref {

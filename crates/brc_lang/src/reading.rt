@@ -9,7 +9,7 @@ ghost use Rattle.brc_lang.specs.InstructionWords.{words, instruction_in};
 ghost use Rattle.brc_lang.specs.Fault.{end_fault_of};
 ghost use Rattle.brc_lang.specs.Fault.{next_instruction_fault_of, HasFault, IsFaultOf, ReadsAs, Refuses, IsBeginning};
 ghost use Rattle.brc_lang.specs.Progress.{IsLineFault, Appends, Ends, IsFaultInside, ReadsFunction, KnowsDepths};
-ghost use Rattle.brc_lang.specs.Progress.{IsFaultBelow, closed};
+ghost use Rattle.brc_lang.specs.Progress.{ReadsPart, IsFaultBelow, read_so_far};
 ghost use Rattle.brc_lang.specs.Limits.{function_limit, depth_limit};
 
 use crate::above::Above;
@@ -19,7 +19,10 @@ use crate::heading::{heading, version};
 use crate::instruction::instruction;
 use crate::lexing::{is_word, split_line};
 use crate::module::{Function, Instr, Module};
+use crate::name::Name;
+use crate::parameter::Parameter;
 use crate::sequence::Sequence;
+use crate::static_lines::{is_static, read_static};
 use crate::targets::targets_fit;
 use std::alloc::Global;
 
@@ -54,6 +57,7 @@ fn read_module(alloc: Global, bytes: &[u8]) -> Result<Module, ReadFault>
     };
     let mut above = Above {
         version,
+        statics: Sequence::new(alloc),
         functions: Sequence::new(alloc),
         depths: [0; 64],
     };
@@ -62,7 +66,7 @@ fn read_module(alloc: Global, bytes: &[u8]) -> Result<Module, ReadFault>
         line: 2,
     };
     while !cursor.rest.is_empty() {
-        cursor = read_function(alloc, &mut above, cursor)?;
+        cursor = read_part(alloc, &mut above, cursor)?;
     }
     if above.functions.len() == 0 {
         return Err(ReadFault {
@@ -72,25 +76,25 @@ fn read_module(alloc: Global, bytes: &[u8]) -> Result<Module, ReadFault>
     }
     Ok(Module {
         version,
+        statics: above.statics,
         functions: above.functions,
     })
 }
 
-/// Reads the next function, appends it, and returns the position below it.
-fn read_function<'a>(
+/// Reads the next static line or function, appends it, and returns the position below it.
+fn read_part<'a>(
     alloc: Global,
     above: &mut Above,
     cursor: Cursor<'a>,
 ) -> Result<Cursor<'a>, ReadFault>
     requires some { 0 < length cursor.rest.now }
-    requires fits { IsBeginning (closed above.old.version above.old.functions) }
+    requires fits { IsBeginning (read_so_far above.old) }
     requires known { KnowsDepths above.old }
     requires lines { cursor.line + length cursor.rest.now < 2 ^ 64 }
-    ensures ok { IfOk result (λ after.
-        ReadsFunction above.old.version above.old.functions above.new.functions cursor.entry after) }
+    ensures ok { IfOk result (λ after. ReadsPart above.old above.new cursor.entry after) }
     ensures known { IfOk result (λ _. KnowsDepths above.new) }
-    ensures version { above.new.version ≡ above.old.version }
-    ensures err { IfErr result (λ e. IsFaultBelow above.old.version above.old.functions cursor.entry e) }
+    ensures err { IfErr result (λ e.
+        IsFaultBelow above.old.version above.old.statics above.old.functions cursor.entry e) }
 {
     let line = cursor.line;
     let Some((text, rest)) = split_line(cursor.rest) else {
@@ -99,15 +103,40 @@ fn read_function<'a>(
             code: FaultCode::CutOff,
         });
     };
-    let (name, parameters) = match heading(alloc, above, text) {
-        Ok(opening) => opening,
-        Err(code) => return Err(ReadFault { line, code }),
-    };
     let below = Cursor {
         rest,
         line: line + 1,
     };
-    let (code, after) = read_body(alloc, above, below)?;
+    if is_static(above, text) {
+        return match read_static(alloc, &mut above.statics, text) {
+            Ok(()) => Ok(below),
+            Err(code) => Err(ReadFault { line, code }),
+        };
+    }
+    match heading(alloc, above, text) {
+        Ok((name, parameters)) => read_function(alloc, above, name, parameters, below),
+        Err(code) => Err(ReadFault { line, code }),
+    }
+}
+
+/// Reads a function of this name and these parameters below its first line, appends it, and returns the position below
+/// its last line.
+fn read_function<'a>(
+    alloc: Global,
+    above: &mut Above,
+    name: Name,
+    parameters: Sequence<Parameter>,
+    start: Cursor<'a>,
+) -> Result<Cursor<'a>, ReadFault>
+    requires known { KnowsDepths above.old }
+    requires room { length above.old.functions < function_limit }
+    requires lines { start.line + length start.rest.now < 2 ^ 64 }
+    ensures ok { IfOk result (λ after. ReadsFunction above.old above.new name parameters start.entry after) }
+    ensures known { IfOk result (λ _. KnowsDepths above.new) }
+    ensures err { IfErr result (λ e.
+        IsFaultInside above.old.version above.old.statics above.old.functions start.entry e) }
+{
+    let (code, after) = read_body(alloc, above, start)?;
     let number = above.functions.len();
     let depth = depth(above, code.as_slice());
     let function = Function {
@@ -165,8 +194,9 @@ fn read_body<'a>(
     requires few { length above.now.functions ≤ function_limit }
     requires lines { start.line + length start.rest.now < 2 ^ 64 }
     ensures ok { IfOk result (λ read.
-        Ends above.now.version above.now.functions start.entry read.0 read.1) }
-    ensures err { IfErr result (λ e. IsFaultInside above.now.version above.now.functions start.entry e) }
+        Ends above.now.version above.now.statics above.now.functions start.entry read.0 read.1) }
+    ensures err { IfErr result (λ e.
+        IsFaultInside above.now.version above.now.statics above.now.functions start.entry e) }
 {
     let mut code = Sequence::new(alloc);
     let mut cursor = start;
@@ -210,9 +240,10 @@ fn end_fault(code: &[Instr]) -> Option<FaultCode>
 fn read_instruction(above: &Above, code: &mut Sequence<Instr>, text: &[u8]) -> Result<(), FaultCode>
     requires known { KnowsDepths above.now }
     requires few { length above.now.functions ≤ function_limit }
-    ensures ok { OnOk result (Appends above.now.version above.now.functions code.old code.new text.now) }
+    ensures ok { OnOk result (Appends above.now.version above.now.statics above.now.functions code.old code.new
+        text.now) }
     ensures err { IfErr result (λ fault. IsLineFault (next_instruction_fault_of code.old
-        (instruction_in above.now.version above.now.functions (words text.now))) fault) }
+        (instruction_in above.now.version above.now.statics above.now.functions (words text.now))) fault) }
 {
     let instr = instruction(above, text)?;
     if code.len() >= MOST_INSTRUCTIONS {

@@ -7,4 +7,6 @@ pub enum Version {
     One,
     /// `module 2`: functions have parameters, and call functions above them.
     Two,
+    /// `module 3`: lists have up to 64 cells, and a module may have static lists.
+    Three,
 }

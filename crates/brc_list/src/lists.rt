@@ -3,7 +3,6 @@
 ghost use Rattle.std.specs.Prelude.{◌≡◌, ◌<◌, ◌==◌, if◌then◌else◌, ℕ, true, None, Some, ◌∷◌, length};
 ghost use Rattle.brc_word.specs.Words.{free_word};
 ghost use Rattle.brc_model.specs.Duties.{cells_of, resources_of};
-ghost use Rattle.brc_model.specs.Layout.{IsCounted};
 ghost use Rattle.brc_table.specs.Views.{view_after, asking, locking, unlocking};
 ghost use Rattle.brc_table.specs.Plays.{overwritten};
 ghost use Rattle.brc_table.specs.KnownWords.{knows_kind, KnowsCell};
@@ -45,7 +44,6 @@ impl<'h, T: Drop> Lists<'h, T> {
     pub fn try_lock(&self, hand: &mut Hand<T>, row: u32) -> bool
         requires table { IsOf self.now hand.old }
         requires running { IsRunning hand.old.view }
-        requires counted { IsCounted hand.old.view.layout row }
         requires held { HoldsOne hand.old.view row }
         requires idle { HasNoWork hand.old.view row }
         requires unlocked { hand.old.view.actor.locked ≡ None }
@@ -130,6 +128,7 @@ impl<'h, T: Drop> Lists<'h, T> {
     {
         let words = self.heap.words();
         words.layout_is_plain();
+        words.lines_are_there();
         let word = words.cell_load(hand, row, cell);
         if word == 0 {
             None
@@ -165,6 +164,7 @@ impl<'h, T: Drop> Lists<'h, T> {
     {
         let words = self.heap.words();
         words.layout_is_plain();
+        words.lines_are_there();
         let new = match item {
             None => 0,
             Some(other) => other as u64 + 1,

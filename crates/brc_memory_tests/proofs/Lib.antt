@@ -1,1 +1,2 @@
 mod Callable
+pub mod Opening

@@ -63,6 +63,9 @@ fn objects(end: &Final<FakeResource>) -> (u32, u32) {
     let mut created: u32 = 0;
     let mut closed: u32 = 0;
     for row in ROOT..end.rows() {
+        if end.is_immortal(row) {
+            continue;
+        }
         if end.born(row) {
             created = created.saturating_add(1);
         }
@@ -86,6 +89,7 @@ fn ended(heap: Heap<FakeResource>, main: Hand<FakeResource>) -> Option<(u32, u32
 }
 
 /// Lets workers run over the hosts, one for each, and main leave after them.
+#[tactic(auto, using(crate::proofs::Opening::lists_have_rows, crate::proofs::Opening::is_heap_of))]
 fn outcome_of<R: Threads + Wait + Sync>(
     rt: &R,
     alloc: Global,
@@ -96,7 +100,7 @@ fn outcome_of<R: Threads + Wait + Sync>(
     requires function { 0 < length checked.now.module.functions }
     requires parameters { (function_at checked.now.module.functions 0).parameters ≡ [] }
 {
-    let Ok((heap, mut main)) = Heap::new(alloc, THREADS, ROWS) else {
+    let Ok((heap, mut main)) = Heap::new(alloc, THREADS, ROWS, checked.module()) else {
         return Outcome::Opening;
     };
     let ran = fan_out(

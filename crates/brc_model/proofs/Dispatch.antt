@@ -9,8 +9,9 @@
 -- `KindsActions` (instruction by instruction, variables have the kinds that the checker says), `Items`, `ItemsUsed`,
 -- `ItemsCalls`, `ItemsLeft` and `ItemsActions` (instruction by instruction, what is borrowed is in the locked list),
 -- `TakingUp` (what a thread takes up), `OneMoreOrLess` (what it holds, with one reference more or less), `Handing` and
--- `Apart` (a call hands on the references that it steals, and keeps what it lends), `Lockable` and `Standing` (what a
--- thread knows at an instruction), `TakingSilent`, `TakingCalls` and `TakingEnds` (a call, and the end of one),
+-- `Apart` (a call hands on the references that it steals, and keeps what it lends), `Lockable`, `Allowed` and
+-- `Standing` (what a thread knows at an instruction), `TakingSilent`, `TakingCalls` and `TakingEnds` (a call, and the
+-- end of one),
 -- `TakingBirths`, `TakingLocks`, `TakingKinds`, `TakingItems`, `TakingInside`, `TakingHost`, `TakingStores`,
 -- `TakingStops` and `Taking` (instruction by instruction, and after a stop), `TakenUp` and `TakenSits`, `Counting`
 -- (the counting machine below), `ActionsFit` and `Actions`, which has the theorem, and `Fit` (an instruction has what
@@ -44,6 +45,7 @@ pub mod OneMoreOrLess
 pub mod Handing
 pub mod Apart
 pub mod Lockable
+pub mod Allowed
 pub mod Standing
 pub mod TakingSilent
 pub mod TakingCalls

@@ -6,7 +6,8 @@
 -- every list of events, as `HandedMerges` does its own; `KnownKinds` and `BorrowedItems`, what the checker says of
 -- kinds and of borrowed items; then the laws of the world: `Worlds`, `AgendaMoves`, `Emptying`, `Emptied`, `Leading`,
 -- `Turns`, `Elsewhere`, `StepsMove`, `LocksWait`, `Trace`, `CallLimits`, `CallsLeft`, `Bounded`, `Faults`, `HostCalls`.
--- `Rules` proves that the named rules are the steps. `Worked` and `WorkedCalls` compute some schedules.
+-- `Rules` proves that the named rules are the steps. `Worked`, `WorkedCalls` and `WorkedStatics` compute some
+-- schedules.
 
 pub mod Agreeing
 pub mod AtTheEnd
@@ -48,4 +49,5 @@ pub mod HostCalls
 pub mod Rules
 pub mod Worked
 pub mod WorkedCalls
+pub mod WorkedStatics
 pub mod Ending

@@ -3,7 +3,7 @@ use Rattle.std.specs.Prelude.{ℕ, zero, suc, ◌+◌, ◌*◌, ◌==◌, nat_lt
 use Rattle.std.specs.List.{list_all}
 use Rattle.brc_word.specs.declared.values.TheConstants.{NUM, LIST, FILE, SOCK}
 use Rattle.brc_lang.specs.declared.module.Instr.{Instr}
-use Rattle.brc_lang.specs.declared.module.Instr.TheVariants.{Num, List as ListObject, NoneObject, Newref, Move as MoveReference, Drop, Lock, Unlock, Borrow, Fetch, Set, Put, Goto, Again, Ret, Fail, As, Open, Connect, Read, Write, Call}
+use Rattle.brc_lang.specs.declared.module.Instr.TheVariants.{Num, List as ListObject, NoneObject, Take, Newref, Move as MoveReference, Drop, Lock, Unlock, Borrow, Fetch, Set, Put, Goto, Again, Ret, Fail, As, Open, Connect, Read, Write, Call}
 use Rattle.brc_lang.specs.declared.parameter.Argument.{Argument}
 use Rattle.brc_word.specs.Words.{half, free_word}
 use Rattle.brc_model.specs.declared.state.Exit.TheVariants.{Success, Fault as FaultExit}
@@ -23,7 +23,7 @@ use Rattle.brc_model.specs.Duties.{cells_of}
 use Rattle.brc_model.specs.AbstractState.{Move}
 use Rattle.brc_model.specs.Moves.{pass_on, gain}
 use Rattle.brc_model.specs.declared.layout.Layout.{Layout}
-use Rattle.brc_model.specs.Layout.{none_row, root_row, row_at}
+use Rattle.brc_model.specs.Layout.{none_row, root_row, row_at, first_immortal_list}
 use Rattle.brc_model.specs.Machine.{has_room}
 pub use Rattle.brc_model.specs.Action.{StepActor, Action, Skip, Stuck, Silent, Calls, Does, always, by_exit, with_row}
 pub use Rattle.brc_model.specs.Stops.{
@@ -218,6 +218,9 @@ dispatch_instruction layout t used before context at variables (Some (ListObject
     birth_action layout t used context at variables to (list_word cells) otherwise
 dispatch_instruction layout t used before context at variables (Some (NoneObject to)) =
     Silent (gain t (by_variable context to) none_row) (InCall context (at + 1) (slice_set variables to (Some none_row)))
+dispatch_instruction layout t used before context at variables (Some (Take to list)) =
+    Silent (gain t (by_variable context to) (first_immortal_list layout + list))
+    (InCall context (at + 1) (slice_set variables to (Some (first_immortal_list layout + list))))
 dispatch_instruction layout t used before context at variables (Some (Newref to from)) =
     with_row (row_of variables from)
     (λ row. Does (RetainLoad row (by_variable context to)) []

@@ -7,14 +7,15 @@ use Rattle.brc_model.specs.declared.duty.Duty.{Duty}
 use Rattle.brc_model.specs.declared.actor.Status.TheVariants.{Running}
 use Rattle.brc_model.specs.declared.address.Address.TheVariants.{Cell}
 use Rattle.brc_model.specs.declared.layout.Layout.{Layout}
-use Rattle.brc_model.specs.Layout.{front_rows, root_row}
+use Rattle.brc_model.specs.Layout.{block_size, root_row}
 use Rattle.brc_model.specs.Limits.{root_cells, cell_limit, worker_limit, row_limit}
 use Rattle.brc_model.specs.AbstractState.{same_holding}
 use Rattle.brc_model.specs.References.{one_if}
 use Rattle.brc_model.specs.Accounts.{Account, Accounts}
 use Rattle.brc_model.specs.declared.actor.Actor.{Actor}
 use Rattle.brc_model.specs.Machine.{Machine, idle_actor}
-use Rattle.brc_model.specs.StepMachine.{rooted_memory, first_life, first_kinds, caller_reference}
+use Rattle.brc_model.specs.FirstRows.{first_life}
+use Rattle.brc_model.specs.StepMachine.{rooted_memory, first_abstract}
 use Rattle.brc_model.specs.OpenWork.{is_about, about_of}
 use Rattle.brc_model.specs.Invariant.{Invariant}
 use Rattle.brc_model.specs.Ranges.{Ranges}
@@ -88,7 +89,7 @@ IsAtHand account m a x = (1 ≤ account AsCaller x) ⊎ IsLockedItem m a x
 
 -- ---- the first machine
 
--- a layout of running threads: no immortal lists yet
+-- a layout of running threads
 pub record IsPlainLayout (layout : Layout) : Type 0 where
   pub some_workers : 0 < layout.workers
   pub few_workers : layout.workers ≤ worker_limit
@@ -96,21 +97,16 @@ pub record IsPlainLayout (layout : Layout) : Type 0 where
   pub few_rows : layout.rows ≤ row_limit
   pub some_cells : root_cells ≤ layout.cells
   pub few_cells : layout.cells ≤ cell_limit
-  pub immortals : layout.immortal_lists ≡ 0
 
--- Main holds the root, and no worker holds anything. All threads count as running, whether they are started or not.
-abbrev pub hands_machine : Layout → Machine
-hands_machine layout = record {
+-- Main holds the root, no worker holds anything, and each cell of an immortal list holds its number. All threads count
+-- as running, whether they are started or not.
+abbrev pub hands_machine : List (List ℕ) → Layout → Machine
+hands_machine lines layout = record {
   layout = layout;
-  memory = rooted_memory layout.workers 1;
-  actors = idle_actor front_rows ∷ replicate layout.workers (idle_actor 0);
-  abstract = record {
-    references = caller_reference 0 ∷ [];
-    born = root_row ∷ [];
-    closed = [];
-    kinds = first_kinds;
-  };
-  life = first_life;
+  memory = rooted_memory lines layout 1;
+  actors = idle_actor (block_size layout 0) ∷ replicate layout.workers (idle_actor 0);
+  abstract = first_abstract lines layout 1;
+  life = first_life layout;
 }
 
 abbrev pub hands_accounts : Accounts

@@ -24,6 +24,7 @@ use Rattle.brc_model.specs.Knowledge.{HasNoRetainAside, HasChained}
 use Rattle.brc_model.specs.Within.{IsThere, Suits, FindsOwner}
 use Rattle.brc_model.specs.Stores.{Overwrites}
 use Rattle.brc_model.specs.Agreement.{AgreesAt}
+use Rattle.brc_model.specs.FirstRows.{HasLines}
 use Rattle.brc_model.specs.Counting.{Counts, with_account, with_one_more, with_one_less, working, IsReady, HasNoneAbout, IsPlainLayout, hands_machine, hands_accounts, MayGiveUp, IsAtHand}
 
 -- ---- duties
@@ -134,7 +135,7 @@ KindsAreAsked = (p : Accounts) (n : ℕ) (m : Machine) (t : ℕ) (a : Actor) (x 
 -- A ready thread that has locked nothing begins to lock an object to which it holds a reference.
 abbrev pub LocksBegin : Type 0
 LocksBegin = (p : Accounts) (n : ℕ) (m : Machine) (t : ℕ) (a : Actor) (x : ℕ) → Counts p n m → IsReady m t a
-    → HasNoneAbout a x → IsCounted m.layout x → 1 ≤ p t AsCaller x → a.locked ≡ None
+    → HasNoneAbout a x → 1 ≤ p t AsCaller x → a.locked ≡ None
     → Counts p n (with_actor m t (working a (LockGate x ∷ []) a.aside))
 
 -- A ready thread that has put no retain aside and has lent nothing begins to unlock the object that it has locked.
@@ -194,8 +195,8 @@ ReferencesAreHandedOver =
 
 -- The first machine of hands has the invariant.
 abbrev pub HandsBegin : Type 0
-HandsBegin = (layout : Layout) → IsPlainLayout layout
-    → Counts hands_accounts (1 + layout.workers) (hands_machine layout)
+HandsBegin = (lines : List (List ℕ)) (layout : Layout) → IsPlainLayout layout → HasLines lines layout
+    → Counts hands_accounts (1 + layout.workers) (hands_machine lines layout)
 
 -- The counts of each counted object that was born add up.
 abbrev pub CountsAgree : Type 0

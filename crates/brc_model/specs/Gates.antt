@@ -4,13 +4,11 @@ use Rattle.brc_word.specs.Words.{free_word, locked_word, closed_word}
 use Rattle.brc_model.specs.declared.duty.Holding.{Holding}
 use Rattle.brc_model.specs.declared.address.Address.{Address}
 use Rattle.brc_model.specs.declared.address.Address.TheVariants.{Gate}
-use Rattle.brc_model.specs.declared.layout.Layout.{Layout}
 use Rattle.brc_model.specs.declared.actor.Actor.{Actor}
 use Rattle.brc_model.specs.Machine.{Life, Unborn, Live, Dying, Closed, Machine}
 use Rattle.brc_model.specs.References.{one_if}
 use Rattle.brc_model.specs.RowInvariant.{agenda_weight}
 use Rattle.brc_model.specs.Accounts.{Account, lacks}
-use Rattle.brc_model.specs.Layout.{IsCounted}
 
 -- ---- locks
 
@@ -20,16 +18,14 @@ making a k object = agenda_weight (λ d. one_if (lacks d k object)) a
 
 -- The thread holds a reference to the list, besides those that it is just making, and the list's gate names the thread.
 -- So the list lives for as long as it is locked.
-pub record HasLocked (account : Account) (layout : Layout) (memory : Address → ℕ) (t : ℕ) (a : Actor) (x : ℕ) : Type 0
-  where
-    pub counted : IsCounted layout x
-    pub by : Holding
-    pub held_so : making a by x < account by x
-    pub gate : memory (Gate x) ≡ locked_word t
+pub record HasLocked (account : Account) (memory : Address → ℕ) (t : ℕ) (a : Actor) (x : ℕ) : Type 0 where
+  pub by : Holding
+  pub held_so : making a by x < account by x
+  pub gate : memory (Gate x) ≡ locked_word t
 
 -- what holds of the list that the thread has locked, if it has locked one
 abbrev pub LocksFit : Account → Machine → ℕ → Actor → Type 0
-LocksFit account m t a = (x : ℕ) → a.locked ≡ Some x → HasLocked account m.layout m.memory t a x
+LocksFit account m t a = (x : ℕ) → a.locked ≡ Some x → HasLocked account m.memory t a x
 
 -- ---- gates
 

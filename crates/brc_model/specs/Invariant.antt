@@ -5,7 +5,8 @@ use Rattle.brc_word.specs.declared.values.TheConstants.{RUNNING, SET, UNSET, EMP
 use Rattle.brc_model.specs.declared.duty.Holding.{Holding}
 use Rattle.brc_model.specs.AbstractState.{is_among, references_to}
 use Rattle.brc_word.specs.Words.{immortal_local, local_word, kind_part}
-use Rattle.brc_model.specs.Kinds.{kind_number}
+use Rattle.brc_lang.specs.declared.kind.Kind.TheVariants as kinds
+use Rattle.brc_model.specs.Kinds.{kind_number, kind_of_word}
 use Rattle.brc_model.specs.declared.duty.Duty.{Duty}
 use Rattle.brc_model.specs.declared.duty.Duty.TheVariants.{Look, TakeMark, BirthSlot, BirthLocal}
 use Rattle.brc_model.specs.declared.address.Address.{Address}
@@ -20,7 +21,7 @@ use Rattle.brc_model.specs.Knowledge.{status_word, HeadOf, BehindOf}
 use Rattle.brc_model.specs.OpenWork.{exits, scans, AgendaFits, IsSettled, dies_by, ChainFits, AsideFits}
 use Rattle.brc_model.specs.Gates.{LocksFit, GateFits}
 use Rattle.brc_model.specs.Resources.{ResourcesFit, resources_at}
-use Rattle.brc_model.specs.Limits.{row_limit, immortal_limit, thread_limit, cell_limit}
+use Rattle.brc_model.specs.Limits.{row_limit, immortal_limit, number_limit, thread_limit, cell_limit}
 use Rattle.brc_model.specs.declared.layout.Layout.{Layout}
 use Rattle.brc_model.specs.Layout.{block_of, block_size, index_of, is_immortal_row, IsCounted}
 
@@ -83,6 +84,12 @@ CellFits Unborn word = word ≡ EMPTY
 CellFits Closed word = word ≡ EMPTY
 CellFits _ word = Unit {0}
 
+-- ---- immortal rows
+
+-- The kind word names the kind of immortal objects: none, or a list.
+abbrev pub IsImmortalKind : ℕ → Type 0
+IsImmortalKind word = (kind_of_word word ≡ kinds.None) ⊎ (kind_of_word word ≡ kinds.List)
+
 -- ---- births
 
 -- The rows of a thread's block that it has used are born, and the others aren't.
@@ -123,6 +130,7 @@ pub record CoreInvariant (p : Accounts) (n : ℕ) (m : Machine) : Type 0 where
   pub few_rows : m.layout.rows ≤ row_limit
   pub few_cells : m.layout.cells ≤ cell_limit
   pub few_immortals : m.layout.immortal_lists ≤ immortal_limit
+  pub few_numbers : m.layout.numbers ≤ number_limit
   -- each row's counts, state and life fit together
   pub rows : (x : ℕ) → IsCounted m.layout x → RowInvariant (block_of m.layout x) (m.life x) (numbers_of m x)
   -- a mark is set or not, and a mark that is set is watched
@@ -157,8 +165,9 @@ pub record CoreInvariant (p : Accounts) (n : ℕ) (m : Machine) : Type 0 where
   pub kinds : (x : ℕ) → m.life x ≢ Unborn → kind_part (m.memory (KindOf x)) ≡ kind_number (m.abstract.kinds x)
   -- it isn't 0
   pub kind_words : (x : ℕ) → m.life x ≢ Unborn → 0 < m.memory (KindOf x)
-  -- and their local word stays the immortal one
+  -- the local word of an immortal row stays the immortal one, and its kind is none or a list, which has no resource
   pub immortal_words : (x : ℕ) → is_immortal_row m.layout x ≡ true → m.memory (Local x) ≡ local_word 0 immortal_local
+  pub immortal_kinds : (x : ℕ) → is_immortal_row m.layout x ≡ true → IsImmortalKind (m.memory (KindOf x))
   -- the resource of each file or socket is in one place
   pub resources : (x : ℕ) → ResourcesFit (m.life x) (resources_at m x)
 

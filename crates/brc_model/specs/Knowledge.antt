@@ -160,11 +160,10 @@ HeadFits m t a (BirthLocal x h) rest =
     IsNext m t a x × (rest ≡ []) × HasCountedKind m.memory x
     × (m.memory (Slot x) ≡ resources_of (m.memory (KindOf x)))
 HeadFits m t a (KindLoad x) rest = MayRead m t a x
-HeadFits m t a (LockGate x) rest = (IsCounted m.layout x) × IsBacked m t a x × (a.locked ≡ None)
+HeadFits m t a (LockGate x) rest = IsBacked m t a x × (a.locked ≡ None)
 HeadFits m t a (UnlockGate x) rest =
-    (IsCounted m.layout x) × IsBacked m t a x × (a.locked ≡ Some x) × HasNoRetainAside a × (a.lent ≡ None)
-HeadFits m t a (CellLoad x i) rest =
-    (IsCounted m.layout x) × MayRead m t a x × GuardsCells m t a x × (i < cells_of (m.memory (KindOf x)))
+    IsBacked m t a x × (a.locked ≡ Some x) × HasNoRetainAside a × (a.lent ≡ None)
+HeadFits m t a (CellLoad x i) rest = MayRead m t a x × GuardsCells m t a x × (i < cells_of (m.memory (KindOf x)))
 HeadFits m t a (CellSwap x i y h) rest = (a.locked ≡ Some x) × (i < cells_of (m.memory (KindOf x)))
 HeadFits m t a (LendSlot x) rest =
     (IsCounted m.layout x) × (a.locked ≡ Some x) × (a.lent ≡ None) × (has_resource (m.memory (KindOf x)) ≡ true)

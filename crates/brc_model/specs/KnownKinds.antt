@@ -1,7 +1,7 @@
 -- What the checker says of kinds is true: the object that a variable names has the kind that the variable's state says,
 -- by the kind word that the object's birth stored. (Python/C API manual, Common Object Structures: an object keeps its
 -- type.)
-use Rattle.std.specs.Prelude.{◌≡◌, ◌≢◌, ◌⊎◌, ℕ, List, Option, Some, slice_get}
+use Rattle.std.specs.Prelude.{◌≡◌, ◌≢◌, ◌⊎◌, ℕ, ◌<◌, List, Option, Some, slice_get}
 use Rattle.brc_lang.specs.declared.kind.Kind.{Kind}
 use Rattle.brc_lang.specs.declared.kind.Kind.TheVariants as kinds
 use Rattle.brc_lang.specs.declared.module.Function.{Function}
@@ -16,7 +16,8 @@ use Rattle.brc_model.specs.Kinds.{kind_of_word}
 use Rattle.brc_model.specs.VarStates.{var_of, kind_of}
 use Rattle.brc_model.specs.Paths.{At, path_end}
 use Rattle.brc_model.specs.Threads.{function_in, row_of}
-use Rattle.brc_model.specs.Layout.{none_row, root_row}
+use Rattle.brc_model.specs.declared.layout.Layout.{Layout}
+use Rattle.brc_model.specs.FirstRows.{first_kind_word}
 use Rattle.brc_model.specs.Actions.{StepActor}
 use Rattle.brc_model.specs.StepMachine.{StepMachine, next_machine}
 
@@ -51,10 +52,10 @@ KindsAreKnown m =
     (t : ℕ) (a : StepActor) → slice_get m.actors t ≡ Some a
     → KnowsKinds (function_in m.functions a.function a.place) (kind_words m) a.place
 
--- none and the root have their kinds from the start
-pub record AreNamed (words : ℕ → ℕ) : Type 0 where
-  pub none : kind_of_word (words none_row) ≡ kinds.None
-  pub root : kind_of_word (words root_row) ≡ kinds.List
+-- each row that is there from the start has its first kind word
+abbrev pub AreNamed : List (List ℕ) → Layout → (ℕ → ℕ) → Type 0
+AreNamed lines layout words =
+    (x : ℕ) → 0 < first_kind_word lines layout x → words x ≡ first_kind_word lines layout x
 
 -- a kind word that a birth has stored stays
 abbrev pub KindsStay : StepMachine → ℕ × Choice → Type 0

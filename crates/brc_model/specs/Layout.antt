@@ -22,9 +22,9 @@ by_row of_none of_root otherwise (suc (suc x)) = otherwise
 abbrev pub front_rows : ℕ
 front_rows = 2
 
--- main's rows behind the workers'
+-- main's rows behind the workers': the immortal lists, and behind them the numbers in their cells
 abbrev pub rear_rows : Layout → ℕ
-rear_rows layout = layout.immortal_lists
+rear_rows layout = layout.immortal_lists + layout.numbers
 
 -- the number of rows of all workers
 abbrev pub worker_rows : Layout → ℕ
@@ -77,11 +77,14 @@ mark_bit layout x = index_of layout (block_of layout x) x % marks_of_word
 abbrev pub first_immortal_list : Layout → ℕ
 first_immortal_list layout = front_rows + worker_rows layout
 
+-- the first row of a number in a cell of an immortal list
+abbrev pub first_number : Layout → ℕ
+first_number layout = first_immortal_list layout + layout.immortal_lists
+
 -- Says whether the row is an immortal object's: none's, or an immortal list's.
 abbrev pub is_immortal_row : Layout → ℕ → Bool
 is_immortal_row layout x =
-    (x == none_row)
-    || (nat_le (first_immortal_list layout) x && nat_lt x (first_immortal_list layout + layout.immortal_lists))
+    (x == none_row) || (nat_le (first_immortal_list layout) x && nat_lt x (first_number layout))
 
 -- The row's object is counted: it isn't immortal.
 abbrev pub IsCounted : Layout → ℕ → Type 0

@@ -9,15 +9,16 @@ pub mod Threads
 pub mod Duties
 pub mod Moves
 pub mod Machine
+pub mod References
 pub mod Action
 pub mod Stops
 pub mod Actions
 pub mod Dispatch
+pub mod FirstRows
 pub mod StepMachine
 pub mod KnownKinds
 pub mod Items
 pub mod Rules
-pub mod References
 pub mod RowInvariant
 pub mod Accounts
 pub mod Knowledge

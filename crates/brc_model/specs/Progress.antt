@@ -70,18 +70,16 @@ ClosesAnew m event =
     ⊎ ((row : ℕ) × (is_among row m.abstract.closed ≡ false)
     × ((next_machine m event).abstract.closed ≡ m.abstract.closed ++ row ∷ []))
 
--- the row's words are the same in both machines
+-- the row's words are the same in both machines, but its gate and its cells, which change under its lock
 pub record StaysAt (m next : StepMachine) (x : ℕ) : Type 0 where
   pub local : next.memory (Local x) ≡ m.memory (Local x)
   pub shared : next.memory (Shared x) ≡ m.memory (Shared x)
-  pub gate : next.memory (Gate x) ≡ m.memory (Gate x)
   pub kind : next.memory (KindOf x) ≡ m.memory (KindOf x)
   pub mark : mark_of next.layout next.memory x ≡ mark_of m.layout m.memory x
-  pub cells : (i : ℕ) → next.memory (Cell x i) ≡ m.memory (Cell x i)
   pub slot : next.memory (Slot x) ≡ m.memory (Slot x)
   pub resource : next.memory (Resource x) ≡ m.memory (Resource x)
 
--- no event changes an immortal row's words
+-- no event changes an immortal row's words, but those that a lock guards
 abbrev pub ImmortalsStay : StepMachine → ℕ × Choice → Type 0
 ImmortalsStay m event = (x : ℕ) → is_immortal_word (m.memory (Local x)) ≡ true → StaysAt m (next_machine m event) x
 
@@ -101,7 +99,7 @@ CellsChangeUnderLock m event =
 abbrev pub BornOnce : StepMachine → Type 0
 BornOnce m = (x : ℕ) → count_by (λ y. y == x) m.abstract.born ≤ 1
 
--- the list of the born objects has exactly the born rows, without none's
+-- the list of the born objects has exactly the born rows that aren't immortal
 abbrev pub BornListed : StepMachine → Type 0
 BornListed m = (x : ℕ) → (is_among x m.abstract.born ≡ true) ↔ ((IsCounted m.layout x) × (m.life x ≢ Unborn))
 

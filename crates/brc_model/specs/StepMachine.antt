@@ -1,12 +1,10 @@
 -- The step machine: the counting machine, with functions and places on top. At an event one thread does the first duty
 -- of its agenda, or dispatches its next instruction.
-use Rattle.std.specs.Prelude.{ℕ, zero, suc, ◌+◌, ◌*◌, Bool, true, false, if◌then◌else◌, nat_le, nat_lt, List, [], ◌∷◌, length, map, Option, None, Some, fold, slice_get, slice_set}
-use Rattle.brc_word.specs.declared.values.TheConstants.{NOT_STARTED, RUNNING, EMPTY, FREE, NONE, LIST}
-use Rattle.brc_lang.specs.declared.kind.Kind.{Kind}
-use Rattle.brc_lang.specs.declared.kind.Kind.TheVariants as kinds
+use Rattle.std.specs.Prelude.{ℕ, zero, suc, ◌+◌, Bool, true, false, if◌then◌else◌, nat_le, nat_lt, List, [], ◌∷◌, ◌++◌, length, map, Option, None, Some, fold, slice_get, slice_set}
+use Rattle.brc_word.specs.declared.values.TheConstants.{NOT_STARTED, RUNNING, EMPTY, FREE}
 use Rattle.brc_lang.specs.declared.module.Function.{Function}
 use Rattle.brc_lang.specs.declared.module.Module.{Module}
-use Rattle.brc_word.specs.Words.{half, immortal_local, local_word, fresh_word}
+use Rattle.brc_word.specs.Words.{fresh_word}
 use Rattle.brc_model.specs.declared.thread.Call.{Call}
 use Rattle.brc_model.specs.declared.thread.Choice.{Choice}
 use Rattle.brc_model.specs.declared.actor.Place.{Place}
@@ -19,15 +17,17 @@ use Rattle.brc_model.specs.declared.state.Exit.{Exit}
 use Rattle.brc_model.specs.declared.state.Exit.TheVariants.{Success, Fault}
 use Rattle.brc_model.specs.declared.address.Address.{Address}
 use Rattle.brc_model.specs.declared.address.Address.TheVariants.{Local, Shared, Gate, KindOf, Marks, Cell, Slot, Resource, ThreadWord}
-use Rattle.brc_model.specs.Limits.{text_cells, root_cells, most_faults}
+use Rattle.brc_model.specs.Limits.{most_faults}
 use Rattle.brc_model.specs.AbstractState.{AbstractState, Reference, Move, ByThread, moved}
 use Rattle.brc_model.specs.declared.layout.Layout.{Layout}
-use Rattle.brc_model.specs.Layout.{root_row, front_rows, by_row}
+use Rattle.brc_model.specs.Layout.{root_row, block_size, first_immortal_list, first_number}
 use Rattle.brc_model.specs.Duties.{address_of}
 use Rattle.brc_model.specs.declared.actor.Actor.{Actor}
-use Rattle.brc_model.specs.Machine.{idle_actor, Life, Unborn, Live, Machine, actor_by, machine_by_duty}
+use Rattle.brc_model.specs.Machine.{idle_actor, Life, Machine, actor_by, machine_by_duty}
 use Rattle.brc_model.specs.Actions.{StepActor, Action, Skip, Stuck, Silent, Calls, Does}
 use Rattle.brc_model.specs.Dispatch.{exit_of, action_of}
+use Rattle.brc_model.specs.FirstRows.{value_count, first_row, local_of_first, first_kind_word, cell_of_first, first_life, first_kinds, rows_from, list_references}
+use Rattle.brc_lang.specs.Grammar.{cells_in}
 
 -- ---- the machine
 
@@ -153,35 +153,39 @@ machine_after m events = fold next_machine m events
 
 -- ---- the first state
 
-abbrev pub main_actor : StepActor
-main_actor = record { function = 0; place = Idle 0; actor = idle_actor front_rows }
+-- the layout of a machine of the module, with this number of workers and of rows for each of them
+abbrev pub layout_of : Module → ℕ → ℕ → Layout
+layout_of m workers rows = record {
+  workers = workers;
+  rows = rows;
+  cells = cells_in m.version;
+  immortal_lists = length m.statics;
+  numbers = value_count m.statics;
+}
+
+-- Main has used all rows of its block.
+abbrev pub main_actor : Layout → StepActor
+main_actor layout = record { function = 0; place = Idle 0; actor = idle_actor (block_size layout 0) }
 
 abbrev pub worker_actor : Call → StepActor
 worker_actor c = record { function = c.function; place = Idle c.times; actor = idle_actor 0 }
 
--- The first words. None is immortal. The root is a list that main owns, and its local count is the number of threads
--- that hold it.
-abbrev pub rooted_memory : ℕ → ℕ → Address → ℕ
-rooted_memory workers callers (Local x) = by_row (local_word 0 immortal_local) (local_word 0 callers) 0 x
-rooted_memory workers callers (Shared x) = fresh_word
-rooted_memory workers callers (Gate x) = FREE
-rooted_memory workers callers (KindOf x) = by_row (NONE * half) (LIST * half + root_cells) 0 x
-rooted_memory workers callers (Marks t w) = 0
-rooted_memory workers callers (Cell x i) = EMPTY
-rooted_memory workers callers (Slot x) = EMPTY
-rooted_memory workers callers (Resource x) = 0
-rooted_memory workers callers (ThreadWord t) = if nat_le t workers then RUNNING else NOT_STARTED
+-- The first words, with these lines of immortal lists. The root is a list that main owns, and its local count is the
+-- number of threads that hold it.
+abbrev pub rooted_memory : List (List ℕ) → Layout → ℕ → Address → ℕ
+rooted_memory lines layout callers (Local x) = local_of_first callers (first_row layout x)
+rooted_memory lines layout callers (Shared x) = fresh_word
+rooted_memory lines layout callers (Gate x) = FREE
+rooted_memory lines layout callers (KindOf x) = first_kind_word lines layout x
+rooted_memory lines layout callers (Marks t w) = 0
+rooted_memory lines layout callers (Cell x i) = cell_of_first lines layout i (first_row layout x)
+rooted_memory lines layout callers (Slot x) = EMPTY
+rooted_memory lines layout callers (Resource x) = 0
+rooted_memory lines layout callers (ThreadWord t) = if nat_le t layout.workers then RUNNING else NOT_STARTED
 
 -- Here main and each worker hold the root.
-abbrev pub first_memory : ℕ → Address → ℕ
-first_memory workers = rooted_memory workers (1 + workers)
-
-abbrev pub first_life : ℕ → Life
-first_life x = by_row Live Live Unborn x
-
--- None's kind is none and the root's is list; a row that isn't born has no kind yet.
-abbrev pub first_kinds : ℕ → Kind
-first_kinds x = by_row kinds.None kinds.List kinds.Any x
+abbrev pub first_memory : List (List ℕ) → Layout → Address → ℕ
+first_memory lines layout = rooted_memory lines layout (1 + layout.workers)
 
 abbrev pub caller_reference : ℕ → Reference
 caller_reference t = record { holder = ByThread t AsCaller; object = root_row }
@@ -191,24 +195,27 @@ abbrev pub callers_below : ℕ → List Reference
 callers_below zero = []
 callers_below (suc n) = caller_reference n ∷ callers_below n
 
--- one worker for each call, with `rows` rows each
-abbrev pub first_layout : ℕ → List Call → Layout
-first_layout rows calls = record { workers = length calls; rows = rows; cells = text_cells; immortal_lists = 0 }
+-- The first abstract state: each thread below a number holds the root as the caller that lends it, and each cell of an
+-- immortal list holds its number. The root and the numbers are born.
+abbrev pub first_abstract : List (List ℕ) → Layout → ℕ → AbstractState
+first_abstract lines layout callers = record {
+  references = list_references (first_immortal_list layout) (first_number layout) lines ++ callers_below callers;
+  born = root_row ∷ rows_from (first_number layout) layout.numbers;
+  closed = [];
+  kinds = first_kinds layout;
+}
 
 abbrev pub first_machine : Module → (ℕ → ℕ → Option State) → ℕ → List Call → StepMachine
-first_machine m states rows calls = record {
-  functions = m.functions;
-  states = states;
-  layout = first_layout rows calls;
-  memory = first_memory (length calls);
-  actors = main_actor ∷ map worker_actor calls;
-  abstract = record {
-    references = callers_below (1 + length calls);
-    born = root_row ∷ [];
-    closed = [];
-    kinds = first_kinds;
-  };
-  life = first_life;
-  host_faults = 0;
-  close_faults = 0;
-}
+first_machine m states rows calls =
+    let layout = layout_of m (length calls) rows in
+    record {
+      functions = m.functions;
+      states = states;
+      layout = layout;
+      memory = first_memory m.statics layout;
+      actors = main_actor layout ∷ map worker_actor calls;
+      abstract = first_abstract m.statics layout (1 + length calls);
+      life = first_life layout;
+      host_faults = 0;
+      close_faults = 0;
+    }

@@ -6,7 +6,7 @@ use Rattle.std.specs.List.{list_any, slice_index_or}
 use Rattle.brc_lang.specs.declared.kind.Kind.{Kind}
 use Rattle.brc_lang.specs.declared.kind.Kind.TheVariants as kinds
 use Rattle.brc_lang.specs.declared.module.Instr.{Instr}
-use Rattle.brc_lang.specs.declared.module.Instr.TheVariants.{Num, List as ListObject, NoneObject, Newref, Move, Drop, Lock, Unlock, Borrow, Fetch, Set, Put, Goto, Again, Ret, Fail, As, Open, Connect, Read, Write, Call}
+use Rattle.brc_lang.specs.declared.module.Instr.TheVariants.{Num, List as ListObject, NoneObject, Take, Newref, Move, Drop, Lock, Unlock, Borrow, Fetch, Set, Put, Goto, Again, Ret, Fail, As, Open, Connect, Read, Write, Call}
 use Rattle.brc_lang.specs.declared.parameter.Argument.{Argument}
 use Rattle.brc_lang.specs.declared.parameter.Parameter.{Parameter}
 use Rattle.brc_lang.specs.declared.parameter.Passing.{Passing}
@@ -183,6 +183,7 @@ abbrev pub conditions_of : Instr → List Condition
 conditions_of (Num to value otherwise) = Into to ∷ []
 conditions_of (ListObject to cells otherwise) = Into to ∷ []
 conditions_of (NoneObject to) = Into to ∷ []
+conditions_of (Take to list) = Into to ∷ []
 conditions_of (Newref to from) = Use from ∷ Into to ∷ []
 conditions_of (Move to from) = Give from ∷ Into to ∷ []
 conditions_of (Drop from) = Give from ∷ []
@@ -235,6 +236,7 @@ abbrev pub after : Instr → Exit → State → State
 after (Num to value otherwise) exit s = put s to (birth_var kinds.Num exit)
 after (ListObject to cells otherwise) exit s = put s to (birth_var kinds.List exit)
 after (NoneObject to) exit s = put s to (Owned kinds.None)
+after (Take to list) exit s = put s to (Owned kinds.List)
 after (Newref to from) exit s = put s to (Owned (kind_of (var_of s from)))
 after (Move to from) exit s = put (put s from Empty) to (Owned (kind_of (var_of s from)))
 after (Drop from) exit s = put s from Empty
@@ -264,6 +266,7 @@ target (Num to value otherwise) Fault at = Some otherwise
 target (ListObject to cells otherwise) Success at = Some (at + 1)
 target (ListObject to cells otherwise) Fault at = Some otherwise
 target (NoneObject to) exit at = Some (at + 1)
+target (Take to list) exit at = Some (at + 1)
 target (Newref to from) exit at = Some (at + 1)
 target (Move to from) exit at = Some (at + 1)
 target (Drop from) exit at = Some (at + 1)

@@ -9,4 +9,6 @@ pub struct Layout {
     pub cells: u8,
     /// The immortal lists, whose rows come after those of the workers.
     pub immortal_lists: u8,
+    /// The numbers that the cells of the immortal lists name at the start, whose rows come after those of the lists.
+    pub numbers: u16,
 }

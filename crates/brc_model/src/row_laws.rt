@@ -23,7 +23,7 @@ pub fn nobody_takes_a_row_over()
     ensures { (m : Module) → IsModule m → IsAcceptable m → AtEachEvent OwnersStay m }
 {}
 
-/// States that no event changes the words of an immortal row. Only none's row is immortal today.
+/// States that no event changes the words of an immortal row, but its gate and its cells, which change under its lock.
 pub fn immortal_words_stay()
     ensures { (m : Module) → IsModule m → IsAcceptable m → AtEachEvent ImmortalsStay m }
 {}

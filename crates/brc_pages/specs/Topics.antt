@@ -3,13 +3,14 @@ use Rattle.std.specs.Prelude.{ℕ, if◌then◌else◌, List, Option, None, Some
 use Rattle.std.specs.Str.{bytes_eq}
 use Rattle.brc_lang.specs.declared.fault.FaultCode.TheVariants.{FirstLine, UnknownWord, Number, Target, NameTwice}
 use Rattle.brc_lang.specs.declared.fault.FaultCode.TheVariants.{OverLimit, CutOff, NoMemory as MemoryOfReader, Callee}
+use Rattle.brc_lang.specs.declared.fault.FaultCode.TheVariants.{StaticList}
 use Rattle.brc_lang.specs.declared.check_code.CheckCode.TheVariants.{EmptyUsed, WrongKind, NotOwned, StillOwns, LeftOwned}
 use Rattle.brc_lang.specs.declared.check_code.CheckCode.TheVariants.{LeftLocked, SecondLock, NotLocked, LockedChanged}
 use Rattle.brc_lang.specs.declared.check_code.CheckCode.TheVariants.{StatesDiffer, RunsOff, NoMemory}
 use Rattle.brc_pages.specs.declared.topic.Topic.{Topic}
 use Rattle.brc_pages.specs.declared.topic.Topic.TheVariants.{Check, Read}
 
--- why a text can't be read: L1 to L9
+-- why a text can't be read: L1 to L10
 abbrev pub read_topic_named : List ℕ → Option Topic
 read_topic_named word =
     if bytes_eq word (codes "L1") then Some (Read FirstLine)
@@ -21,6 +22,7 @@ read_topic_named word =
     else if bytes_eq word (codes "L7") then Some (Read CutOff)
     else if bytes_eq word (codes "L8") then Some (Read MemoryOfReader)
     else if bytes_eq word (codes "L9") then Some (Read Callee)
+    else if bytes_eq word (codes "L10") then Some (Read StaticList)
     else None
 
 -- why a module is refused: C1 to C12, or one of those above

@@ -1,4 +1,4 @@
-//! The pages of L1 to L9.
+//! The pages of L1 to L10.
 
 ghost use Rattle.std.specs.Prelude.{◌≡◌, Some};
 ghost use Rattle.brc_pages.specs.Topics.{topic_named};
@@ -23,6 +23,7 @@ pub fn read_page(code: FaultCode) -> Page
         FaultCode::CutOff => CUT_OFF,
         FaultCode::NoMemory => NO_MEMORY,
         FaultCode::Callee => CALLEE,
+        FaultCode::StaticList => STATIC_LIST,
     }
 }
 
@@ -30,22 +31,23 @@ const FIRST_LINE: Page = Page {
     code: "L1",
     title: "another first line",
     meaning: &[
-        "The text doesn't begin with the line `module 1` or `module 2`: the line is",
-        "missing, it is another one, or no line feed ends it.",
+        "The text doesn't begin with the line `module 1`, `module 2` or `module 3`:",
+        "the line is missing, it is another one, or no line feed ends it.",
     ],
     rule_heading: READS,
     rule: &[
-        "The first line of a module is `module 1` or `module 2`: the word, one space,",
-        "the version of the language, and a line feed (no carriage return, no byte",
-        "order mark). Only in version 2 functions have parameters and call others.",
-        "The functions follow below it.",
+        "The first line of a module is `module 1`, `module 2` or `module 3`: the word,",
+        "one space, the version of the language, and a line feed (no carriage return,",
+        "no byte order mark). From version 2 on functions have parameters and call",
+        "others. In version 3 a list has up to 64 cells, and a module may have static",
+        "lists. The functions follow below it.",
     ],
     mend: &[
-        "Begin the text with the line `module 1`, or with `module 2` if a function",
-        "calls another one.",
+        "Begin the text with the line `module 1`, with `module 2` if a function calls",
+        "another one, or with `module 3` if it has long or static lists.",
     ],
     example: &[
-        ("module 3", "line 1"),
+        ("module 4", "line 1"),
         ("func f", ""),
         ("fail", ""),
         ("end", ""),
@@ -62,7 +64,9 @@ const UNKNOWN_WORD: Page = Page {
         "a word too many or too few, another word in place of `else`, a variable",
         "without its `v` or a target without its `@`, a kind or a mode that there",
         "isn't, a function's name of another form, a parameter or a `call` in a text",
-        "that begins with `module 1`. Or the line is empty.",
+        "that begins with `module 1`, a `take` or a `static` line in one that doesn't",
+        "begin with `module 3`, a `static` line below a function, or one without",
+        "numbers or with more than 64. Or the line is empty.",
     ],
     rule_heading: READS,
     rule: &[
@@ -79,14 +83,19 @@ const UNKNOWN_WORD: Page = Page {
         "  as vS KIND else @L    goto @L               again @L N",
         "  ret vS                fail",
         "",
-        "Below the first line `module 2` there are two forms more:",
+        "Below the first line `module 2` or `module 3` there are two forms more:",
         "",
         "  func NAME borrow KIND steal KIND ..         call vD NAME vA .. else @L",
+        "",
+        "Below the first line `module 3` there are two more again. Each `static` line",
+        "is above all functions, and has 1 to 64 numbers:",
+        "",
+        "  static K ..                                 take vD S",
         "",
         "A function has up to four parameters, of each `borrow` or `steal` and its",
         "kind, which may be `any` too. A call has up to four arguments.",
         "",
-        "vD, vS, vC, vF, vN and vA are variables, v0 to v15. K, N, I and P are",
+        "vD, vS, vC, vF, vN and vA are variables, v0 to v15. K, N, I, P and S are",
         "numbers. MODE is r, w, rw, wc or rwc; KIND is none, num, list, file or sock.",
         "@L is the number of an instruction, counted from @0. One space is between",
         "two words, and none at the beginning or the end of a line. There are no",
@@ -123,8 +132,9 @@ const NUMBER: Page = Page {
         "",
         "  a variable, v0 to v15               0 to 15",
         "  a target, @0 to @255                0 to 255",
-        "  num vD K                            0 to 4294967295",
-        "  list vD N, its cells                1 to 8",
+        "  num vD K, and static K ..           0 to 4294967295",
+        "  list vD N, its cells                1 to 8, or 1 to 64 in version 3",
+        "  take vD S, a static list            0 to 15",
         "  an index I of a list's item         0 to 255",
         "  a path or a peer P                  0 to 15",
         "  read vD vF N, its bytes at most     1 to 4096",
@@ -218,14 +228,14 @@ const OVER_LIMIT: Page = Page {
     code: "L6",
     title: "over a limit",
     meaning: &[
-        "There is a 65th function, or a function has a 257th instruction or none. Or",
-        "with a `call` nine calls would be open at once.",
+        "There is a 65th function or a 17th static list, or a function has a 257th",
+        "instruction or none. Or with a `call` nine calls would be open at once.",
     ],
     rule_heading: READS,
     rule: &[
-        "A module has 1 to 64 functions, and each has 1 to 256 instructions. At most",
-        "eight calls are open at once: the function that is called from outside, one",
-        "that it calls, one that this one calls, and so on.",
+        "A module has 1 to 64 functions, and each has 1 to 256 instructions. It has 16",
+        "static lists at most. At most eight calls are open at once: the function that",
+        "is called from outside, one that it calls, one that this one calls, and so on.",
     ],
     mend: &[
         "Divide the module, or the function. A function that does nothing has one",
@@ -313,6 +323,35 @@ const CALLEE: Page = Page {
         ("call v1 g else @2", "g is above"),
         ("drop v1", ""),
         ("fail", ""),
+        ("end", ""),
+    ],
+};
+
+const STATIC_LIST: Page = Page {
+    code: "L10",
+    title: "a static list that isn't there",
+    meaning: &["The module has no static list of the number that is taken."],
+    rule_heading: READS,
+    rule: &[
+        "`take vD S` makes a reference to the static list S. The `static` lines of the",
+        "module are counted from 0.",
+    ],
+    mend: &["Count the `static` lines from 0, or add the one that is missing."],
+    example: &[
+        ("module 3", ""),
+        ("static 5 6", "the static list 0"),
+        ("func f", ""),
+        ("take v1 1", "line 4: there is no static list 1"),
+        ("ret v1", ""),
+        ("end", ""),
+    ],
+    printed: "unreadable line 4 L10",
+    mended: &[
+        ("module 3", ""),
+        ("static 5 6", "the static list 0"),
+        ("func f", ""),
+        ("take v1 0", ""),
+        ("ret v1", ""),
         ("end", ""),
     ],
 };

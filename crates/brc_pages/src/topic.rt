@@ -10,11 +10,11 @@ use brc_lang::{CheckCode, FaultCode, is_word};
 pub enum Topic {
     /// Why a module is refused: C1 to C12.
     Check(CheckCode),
-    /// Why a text can't be read: L1 to L9.
+    /// Why a text can't be read: L1 to L10.
     Read(FaultCode),
 }
 
-/// Returns the code that the word names, `C1` to `C12` or `L1` to `L9`, or `None`.
+/// Returns the code that the word names, `C1` to `C12` or `L1` to `L10`, or `None`.
 pub fn topic_named(word: &[u8]) -> Option<Topic>
     ensures { result ≡ topic_named word.now }
 {
@@ -68,6 +68,8 @@ fn read_topic_named(word: &[u8]) -> Option<Topic>
         Some(Topic::Read(FaultCode::NoMemory))
     } else if is_word(word, b"L9") {
         Some(Topic::Read(FaultCode::Callee))
+    } else if is_word(word, b"L10") {
+        Some(Topic::Read(FaultCode::StaticList))
     } else {
         None
     }

@@ -1,5 +1,5 @@
 -- How a thread's exit goes on.
-use Rattle.std.proofs.Common.{◌≡◌, ℕ, zero, suc, Bool, List, [], ◌∷◌, ◌++◌, refl, ap, ◌∙◌}
+use Rattle.std.proofs.Common.{◌≡◌, ℕ, zero, suc, Bool, None, List, [], ◌∷◌, ◌++◌, refl, ap, ◌∙◌}
 use Rattle.std.specs.Prelude.{not, if◌then◌else◌}
 use Rattle.std.specs.List.{filter}
 use Rattle.brc_host.specs.HostCalls.{HostCall}
@@ -11,7 +11,7 @@ use Rattle.brc_model.specs.OpenWork.{is_about}
 use Rattle.brc_table.specs.declared.view.View.{View}
 use Rattle.brc_table.specs.Views.{view_by, view_after, open_work, without_one, without_reference}
 use Rattle.brc_table.specs.Calls.{IsFree, MayLeave}
-use Rattle.brc_heap.proofs.Handing.{root_counted}
+use Rattle.brc_model.proofs.Basics.Blocks.{root_counted}
 use Rattle.brc_free.specs.Works.{HasWorked, HasReleased, ComesToSettle, AtOnce, to_settle}
 
 -- With no other work, nothing is aside after the release of the root.
@@ -37,14 +37,16 @@ holds_none v u root is =
 
 -- Once it has settled it may leave.
 pub may_leave : {v u w : View} {cs : List HostCall} → IsFree v → v.references ≡ root_row ∷ []
-    → HasReleased root_row v u → HasWorked (to_settle [] u) cs [] w → w.actor.head ≡ 0 → MayLeave w
-may_leave {v} {u} {w} free root released at empty = record {
+    → v.actor.locked ≡ None → HasReleased root_row v u → HasWorked (to_settle [] u) cs [] w → w.actor.head ≡ 0
+    → MayLeave w
+may_leave {v} {u} {w} free root unlocked released at empty = record {
   free = record {
     running = at.keeps.status ∙ (released.keeps.status ∙ free.running);
     agenda = at.agenda;
     aside = at.keeps.aside ∙ (released.keeps.aside ∙ nothing_aside v root_row free.agenda free.aside);
   };
   holds_none = at.keeps.references ∙ holds_none v u root released.keeps.references;
+  unlocked = at.keeps.locked ∙ (released.keeps.locked ∙ unlocked);
   settled = empty;
 }
 

@@ -1,14 +1,12 @@
 -- What comes next for a hand that takes a mark of its own block.
-use Rattle.std.proofs.Common.{◌≡◌, ℕ, suc, zero, ◌+◌, ◌-◌, ◌*◌, ◌<◌, Bool, true, false, List, [], ◌∷◌, ◌++◌, refl, sym, ap, ◌∙◌, subst, arith}
+use Rattle.std.proofs.Common.{◌≡◌, ◌≢◌, ℕ, suc, zero, ◌+◌, ◌-◌, ◌*◌, ◌<◌, Bool, true, false, List, [], ◌∷◌, ◌++◌, refl, sym, ap, ◌∙◌, subst, arith}
 use Rattle.std.specs.Prelude.{◌==◌, if◌then◌else◌}
 use Rattle.brc_host.specs.HostCalls.{HostCall}
 use Rattle.brc_model.specs.declared.duty.Reason.TheVariants.{Handed}
 use Rattle.brc_model.specs.declared.duty.Duty.{Duty}
 use Rattle.brc_model.specs.declared.duty.Duty.TheVariants.{MergeSwap, Settle, Scan, TakeFound, Finish, ClaimMark, MarksLoad}
 use Rattle.brc_model.specs.declared.layout.Layout.{Layout}
-use Rattle.brc_model.specs.Layout.{front_rows, worker_rows, block_size, row_at}
-use Rattle.std.proofs.lemmas.Bool.{lt-ltb}
-use Rattle.brc_table.specs.Views.{RowsAreThere}
+use Rattle.brc_model.specs.Layout.{row_at}
 use Rattle.brc_model.specs.Duties.{found_row, ready, claimed}
 use Rattle.brc_table.specs.declared.view.View.{View}
 use Rattle.brc_table.specs.Views.{view_by, view_after, claiming, loading_marks}
@@ -66,19 +64,15 @@ turned_layout work.Aside v x = refl
 
 -- ---- rows of a block
 
--- The rows of a thread's block follow one another.
-rows_follow : (layout : Layout) (t i : ℕ) → layout.immortal_lists ≡ 0 → i < block_size layout t
-    → row_at layout t i ≡ row_at layout t 0 + i
-rows_follow layout zero i none low =
-    let is : row_at layout zero i ≡ i =
-    ap (λ (b : Bool). if b then i else worker_rows layout + i) (lt-ltb i front_rows (omega (arith, low, none))) in
-    omega (arith, is)
-rows_follow layout (suc t) i none low = omega (arith)
+-- The rows of a worker's block follow one another.
+rows_follow : (layout : Layout) (t i : ℕ) → t ≢ 0 → row_at layout t i ≡ row_at layout t 0 + i
+rows_follow layout zero i worker = absurd (worker refl)
+rows_follow layout (suc t) i worker = omega (arith)
 
-pub row_of_block : (v : View) (i first : ℕ) → RowsAreThere v → v.layout.immortal_lists ≡ 0 → i < v.actor.used
-    → first ≡ row_at v.layout v.thread 0 → row_at v.layout v.thread i ≡ first + i
-row_of_block v i first there none low is =
-    rows_follow v.layout v.thread i none (omega (arith, low, there.used)) ∙ ap (λ (n : ℕ). n + i) (sym is)
+pub row_of_block : (v : View) (i first : ℕ) → v.thread ≢ 0 → first ≡ row_at v.layout v.thread 0
+    → row_at v.layout v.thread i ≡ first + i
+row_of_block v i first worker is =
+    rows_follow v.layout v.thread i worker ∙ ap (λ (n : ℕ). n + i) (sym is)
 
 -- ---- a scan
 

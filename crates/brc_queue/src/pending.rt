@@ -3,7 +3,7 @@
 ghost use Rattle.std.specs.Prelude.{◌≡◌, ◌<◌, ◌*◌, List};
 ghost use Rattle.brc_host.specs.HostCounts.{raised};
 ghost use Rattle.brc_host.specs.HostCalls.{HostCall, HasAnswered, close_faults};
-ghost use Rattle.brc_model.specs.Layout.{row_at};
+ghost use Rattle.brc_model.specs.Layout.{row_at, row_count, block_of};
 ghost use Rattle.brc_table.specs.Hands.{IsOf, KeepsButView};
 ghost use Rattle.brc_table.specs.Calls.{IsFree};
 ghost use Rattle.brc_heap.specs.Steps.{Keeps};
@@ -107,6 +107,25 @@ impl<'h, T: Drop> Queue<'h, T> {
         failed
     }
 
+    /// Returns the row with the index in the hand's block, whose first row is `first`.
+    #[inline(always)]
+    fn row_of_block(heap: &Heap<T>, hand: &Hand<T>, index: u32, first: u32) -> u32
+        requires table { IsOf heap.now hand.now }
+        requires used { index < hand.now.view.actor.used }
+        requires first { first ≡ row_at hand.now.view.layout hand.now.view.thread 0 }
+        ensures row { result ≡ row_at hand.now.view.layout hand.now.view.thread index }
+        ensures there { result < row_count hand.now.view.layout }
+        ensures own { block_of hand.now.view.layout result ≡ hand.now.view.thread }
+    {
+        let row = heap.words().own_row(hand, index);
+        // The rows of main's block don't follow one another: the workers' are between them.
+        if hand.thread() == 0 {
+            return row;
+        }
+        // The table's answer takes loads, which wait for the step before. The sum doesn't.
+        first + index
+    }
+
     /// Takes the mark of the row with the index in the hand's block, and does what follows. `first` is the first row of
     /// the block. Returns how many closes have failed, up to the greatest number.
     #[inline(always)]
@@ -132,13 +151,8 @@ impl<'h, T: Drop> Queue<'h, T> {
             × (result ≡ raised (close_faults closes) 0)
             × HasAnswered H.answers H.counts host.old closes host.new }
     {
+        let row = Self::row_of_block(heap, hand, index, first);
         let words = heap.words();
-        words.layout_is_plain();
-        hand.rows_are_there();
-        // It states that the block has the row. Its result takes loads, which wait for the step before. The sum
-        // doesn't.
-        let _there = words.own_row(hand, index);
-        let row = first + index;
         // `MarkClaimed`, `NothingToClaim`: an and, because only the thread that finds the mark set may merge the
         // object.
         let found = words.mark_claim(hand, row);

@@ -4,3 +4,5 @@ pub mod Rows
 mod Resting
 pub mod References
 pub mod Between
+pub mod PlainModules
+pub mod StaticLists

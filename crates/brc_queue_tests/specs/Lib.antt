@@ -1,3 +1,4 @@
 pub mod Sharing
 pub mod Resting
 pub mod Embedded
+pub mod Modules

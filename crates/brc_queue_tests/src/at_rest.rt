@@ -3,12 +3,13 @@
 ghost use Rattle.std.specs.Prelude.{◌≡◌, ◌<◌, ◌≤◌, true, None, Some, [], ◌∷◌, length, if◌then◌else◌, IfOk, OnOk, IfSome, OnSome};
 ghost use Rattle.brc_model.specs.Layout.{root_row, IsCounted};
 ghost use Rattle.brc_model.specs.Duties.{resources_of};
-ghost use Rattle.brc_model.specs.Limits.{row_limit};
+ghost use Rattle.brc_model.specs.Limits.{row_limit, text_cells};
 ghost use Rattle.brc_table.specs.Views.{holds, without_one};
 ghost use Rattle.brc_table.specs.Hands.{IsOf, KeepsLock, most_references};
 ghost use Rattle.brc_heap.specs.Calls.{IsBornWith, kind_word};
 ghost use Rattle.brc_queue_tests.specs.Resting.{IsAtRest};
 
+use crate::modules::plain_module;
 use brc_free::Finaliser;
 use brc_heap::{Final, Hand, Heap};
 use brc_host::{FakeHost, FakeResource};
@@ -20,13 +21,15 @@ use std::sync::Wait;
 use std::test::*;
 
 /// Returns a heap for one worker that has `rows` rows, and main's hand.
+#[tactic(auto, using(crate::proofs::PlainModules::has_no_lines, crate::proofs::PlainModules::has_no_lists))]
 pub fn opened(alloc: Global, rows: u16) -> Result<(Heap<FakeResource>, Hand<FakeResource>), Fail>
     requires rows { (0 < rows) × (rows ≤ row_limit) }
     ensures resting { IfOk result (λ made. IsAtRest made.0 made.1 None) }
     ensures references { IfOk result (λ made. made.1.view.references ≡ root_row ∷ []) }
     ensures main { IfOk result (λ made. made.1.view.thread ≡ 0) }
 {
-    Ok(Heap::new(alloc, 1, rows)?)
+    let plain = plain_module(alloc);
+    Ok(Heap::new(alloc, 1, rows, &plain)?)
 }
 
 /// Gives out the worker's hand.
@@ -84,14 +87,14 @@ pub fn ended<R: Wait>(
 }
 
 /// Gives birth to a number of this value, or to a list with as many cells, if there is room. Returns its row.
-#[tactic(auto, using(crate::proofs::Resting::rests_after_birth, crate::proofs::Resting::some_counted))]
+#[tactic(auto, using(crate::proofs::Resting::rests_after_birth, crate::proofs::Resting::some_counted, crate::proofs::PlainModules::born_in_more))]
 pub fn born(
     heap: &Heap<FakeResource>,
     hand: &mut Hand<FakeResource>,
     kind: Kind,
     arg: u32,
 ) -> Option<u32>
-    requires kind { IsBornWith kind arg }
+    requires kind { IsBornWith text_cells kind arg }
     requires resource { 0 ≡ resources_of (kind_word kind arg) }
     requires resting { IsAtRest heap.now hand.old None }
     ensures resting { OnSome result (IsAtRest heap.now hand.new None) }

@@ -5,6 +5,7 @@ ghost use Rattle.brc_model.specs.Layout.{root_row};
 ghost use Rattle.brc_table.specs.Hands.{IsOf};
 ghost use Rattle.brc_queue_tests.specs.Embedded.{Holds, holds-prop};
 
+use crate::modules::plain_module;
 use crate::no_files::NoFiles;
 use brc_free::Finaliser;
 use brc_heap::{Hand, Heap, NoMemory, ROOT, Taken};
@@ -45,7 +46,7 @@ fn starts<'a>(heap: &'a Heap<()>, main: &mut Hand<()>, thread: u8) -> Result<Wor
 }
 
 /// Gives birth to a number. Returns its row, or `None` if the hand's block is full.
-fn bear(heap: &Heap<()>, hand: &mut Hand<()>) -> Option<u32>
+pub fn bear(heap: &Heap<()>, hand: &mut Hand<()>) -> Option<u32>
     requires apart { hand.old.view.thread ≢ 0 }
     requires holds { Holds heap.now hand.old None }
     ensures apart { result ≢ Some root_row }
@@ -115,7 +116,7 @@ fn value_of(heap: &Heap<()>, hand: &mut Hand<()>, row: u32) -> u32
 }
 
 /// Gives up a reference, and finalises what dies by that.
-fn release<R: Wait>(rt: &R, heap: &Heap<()>, hand: &mut Hand<()>, host: &mut NoFiles, row: u32)
+pub fn release<R: Wait>(rt: &R, heap: &Heap<()>, hand: &mut Hand<()>, host: &mut NoFiles, row: u32)
     requires holds { Holds heap.now hand.old (Some row) }
     ensures holds { Holds heap.now hand.new None }
 {
@@ -134,7 +135,7 @@ fn safe_point<R: Wait>(rt: &R, heap: &Heap<()>, hand: &mut Hand<()>, host: &mut 
 }
 
 /// Leaves.
-fn leave<R: Wait>(rt: &R, heap: &Heap<()>, hand: &mut Hand<()>, host: &mut NoFiles)
+pub fn leave<R: Wait>(rt: &R, heap: &Heap<()>, hand: &mut Hand<()>, host: &mut NoFiles)
     requires holds { Holds heap.now hand.old None }
     ensures table { IsOf heap.now hand.new }
     ensures thread { hand.new.view.thread ≡ hand.old.view.thread }
@@ -223,11 +224,13 @@ fn ended(heap: Heap<()>, main: Hand<()>) -> Option<(u32, u32)>
 }
 
 /// Returns a heap for two workers with four rows each, and main's hand.
+#[tactic(auto, using(crate::proofs::PlainModules::has_no_lines))]
 fn opened(alloc: Global) -> Result<(Heap<()>, Hand<()>), NoMemory>
     ensures main { IfOk result (λ made. made.1.view.thread ≡ 0) }
     ensures holds { IfOk result (λ made. Holds made.0 made.1 None) }
 {
-    Heap::new(alloc, 2, 4)
+    let plain = plain_module(alloc);
+    Heap::new(alloc, 2, 4, &plain)
 }
 
 #[test]

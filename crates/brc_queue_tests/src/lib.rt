@@ -23,6 +23,8 @@ mod in_itself;
 #[cfg(test)]
 mod meeting;
 #[cfg(test)]
+mod modules;
+#[cfg(test)]
 mod no_files;
 #[cfg(test)]
 mod posts;
@@ -30,3 +32,5 @@ mod posts;
 mod second_word;
 #[cfg(test)]
 mod sharing;
+#[cfg(test)]
+mod statics;

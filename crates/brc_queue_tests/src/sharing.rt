@@ -11,6 +11,7 @@ ghost use Rattle.brc_heap.specs.Calls.{IsBornWith, kind_word, shared_left};
 ghost use Rattle.brc_heap.specs.Marks.{look_left};
 ghost use Rattle.brc_queue_tests.specs.Sharing.{small_layout, shared_row, HasWork, HoldsRoot, HoldsBoth, HasLeft};
 
+use crate::modules::plain_module;
 use brc_free::Finaliser;
 use brc_heap::{Hand, Heap, LocalRelease, MergeStep, ROOT, SharedRelease};
 use brc_host::{FakeHost, FakeResource};
@@ -28,6 +29,7 @@ pub const ROW: u32 = 2;
 pub const CELLS: u32 = 8;
 
 /// Returns a heap for two workers with two rows each, and the hands of main and both workers.
+#[tactic(auto, using(crate::proofs::PlainModules::has_no_lines))]
 pub fn opened(
     alloc: Global,
 ) -> Result<
@@ -45,7 +47,8 @@ pub fn opened(
     ensures one { IfOk result (λ made. HoldsRoot made.0 made.2) }
     ensures two { IfOk result (λ made. HoldsRoot made.0 made.3) }
 {
-    let (heap, mut main) = Heap::new(alloc, 2, 2)?;
+    let plain = plain_module(alloc);
+    let (heap, mut main) = Heap::new(alloc, 2, 2, &plain)?;
     let one = heap.hand_out(&mut main, 1)?;
     let two = heap.hand_out(&mut main, 2)?;
     Ok((heap, main, one, two))
@@ -60,7 +63,7 @@ pub fn bears(
     resource: Option<FakeResource>,
 ) -> bool
     requires holds { HoldsRoot heap.now hand.old }
-    requires kind { IsBornWith kind 0 }
+    requires kind { IsBornWith small_layout.cells kind 0 }
     requires resource { resources resource ≡ resources_of (kind_word kind 0) }
     ensures holds { result ≡ true → HasWork heap.now hand.new (row ∷ root_row ∷ []) [] }
 {

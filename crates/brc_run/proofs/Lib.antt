@@ -1,2 +1,3 @@
 mod Rows
 mod Created
+pub mod Opening

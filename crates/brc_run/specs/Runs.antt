@@ -4,13 +4,14 @@ use Rattle.brc_host.specs.HostCounts.{raised}
 use Rattle.brc_host.specs.HostCalls.{HostCall, HasAnswered, close_faults}
 use Rattle.brc_host.specs.declared.counts.HostCounts.{HostCounts}
 use Rattle.brc_lang.specs.declared.module.Module.{Module}
+use Rattle.brc_model.specs.FirstRows.{value_count}
 use Rattle.brc_model.specs.Layout.{root_row}
+use Rattle.brc_model.specs.StepMachine.{layout_of}
 use Rattle.brc_model.specs.declared.thread.Call.{Call}
 use Rattle.brc_table.specs.declared.view.View.{View}
 use Rattle.brc_table.specs.Calls.{IsFree}
 use Rattle.brc_table.specs.Ending.{EndState}
 use Rattle.brc_table.specs.Hands.{TableState, HandState}
-use Rattle.brc_table.specs.Opening.{plain_layout}
 use Rattle.brc_heap.specs.Ends.{HasEnded}
 use Rattle.brc_os.specs.HostStates.{HostState, AnswersForSystem, new_host}
 use Rattle.brc_queue.specs.Scans.{HasLeft}
@@ -41,7 +42,8 @@ totals_in gone = map (λ w. totals_of w.1) gone
 pub record IsTallyOf {S : Type 0} (answers : S → HostCall → S → Type 0) (counts : S → HostCounts) (m : Module)
     (workers rows : ℕ) (call : Call) (steps close_faults : ℕ) (tally : Tally) : Type 0 where
   pub heap : TableState
-  pub same : heap.layout ≡ plain_layout workers rows
+  pub same : heap.layout ≡ layout_of m workers rows
+  pub lines : heap.lines ≡ m.statics
   pub gone : List (HandState × Ran)
   pub end : EndState
   pub one_each : length gone ≡ workers
@@ -49,11 +51,11 @@ pub record IsTallyOf {S : Type 0} (answers : S → HostCall → S → Type 0) (c
       → HasGone answers counts (job heap m call.function call.times steps (k + 1)) (slice_index_or gone k w).0
       (slice_index_or gone k w).1
   pub of : end.table ≡ heap.table
-  pub layout : end.layout ≡ plain_layout workers rows
+  pub layout : end.layout ≡ layout_of m workers rows
   pub ended : HasEnded end
   pub counted : tally ≡ tally_at_end end workers (totals_in gone) close_faults
-  -- the root was created, and what the workers have made
-  pub created : tally.created ≡ 1 + sum_by (λ t. t.created) (totals_in gone)
+  -- the root was created, the numbers in the cells of the static lists, and what the workers have made
+  pub created : tally.created ≡ 1 + value_count m.statics + sum_by (λ t. t.created) (totals_in gone)
 
 -- Main has left with these closes of its host, and no other call. The tally has counted those that failed.
 pub record CountsMain {S : Type 0} (answers : S → HostCall → S → Type 0) (counts : S → HostCounts) (m : Module)
@@ -72,12 +74,12 @@ IsTallyOfRun paths peers m workers rows call steps tally = (after : HostState)
     × CountsMain AnswersForSystem (λ (host : HostState). host.counts) m workers rows call steps (new_host paths peers)
     after tally
 
--- Main has left, and the heap of a run with this number of workers, and of rows for each, has ended: each thread is
--- gone. Main has left with these closes of its host, and no other call.
-pub record MainHasLeft {S : Type 0} (answers : S → HostCall → S → Type 0) (counts : S → HostCounts) (workers rows : ℕ)
-    (before after : S) : Type 0 where
+-- Main has left, and the heap of a run of the module with this number of workers, and of rows for each, has ended: each
+-- thread is gone. Main has left with these closes of its host, and no other call.
+pub record MainHasLeft {S : Type 0} (answers : S → HostCall → S → Type 0) (counts : S → HostCounts) (m : Module)
+    (workers rows : ℕ) (before after : S) : Type 0 where
   pub end : EndState
-  pub layout : end.layout ≡ plain_layout workers rows
+  pub layout : end.layout ≡ layout_of m workers rows
   pub ended : HasEnded end
   pub closes : List HostCall
   pub first : View

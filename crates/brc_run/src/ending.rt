@@ -7,14 +7,12 @@ ghost use Rattle.brc_table.specs.declared.view.View.{View};
 ghost use Rattle.brc_table.specs.Hands.{IsOf};
 ghost use Rattle.brc_queue.specs.Scans.{HasLeft};
 ghost use Rattle.brc_table.specs.Joining.{RowsAreUsed};
-ghost use Rattle.brc_heap.specs.Ends.{HasEnded, was_born};
-ghost use Rattle.brc_model.specs.Layout.{root_row};
+ghost use Rattle.brc_heap.specs.Ends.{HasEnded};
 ghost use Rattle.brc_run.specs.Runs.{MayEnd};
 
 use brc_heap::{Final, Hand, Heap};
 use brc_host::Host;
 use brc_queue::Queue;
-use brc_table::root_is_a_list;
 use std::sync::Wait;
 
 /// Lets main leave. Returns how many closes of main's have failed, up to the greatest number.
@@ -42,9 +40,8 @@ pub(crate) fn finished<R: Wait, T: Drop>(rt: &R, heap: Heap<T>, main: Hand<T>) -
     ensures layout { result.layout ≡ heap.layout }
     ensures ended { HasEnded result }
     ensures joined { All (RowsAreUsed result.layout result.words) main.view.joined }
-    ensures root { was_born result root_row ≡ true }
+    ensures lines { result.lines ≡ heap.lines }
 {
-    root_is_a_list();
     let mut heap = heap;
     let mut main = main;
     for _ in rt.forever() {

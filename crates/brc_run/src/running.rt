@@ -30,6 +30,7 @@ use std::thread::Threads;
 ///
 /// `NoThread` if a worker's thread can't be started, or memory for the workers is refused. Main leaves, and the heap
 /// ends, before that is returned. `NoMemory` if memory is refused elsewhere.
+#[tactic(auto, using(crate::proofs::Opening::lists_have_rows, crate::proofs::Opening::is_heap_of))]
 pub fn run<R: Threads + Wait + Sync, T: Send + Drop, H: Host<Res = T> + Send, G: Gate + Sync>(
     rt: &R,
     alloc: Global,
@@ -45,9 +46,9 @@ pub fn run<R: Threads + Wait + Sync, T: Send + Drop, H: Host<Res = T> + Send, G:
     ensures tally { IfOk result (CountsMain H.answers H.counts checked.now.module plan.threads plan.rows plan.call
         plan.steps main_host.old main_host.new) }
     ensures no_thread { IfErr result (λ fault. fault ≡ RunFault.NoThread
-        → MainHasLeft H.answers H.counts plan.threads plan.rows main_host.old main_host.new) }
+        → MainHasLeft H.answers H.counts checked.now.module plan.threads plan.rows main_host.old main_host.new) }
 {
-    let (heap, mut main) = Heap::new(alloc, plan.threads, plan.rows)?;
+    let (heap, mut main) = Heap::new(alloc, plan.threads, plan.rows, checked.module())?;
     let ran = fan_out(
         rt,
         alloc,

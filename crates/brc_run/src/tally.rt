@@ -2,9 +2,8 @@
 
 ghost use Rattle.std.specs.Prelude.{◌≡◌, ◌<◌, ◌≤◌, map, filter, count_by, sum_by, IfOk};
 ghost use Rattle.brc_host.specs.HostCounts.{raised};
-ghost use Rattle.brc_heap.specs.Ends.{was_born, is_closed};
 ghost use Rattle.brc_model.specs.Layout.{row_count};
-ghost use Rattle.brc_run.specs.Tallies.{counted_rows, is_left, left_at, tally_at_end};
+ghost use Rattle.brc_run.specs.Tallies.{rows_behind_none, is_created, has_closed, is_left, left_at, tally_at_end};
 
 use brc_heap::{Final, ROOT};
 use brc_lang::Sequence;
@@ -37,13 +36,29 @@ pub fn tally_of<T: Drop>(
     })
 }
 
-/// Returns how many counted objects were born.
+/// Returns whether the row's object is counted, and was born or was there from the start.
+fn is_created<T: Drop>(end: &Final<T>, row: u32) -> bool
+    requires there { row < row_count end.now.layout }
+    ensures { result ≡ is_created end.now row }
+{
+    !end.is_immortal(row) && end.born(row)
+}
+
+/// Returns whether the row's object is counted and closed.
+fn has_closed<T: Drop>(end: &Final<T>, row: u32) -> bool
+    requires there { row < row_count end.now.layout }
+    ensures { result ≡ has_closed end.now row }
+{
+    !end.is_immortal(row) && end.closed(row)
+}
+
+/// Returns how many counted objects were created.
 fn created_in<T: Drop>(end: &Final<T>) -> u32
-    ensures { result ≡ count_by (was_born end.now) (counted_rows end.now) }
+    ensures { result ≡ count_by (is_created end.now) (rows_behind_none end.now) }
 {
     let mut created = 0;
     for row in ROOT..end.rows() {
-        if end.born(row) {
+        if is_created(end, row) {
             created += 1;
         }
     }
@@ -52,28 +67,28 @@ fn created_in<T: Drop>(end: &Final<T>) -> u32
 
 /// Returns how many counted objects are closed.
 fn closed_in<T: Drop>(end: &Final<T>) -> u32
-    ensures { result ≡ count_by (is_closed end.now) (counted_rows end.now) }
+    ensures { result ≡ count_by (has_closed end.now) (rows_behind_none end.now) }
 {
     let mut closed = 0;
     for row in ROOT..end.rows() {
-        if end.closed(row) {
+        if has_closed(end, row) {
             closed += 1;
         }
     }
     closed
 }
 
-/// Returns whether the row's object was born and isn't closed.
+/// Returns whether the row's object is counted, was created and isn't closed.
 fn is_left<T: Drop>(end: &Final<T>, row: u32) -> bool
     requires there { row < row_count end.now.layout }
     ensures { result ≡ is_left end.now row }
 {
-    end.born(row) && !end.closed(row)
+    is_created(end, row) && !end.closed(row)
 }
 
-/// Returns the counted objects that were born and aren't closed, by rising row.
+/// Returns the counted objects that were created and aren't closed, by rising row.
 fn left_in<T: Drop>(alloc: Global, end: &Final<T>) -> Result<Sequence<Left>, AllocError>
-    ensures { IfOk result (λ left. left ≡ map (left_at end.now) (filter (is_left end.now) (counted_rows end.now))) }
+    ensures { IfOk result (λ left. left ≡ map (left_at end.now) (filter (is_left end.now) (rows_behind_none end.now))) }
 {
     let mut left = Sequence::new(alloc);
     for row in ROOT..end.rows() {

@@ -55,6 +55,35 @@ pub const THREE_OPEN: &[u8] =
 pub const OWN_TURNS: &[u8] = b"module 2\nfunc g\nnum v1 1 else @3\ndrop v1\nagain @0 2\nfail\nend\n\
     func f\ncall v1 g else @2\ndrop v1\nagain @0 1\nfail\nend\n";
 
+/// Takes a static list, and the second number out of it.
+const TAKE: &[u8] =
+    b"module 3\nstatic 5 6\nfunc f\ntake v1 0\nlock v1\nfetch v2 v1 1 else @6\nunlock v1\ndrop v2\n\
+    goto @7\nunlock v1\ndrop v1\nfail\nend\n";
+
+/// Puts none in place of a static list's first number.
+const EMPTY_FIRST: &[u8] =
+    b"module 3\nstatic 5 6\nfunc f\ntake v1 0\nnone v2\nlock v1\nset v1 0 v2 else @4\nunlock v1\n\
+    drop v1\nfail\nend\n";
+
+/// Puts a number into the last cell of a long list.
+const LAST_OF_64: &[u8] =
+    b"module 3\nfunc f\nlist v1 64 else @6\nnum v2 1 else @5\nlock v1\nset v1 63 v2 else @4\nunlock v1\n\
+    drop v1\nfail\nend\n";
+
+/// Gives up a second reference to a static list while it is locked.
+const TWICE_TAKEN: &[u8] =
+    b"module 3\nstatic 5\nfunc f\ntake v1 0\ntake v2 0\nlock v1\ndrop v2\nunlock v1\ndrop v1\nfail\nend\n";
+
+/// Puts a static list's first number into its second cell too.
+const SAME_IN_BOTH: &[u8] =
+    b"module 3\nstatic 5 6\nfunc f\ntake v1 0\nlock v1\nfetch v2 v1 0 else @8\nput v1 1 v2 else @4\nunlock v1\n\
+    drop v2\ndrop v1\nfail\nunlock v1\ndrop v1\nfail\nend\n";
+
+/// Puts the second static list into itself, in place of its number.
+const STATIC_IN_ITSELF: &[u8] =
+    b"module 3\nstatic 5 6\nstatic 7\nfunc f\ntake v1 1\nlock v1\nput v1 0 v1 else @3\nunlock v1\n\
+    drop v1\nfail\nend\n";
+
 const CASES: &[Case] = &[
     (
         "nothing done",
@@ -166,6 +195,45 @@ const CASES: &[Case] = &[
         OWN_TURNS,
         (1, MOST_ROWS, 1),
         [1, 0, 7, 7, 0, 0, 0],
+    ),
+    ("take", TAKE, (1, 4, 1), [1, 0, 3, 1, 2, 0, 0]),
+    (
+        "take by four threads",
+        TAKE,
+        (4, 4, 1000),
+        [4, 0, 3, 1, 2, 0, 0],
+    ),
+    ("empty first", EMPTY_FIRST, (1, 4, 1), [1, 0, 3, 2, 1, 0, 0]),
+    (
+        "empty first by four threads",
+        EMPTY_FIRST,
+        (4, 4, 100),
+        [4, 0, 3, 2, 1, 0, 0],
+    ),
+    (
+        "a list of 64 cells",
+        LAST_OF_64,
+        (1, 4, 1),
+        [1, 0, 3, 3, 0, 0, 0],
+    ),
+    (
+        "twice taken by four threads",
+        TWICE_TAKEN,
+        (4, 4, 10),
+        [4, 0, 2, 1, 1, 0, 0],
+    ),
+    // A million locks and changes of one list. The number that was in the second cell is closed once.
+    (
+        "the same number in both cells by 32 threads",
+        SAME_IN_BOTH,
+        (32, 4, 31_250),
+        [32, 0, 3, 2, 1, 0, 0],
+    ),
+    (
+        "a static list in itself",
+        STATIC_IN_ITSELF,
+        (1, 4, 1),
+        [1, 0, 4, 2, 2, 0, 0],
     ),
 ];
 

@@ -1,7 +1,8 @@
 -- How much a schedule may ask for.
-use Rattle.std.specs.Prelude.{ℕ, ◌+◌, ◌*◌}
-use Rattle.brc_model.specs.Limits.{worker_limit, row_limit}
+use Rattle.std.specs.Prelude.{ℕ, ◌-◌}
+use Rattle.brc_model.specs.Limits.{total_limit}
 
--- the last row of the largest world: none, the root, and then the rows of each worker
+-- The last row of the largest world: none, the root, the rows of each worker, the immortal lists, and the numbers in
+-- their cells. It is the same for modules of all versions.
 abbrev pub last_row : ℕ
-last_row = 1 + worker_limit * row_limit
+last_row = total_limit - 1

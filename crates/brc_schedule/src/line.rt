@@ -13,8 +13,9 @@ use brc_model::Choice;
 /// The greatest number of calls or steps of one line.
 const MOST_TIMES: u32 = 1_000_000;
 
-/// The last row of the largest world: row 0 is none, row 1 the root, and each of 32 workers has 1024 rows.
-const LAST_ROW: u32 = 32_769;
+/// The last row of the largest world: row 0 is none, row 1 the root, each of 32 workers has 1024 rows, and behind these
+/// are the rows of 16 immortal lists and of the 64 numbers in each of them.
+const LAST_ROW: u32 = 33_809;
 
 /// Reads a line of this name and a number from 1 to `most`. Returns `UnknownWord` or `Number`.
 pub fn size(name: &[u8], most: u32, text: &[u8]) -> Result<u32, FaultCode>

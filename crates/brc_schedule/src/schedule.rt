@@ -27,7 +27,7 @@ pub struct PlannedCall {
 pub struct Steps {
     /// Main is 0, the workers are 1, 2, ..
     pub thread: u8,
-    /// The choice of each step; the row of a claim is 0 to 32769, the last row of the largest world.
+    /// The choice of each step; the row of a claim is 0 to 33809, the last row of the largest world.
     pub choice: Choice,
     /// How many steps, 1 to 1,000,000; a claim or a stop is one step.
     pub times: u32,

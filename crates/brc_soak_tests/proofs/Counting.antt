@@ -9,7 +9,6 @@ use Rattle.std.proofs.lemmas.List.{get_or-set_other, length-set}
 use Rattle.brc_model.proofs.Basics.Lists.{get_or-replicate_default}
 use Rattle.brc_model.specs.declared.layout.Layout.{Layout}
 use Rattle.brc_model.specs.Layout.{root_row}
-use Rattle.brc_model.specs.Counting.{IsPlainLayout}
 use Rattle.brc_table.specs.Swaps.{with_item}
 use Rattle.brc_list.specs.Calls.{row_in}
 use Rattle.brc_table.specs.Views.{holds, without_one, without_reference}
@@ -224,22 +223,22 @@ held_with x (Some (suc y)) rows some = elim (cases_Bool (suc y == x)) [
   | inr apart ↦ omega (arith, some, times_other x (suc y) rows (eqb-false (suc y) x apart))
 ]
 
--- since in a plain layout every object but that of row 0 is counted.
-pub found_is : (layout : Layout) (found : ℕ) (rows : List ℕ) → IsPlainLayout layout
+-- since in a layout with no immortal list every object but that of row 0 is counted.
+pub found_is : (layout : Layout) (found : ℕ) (rows : List ℕ) → layout.immortal_lists ≡ 0
     → with_item layout found rows ≡ with_found (row_in found) rows
-found_is layout zero rows plain = refl
-found_is layout (suc zero) rows plain = refl
-found_is layout (suc (suc y)) rows plain =
+found_is layout zero rows none = refl
+found_is layout (suc zero) rows none = refl
+found_is layout (suc (suc y)) rows none =
     lists_one_more {layout = layout} {other = layout} (suc y) rows
-    (some_counted {layout = layout} (suc y) plain (ne_eqb (suc y) 0 (λ e. absurd cc))) refl
+    (some_counted layout (suc y) none (ne_eqb (suc y) 0 (λ e. absurd cc))) refl
 
 -- So these references are left when the hand has put an item into a cell.
 pub put_leaves : (layout other : Layout) (found item : ℕ) (answer : Option ℕ) (rows later : List ℕ)
-    → IsPlainLayout layout → other ≡ layout → item ≢ 0
+    → layout.immortal_lists ≡ 0 → other ≡ layout → item ≢ 0
     → later ≡ with_item other found (without_reference other item rows) → answer ≡ row_in found
     → later ≡ with_found answer (without_one item rows)
-put_leaves layout other found item answer rows later plain same some is was =
-    let counted = some_counted {layout = layout} item plain (ne_eqb item 0 some) in
+put_leaves layout other found item answer rows later none same some is was =
+    let counted = some_counted layout item none (ne_eqb item 0 some) in
     is ∙ (ap (with_item other found) (lists_one_less {layout = layout} {other = other} item rows counted same)
-    ∙ (found_is other found (without_one item rows) (subst IsPlainLayout (sym same) plain)
+    ∙ (found_is other found (without_one item rows) (ap (λ (l : Layout). l.immortal_lists) same ∙ none)
     ∙ ap (λ (f : Option ℕ). with_found f (without_one item rows)) (sym was)))

@@ -1,2 +1,3 @@
 mod Resting
 mod Counting
+pub mod PlainModules

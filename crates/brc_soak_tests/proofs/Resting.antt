@@ -1,14 +1,14 @@
 -- Hands without work stay so.
 use Rattle.std.proofs.Common.{◌≡◌, ◌≤◌, ◌+◌, ℕ, Bool, true, false, List, [], ◌∷◌, ◌++◌, None, Some, inl, inr, refl, sym, ap, ◌∙◌, subst, arith}
-use Rattle.std.specs.Prelude.{not, cond, count_by, ◌==◌, ◌&&◌, ◌||◌, nat_le, nat_lt, if◌then◌else◌}
+use Rattle.std.specs.Prelude.{not, cond, count_by, ◌==◌, if◌then◌else◌}
 use Rattle.std.specs.List.{filter}
-use Rattle.std.proofs.lemmas.Bool.{cases_Bool, eq-eqb, leb-true, ltb-true}
+use Rattle.std.proofs.lemmas.Bool.{cases_lt, eq-eqb, eqb-false}
 use Rattle.std.proofs.lemmas.List.Sums.{sum_by-cons}
 use Rattle.brc_host.specs.HostCalls.{HostCall}
 use Rattle.brc_model.specs.declared.duty.Duty.{Duty}
 use Rattle.brc_model.specs.declared.layout.Layout.{Layout}
 use Rattle.brc_model.specs.Layout.{first_immortal_list, IsCounted}
-use Rattle.brc_model.specs.Counting.{IsPlainLayout}
+use Rattle.brc_model.proofs.Basics.Blocks.{others_counted}
 use Rattle.brc_model.specs.OpenWork.{is_about}
 use Rattle.brc_table.specs.declared.view.View.{View}
 use Rattle.brc_table.specs.Views.{worker_view, holds, without_one, with_reference, without_reference}
@@ -49,6 +49,7 @@ rests_again {heap} {before} {after} rest table keeps idle aside = record {
   rests = ap (λ (ds : List Duty). ds ++ after.view.actor.aside) idle ∙ (keeps.aside ∙ aside);
   locked_is = keeps.locked ∙ rest.locked_is;
   returned = tt;
+  no_lists = rest.no_lists;
 }
 
 -- main after it has given out a worker's hand,
@@ -58,15 +59,16 @@ rests_after_giving rest table gives =
     rests_again rest table gives.keeps gives.agenda rest.rests
 
 -- The worker's hand is fresh,
-pub fresh_hand : {heap : TableState} {hand : HandState} {thread : ℕ} → IsOf heap hand
-    → hand.view ≡ worker_view heap.layout thread → IsFresh heap hand
-fresh_hand {heap} {hand} {thread} table is = record {
+pub fresh_hand : {heap : TableState} {hand : HandState} {thread : ℕ} → heap.layout.immortal_lists ≡ 0
+    → IsOf heap hand → hand.view ≡ worker_view heap.layout thread → IsFresh heap hand
+fresh_hand {heap} {hand} {thread} none table is = record {
   table = table;
   status = ap (λ (v : View). v.actor.status) is;
   agenda = ap (λ (v : View). v.actor.agenda) is;
   aside = ap (λ (v : View). v.actor.aside) is;
   references = ap (λ (v : View). v.references) is;
   unlocked = ap (λ (v : View). v.actor.locked) is;
+  no_lists = none;
 }
 
 -- and rests.
@@ -77,6 +79,7 @@ fresh_rests {heap} {hand} fresh = record {
   rests = ap (λ (ds : List Duty). ds ++ hand.view.actor.aside) fresh.agenda ∙ fresh.aside;
   locked_is = fresh.unlocked;
   returned = tt;
+  no_lists = fresh.no_lists;
 }
 
 -- a hand after it has given birth,
@@ -174,26 +177,11 @@ lists_one_less {layout} {other} x rows counted same =
 
 -- ---- rows
 
-and_first : (a b : Bool) → (a && b) ≡ true → a ≡ true
-and_first true b e = refl
-and_first false b e = absurd cc
-
-and_second : (a b : Bool) → (a && b) ≡ true → b ≡ true
-and_second true b e = e
-and_second false b e = absurd cc
-
-no_range : (first x n : ℕ) → n ≡ 0 → (nat_le first x && nat_lt x (first + n)) ≡ false
-no_range first x n none = elim (cases_Bool (nat_le first x && nat_lt x (first + n))) [
-  | inl within ↦
-      let low = leb-true first x (and_first (nat_le first x) (nat_lt x (first + n)) within) in
-      let high = ltb-true x (first + n) (and_second (nat_le first x) (nat_lt x (first + n)) within) in
-      absurd (omega (arith, low, high, none))
-  | inr apart ↦ apart
-]
-
--- A plain layout has no immortal object but none.
-pub some_counted : {layout : Layout} (x : ℕ) → IsPlainLayout layout → (x == 0) ≡ false → IsCounted layout x
-some_counted {layout} x plain some =
-    ap (λ (b : Bool).
-    b || (nat_le (first_immortal_list layout) x && nat_lt x (first_immortal_list layout + layout.immortal_lists))) some
-    ∙ no_range (first_immortal_list layout) x layout.immortal_lists plain.immortals
+-- A layout with no immortal list has no immortal object but none.
+pub some_counted : (layout : Layout) (x : ℕ) → layout.immortal_lists ≡ 0 → (x == 0) ≡ false → IsCounted layout x
+some_counted layout x no_lists some =
+    others_counted layout x (omega (arith, eqb-false x 0 some))
+    (elim (cases_lt x (first_immortal_list layout)) [
+      | inl low ↦ inl low
+      | inr past ↦ inr (omega (arith, past, no_lists))
+    ])

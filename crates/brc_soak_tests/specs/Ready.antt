@@ -12,13 +12,14 @@ abbrev pub HasBack : HandState → Option ℕ → Type 0
 HasBack hand None = Unit {0}
 HasBack hand (Some x) = FirstSlot hand.slots x hand.view.in_slot
 
--- The hand runs, has no work at all, and has locked this row's object, or none.
+-- The hand runs, has no work at all, and has locked this row's object, or none. The heap has no static list.
 pub record IsResting (heap : TableState) (hand : HandState) (locked : Option ℕ) : Type 0 where
   pub table : IsOf heap hand
   pub running : IsRunning hand.view
   pub rests : open_work hand.view ≡ []
   pub locked_is : hand.view.actor.locked ≡ locked
   pub returned : HasBack hand locked
+  pub no_lists : heap.layout.immortal_lists ≡ 0
 
 -- The hand was just given out: it has done nothing yet, and holds one reference, to the root.
 pub record IsFresh (heap : TableState) (hand : HandState) : Type 0 where
@@ -28,6 +29,7 @@ pub record IsFresh (heap : TableState) (hand : HandState) : Type 0 where
   pub aside : hand.view.actor.aside ≡ []
   pub references : hand.view.references ≡ root_row ∷ []
   pub unlocked : hand.view.actor.locked ≡ None
+  pub no_lists : heap.layout.immortal_lists ≡ 0
 
 -- a fact that a struct can keep
 pub fresh-prop : (heap : TableState) (hand : HandState) → IsProp (IsFresh heap hand)

@@ -3,6 +3,7 @@
 ghost use Rattle.std.specs.Prelude.{◌≡◌, ◌<◌, ◌≤◌, ◌+◌, ◌^◌, true, None, Some, [], ◌∷◌, if◌then◌else◌};
 ghost use Rattle.brc_model.specs.Duties.{resources_of};
 ghost use Rattle.brc_model.specs.Layout.{root_row, IsCounted};
+ghost use Rattle.brc_model.specs.Limits.{text_cells};
 ghost use Rattle.brc_heap.specs.Calls.{IsBornWith, kind_word};
 ghost use Rattle.brc_table.specs.Hands.{IsOf};
 ghost use Rattle.brc_table.specs.Homes.{resources};
@@ -18,7 +19,7 @@ use brc_queue::Queue;
 use std::sync::Wait;
 
 /// Gives birth to an object, if there is room. Returns its row.
-#[tactic(auto, using(crate::proofs::Resting::rests_after_birth, crate::proofs::Counting::tells_more, crate::proofs::Counting::tells_whole))]
+#[tactic(auto, using(crate::proofs::Resting::rests_after_birth, crate::proofs::Counting::tells_more, crate::proofs::Counting::tells_whole, crate::proofs::PlainModules::born_in_more))]
 pub fn bears(
     heap: &Heap<FakeResource>,
     hand: &mut Hand<FakeResource>,
@@ -30,11 +31,12 @@ pub fn bears(
     requires resting { IsResting heap.now hand.old None }
     requires tells { Tells ledger.old hand.old.view.references }
     requires few { ledger.old.total + 1 < 2 ^ 32 }
-    requires kind { IsBornWith kind arg }
+    requires kind { IsBornWith text_cells kind arg }
     requires resource { resources resource ≡ resources_of (kind_word kind arg) }
     ensures resting { IsResting heap.now hand.new None }
     ensures tells { Tells ledger.new hand.new.view.references }
 {
+    heap.words().layout_is_plain();
     if !heap.room(hand) {
         return None;
     }
@@ -60,7 +62,6 @@ pub fn retains(
     if row == 0 || ledger.count(row) == 0 {
         return false;
     }
-    heap.words().layout_is_plain();
     heap.retain(hand, row);
     ledger.more(row);
     true
@@ -87,7 +88,6 @@ pub fn gives_up<R: Wait>(
     if row == 0 || ledger.count(row) == 0 {
         return None;
     }
-    heap.words().layout_is_plain();
     ledger.less(row);
     let finaliser = Finaliser::new(heap, posts);
     finaliser.release(rt, hand, row);

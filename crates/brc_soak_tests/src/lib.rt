@@ -9,6 +9,8 @@ mod ledger;
 #[cfg(test)]
 mod log;
 #[cfg(test)]
+mod modules;
+#[cfg(test)]
 mod posts;
 #[cfg(test)]
 mod recount;

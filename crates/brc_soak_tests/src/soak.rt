@@ -3,11 +3,11 @@
 ghost use Rattle.std.specs.Prelude.{◌≡◌, ◌≤◌, ◌<◌, IfOk, OnOk, None, [], ◌∷◌};
 ghost use Rattle.brc_model.specs.Layout.{root_row};
 ghost use Rattle.brc_table.specs.Hands.{IsOf};
-ghost use Rattle.brc_table.specs.Opening.{plain_layout};
 ghost use Rattle.brc_soak_tests.specs.Ready.{IsFresh, IsResting};
 
 use crate::ledger::ROWS;
 use crate::log::{CELLS, Log};
+use crate::modules::plain_module;
 use crate::recount::Recount;
 use crate::worker::{Worker, works};
 use brc_heap::{Final, Hand, Heap, ROOT};
@@ -234,12 +234,14 @@ fn compared(end: &Final<FakeResource>, log: &Log) -> Soaked {
 
 /// Lets eight workers make random calls from this seed on, and leave. Returns what they have come to, or `None` if a
 /// thread couldn't leave.
+#[tactic(auto, using(crate::proofs::PlainModules::has_no_lines, crate::proofs::PlainModules::has_no_lists))]
 pub fn soak<R: Threads + Wait + Sync>(
     rt: &R,
     alloc: Global,
     seed: u64,
 ) -> Result<Option<Soaked>, Fail> {
-    let (heap, mut main) = Heap::new(alloc, WORKERS, 8)?;
+    let plain = plain_module(alloc);
+    let (heap, mut main) = Heap::new(alloc, WORKERS, 8, &plain)?;
     let workers = workers_of(alloc, &heap, &mut main, seed)?;
     let all = Mutex::new(Log::new());
     all_work(rt, workers, &all)?;

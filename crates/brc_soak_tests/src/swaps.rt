@@ -96,7 +96,6 @@ fn takes_out(
     ensures held { 1 ≤ holds hand.new.view list }
     ensures tells { Tells ledger.new hand.new.view.references }
 {
-    heap.words().layout_is_plain();
     let found = Lists::new(heap).swap_item(hand, list, cell, None);
     counts_found(ledger, found);
     found
@@ -124,7 +123,6 @@ fn puts_in(
     ensures held { 1 ≤ holds hand.new.view list }
     ensures tells { Tells ledger.new hand.new.view.references }
 {
-    heap.words().layout_is_plain();
     ledger.less(item);
     let found = Lists::new(heap).swap_item(hand, list, cell, Some(item));
     counts_found(ledger, found);
@@ -181,7 +179,6 @@ pub fn swaps(
     if list == 0 || ledger.count(list) == 0 {
         return Swapped::NotHeld;
     }
-    heap.words().layout_is_plain();
     if !locks(heap, hand, list) {
         return Swapped::Busy;
     }

@@ -29,6 +29,7 @@ use Rattle.brc_model.specs.Accounts.{Accounts}
 use Rattle.brc_model.specs.Counting.{Counts}
 use Rattle.brc_model.specs.CountingLaws.{CountsAgree, CellsHold, over_threads}
 use Rattle.brc_model.specs.CountingLaws as laws
+use Rattle.brc_table.specs.Plan.{Plan}
 use Rattle.brc_table.specs.declared.view.View.{View}
 use Rattle.brc_table.specs.Views.{holds, open_work}
 use Rattle.brc_table.specs.Rule.{Stands}
@@ -134,7 +135,7 @@ there_is (a ∷ rest) (suc t) low = there_is rest t (omega (arith, low))
 abbrev work_of : (Duty → ℕ) → Actor → ℕ
 work_of f a = sum_by f a.agenda + sum_by f a.aside
 
-module _ (layout : Layout) (words : List ℕ) (views : List View) (s : Stands layout words views) where
+module _ (plan : Plan) (words : List ℕ) (views : List View) (s : Stands plan words views) where
   abbrev m : Machine
   m = s.machine
 
@@ -235,7 +236,7 @@ module _ (layout : Layout) (words : List ℕ) (views : List View) (s : Stands la
   -- A duty of one of the machine's threads is a duty of its hand.
   hand_has : (t : ℕ) (is_such : Duty → Bool) → HasDuty m t is_such
       → (has : SomeHandHas views is_such) × (has.view.thread ≡ t)
-  hand_has t is_such duty = elim (thread_is layout words views s t duty.actor duty.found) [
+  hand_has t is_such duty = elim (thread_is plan words views s t duty.actor duty.found) [
     | inl hand ↦ (
       record {
         id = hand.0.id;
@@ -253,7 +254,7 @@ module _ (layout : Layout) (words : List ℕ) (views : List View) (s : Stands la
 
   -- What the machine says of a local count the words say.
   counted_so : (x : ℕ) → m.memory (Local x) ≡ local_at words x → model.IsCountedLocally m x
-      → IsCountedLocally layout words x
+      → IsCountedLocally plan.layout words x
   counted_so x local says = record {
     owner = ap owner_part (sym local) ∙ (says.owner ∙ ap (λ (l : Layout). block_of l x + 1) s.layout_is);
     counted = subst (λ (w : ℕ). 1 ≤ local_part w) local says.counted;
@@ -272,14 +273,14 @@ module _ (layout : Layout) (words : List ℕ) (views : List View) (s : Stands la
   -- What it says of a default object is so of the words and the hands.
   default_so : (x : ℕ) → m.memory (Local x) ≡ local_at words x
       → model.IsCountedLocally m x ⊎ SomeThreadHas m (decides_or_merges x)
-      → IsCountedLocally layout words x ⊎ SomeHandHas views (decides_or_merges x)
+      → IsCountedLocally plan.layout words x ⊎ SomeHandHas views (decides_or_merges x)
   default_so x local (inl counted) = inl (counted_so x local counted)
   default_so x local (inr duty) = inr (hand_has duty.0 (decides_or_merges x) duty.1).0
 
   -- What it says of a queued one, too.
   queued_so : (x : ℕ) → m.memory (Local x) ≡ local_at words x
       → model.IsCountedLocally m x ⊎ OwnerHas m x (decides_or_merges x) ⊎ SomeThreadHas m (has_swapped x)
-      → IsCountedLocally layout words x ⊎ OwnersHandHas words views x (decides_or_merges x)
+      → IsCountedLocally plan.layout words x ⊎ OwnersHandHas words views x (decides_or_merges x)
       ⊎ SomeHandHas views (has_swapped x)
   queued_so x local (inl counted) = inl (counted_so x local counted)
   queued_so x local (inr (inl owner)) = inr (inl (owner_so x (decides_or_merges x) local owner))
@@ -299,16 +300,16 @@ module _ (layout : Layout) (words : List ℕ) (views : List View) (s : Stands la
 
   -- So nobody has one, and none is given up.
   dead_so : CellsHold → (x : ℕ) → IsCounted m.layout x → x < row_count m.layout → IsDeadGate (gate_at words x)
-      → IsFreeOf layout words views x
+      → IsFreeOf plan.layout words views x
   dead_so hold x counted there says =
       let gate : m.memory (Gate x) ≡ gate_at words x = s.reads (Gate x) there in
       let dead = dead_row s.accounts threads m x s.counts.kept.core counted (subst IsDeadGate (sym gate) says) in
       let refs = references hold x counted in
-      let cells : in_cells m.layout words x ≡ in_cells layout words x =
+      let cells : in_cells m.layout words x ≡ in_cells plan.layout words x =
       ap (λ (l : Layout). in_cells l words x) s.layout_is in
       let made = none_made x dead in
-      let mark : mark_of m.layout m.memory x ≡ row_mark layout words x =
-      mark_reads layout words views s x there ∙ ap (λ (l : Layout). row_mark l words x) s.layout_is in
+      let mark : mark_of m.layout m.memory x ≡ row_mark plan.layout words x =
+      mark_reads plan words views s x there ∙ ap (λ (l : Layout). row_mark l words x) s.layout_is in
       record {
         unlisted = omega (arith, refs, made, dead.row.references);
         unnamed = omega (arith, refs, made, dead.row.references, cells);
@@ -320,9 +321,10 @@ module _ (layout : Layout) (words : List ℕ) (views : List View) (s : Stands la
 -- ---- agreement
 
 -- The words and the hands of a table agree about each counted object.
-pub agrees_in_table : CountsAgree → CellsHold → (layout : Layout) (words : List ℕ) (views : List View) (x : ℕ)
-    → Stands layout words views → IsCounted layout x → x < row_count layout → AgreesInTable layout words views x
-agrees_in_table law hold layout words views x s is there =
+pub agrees_in_table : CountsAgree → CellsHold → (plan : Plan) (words : List ℕ) (views : List View) (x : ℕ)
+    → Stands plan words views → IsCounted plan.layout x → x < row_count plan.layout
+    → AgreesInTable plan.layout words views x
+agrees_in_table law hold plan words views x s is there =
     let m = s.machine in
     let is' : IsCounted m.layout x = subst (λ (l : Layout). IsCounted l x) (sym s.layout_is) is in
     let there' : x < row_count m.layout = subst (λ (l : Layout). x < row_count l) (sym s.layout_is) there in
@@ -330,17 +332,18 @@ agrees_in_table law hold layout words views x s is there =
     row_says law s.accounts (1 + m.layout.workers) m x s.counts is' (m.life x) refl (s.counts.kept.core.rows x is') in
     let local : m.memory (Local x) ≡ local_at words x = s.reads (Local x) there' in
     let shared : m.memory (Shared x) ≡ shared_at words x = s.reads (Shared x) there' in
-    let mark : mark_of m.layout m.memory x ≡ row_mark layout words x =
-    mark_reads layout words views s x there' ∙ ap (λ (l : Layout). row_mark l words x) s.layout_is in
+    let mark : mark_of m.layout m.memory x ≡ row_mark plan.layout words x =
+    mark_reads plan words views s x there' ∙ ap (λ (l : Layout). row_mark l words x) s.layout_is in
     let phase = ap phase_part shared in
     let biased = ap biased_part shared in
-    let carried = work layout words views s (carries x) in
-    let awaited = work layout words views s (awaits x) in
-    let refs = references layout words views s hold x is' in
-    let cells : in_cells m.layout words x ≡ in_cells layout words x =
+    let carried = work plan words views s (carries x) in
+    let awaited = work plan words views s (awaits x) in
+    let refs = references plan words views s hold x is' in
+    let cells : in_cells m.layout words x ≡ in_cells plan.layout words x =
     ap (λ (l : Layout). in_cells l words x) s.layout_is in
-    let awaits_is : awaiting m x ≡ pending layout words views x = omega (arith, mark, awaited) in
-    let in_use : IsInUse layout words views x → 1 ≤ uses m x = λ used. omega (arith, used, refs, cells, awaits_is) in
+    let awaits_is : awaiting m x ≡ pending plan.layout words views x = omega (arith, mark, awaited) in
+    let in_use : IsInUse plan.layout words views x → 1 ≤ uses m x = λ used. omega (arith, used, refs, cells, awaits_is)
+    in
     record {
       total = omega (arith, says.total, ap local_part local, biased, carried, refs, cells, awaits_is);
       one_pending = omega (arith, says.one_pending, awaits_is);
@@ -351,8 +354,8 @@ agrees_in_table law hold layout words views x s is there =
       merged_counts = λ used e. omega (arith, says.merged_counts (in_use used) (phase ∙ e), biased);
       phase = λ used. subst IsPhase phase (says.phase (in_use used));
       default_local = λ used e.
-          default_so layout words views s x local (says.default_local (in_use used) (phase ∙ e));
+          default_so plan words views s x local (says.default_local (in_use used) (phase ∙ e));
       queued_local = λ used e.
-          queued_so layout words views s x local (says.queued_local (in_use used) (phase ∙ e));
-      dead_free = dead_so layout words views s hold x is' there';
+          queued_so plan words views s x local (says.queued_local (in_use used) (phase ∙ e));
+      dead_free = dead_so plan words views s hold x is' there';
     }

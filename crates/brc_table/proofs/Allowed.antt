@@ -12,23 +12,26 @@ use Rattle.brc_model.specs.declared.duty.Reason.TheVariants.{Handed}
 use Rattle.brc_model.specs.declared.actor.Status.TheVariants.{Gone}
 use Rattle.brc_model.specs.declared.address.Address.TheVariants.{KindOf, Slot}
 use Rattle.brc_model.specs.declared.layout.Layout.{Layout}
+use Rattle.brc_model.specs.FirstRows.{first_kind_word}
 use Rattle.brc_model.specs.Layout.{row_count}
 use Rattle.brc_model.specs.Duties.{address_of, new_word, resources_of}
 use Rattle.brc_model.specs.Machine.{is_running}
 use Rattle.brc_model.specs.Within.{Suits, FindsOwner}
 use Rattle.brc_model.specs.SlotLaws.{Stays, Gives, use_of}
 use Rattle.brc_model.specs.Stores.{Overwrites}
+use Rattle.brc_table.specs.Plan.{Plan}
 use Rattle.brc_table.specs.ModelLaws.{ModelLaws}
 use Rattle.brc_table.specs.declared.view.View.{View}
 use Rattle.brc_table.specs.Views.{event_of, view_by, taken_after, holds, RowsAreThere}
 use Rattle.brc_table.specs.Rule.{Stands}
 use Rattle.brc_table.specs.Homes.{SlotsStand, TableStands}
-use Rattle.brc_table.specs.Plays.{FindsKnown}
-use Rattle.brc_table.specs.Hands.{TableState, HandState}
+use Rattle.brc_table.specs.Plays.{FindsKnown, FindsFirst}
+use Rattle.brc_table.specs.Hands.{TableState, HandState, plan_of}
 use Rattle.brc_table.specs.Begins.{Passes, Becomes}
 use Rattle.brc_table.specs.Places.{HasWord, place, IsObjectWord, IsTableWord}
 use Rattle.brc_table.proofs.Changing.{taken_same, locked_same}
 use Rattle.brc_table.proofs.CellGuards.{change_guards}
+use Rattle.brc_table.proofs.FewRows.{few_first}
 use Rattle.brc_table.proofs.Lists.{set_view}
 use Rattle.brc_table.proofs.ThreadsKept.{KeepsThreads, object_step}
 use Rattle.brc_table.proofs.Stepping.{Does, place_of, read_of, finds, has, relies, passes_after, object_in_table, object_reads}
@@ -39,12 +42,13 @@ use Rattle.brc_table.proofs.SlotsUsed.{lock_stays, used_left}
 
 -- ---- a step
 
--- What a hand knows of what it finds at its first duty.
-pub record Knows (v : View) (d : Duty) (found : ℕ) : Type 0 where
+-- What a hand knows of what it finds at its first duty, in a table with these lines of immortal lists.
+pub record Knows (lines : List (List ℕ)) (v : View) (d : Duty) (found : ℕ) : Type 0 where
   pub suits : Suits v.thread (is_running v.actor.status) (row_count v.layout) d found
   pub overwrites : Overwrites v.thread d found
   pub owner : FindsOwner v.layout d found
   pub finds : FindsKnown v (d ∷ []) found
+  pub first : FindsFirst lines v (d ∷ []) found
 
 -- If the hand has locked the object whose kind word it loads, the object's slot holds a resource exactly if the kind
 -- has one.
@@ -52,40 +56,50 @@ abbrev SlotTells : View → Duty → ℕ → Type 0
 SlotTells v (KindLoad x) found = v.actor.locked ≡ Some x → v.in_slot ≡ resources_of found
 SlotTells v _ found = Unit {0}
 
-slot_tells : ModelLaws → {T : Type 0} (layout : Layout) (s : State (Option T) View)
-    (table : TableStands layout s.words s.homes s.views) (id : ℕ) (v u : View) → get_elem? s.views id ≡ some v
-    → Becomes layout v u → (d : Duty) → HasWord table.stands.machine.layout
+slot_tells : ModelLaws → {T : Type 0} (plan : Plan) (s : State (Option T) View)
+    (table : TableStands plan s.words s.homes s.views) (id : ℕ) (v u : View) → get_elem? s.views id ≡ some v
+    → Becomes plan v u → (d : Duty) → HasWord table.stands.machine.layout
     (address_of u.layout u.thread u.actor.head d)
     → SlotTells u d (read_of u d (slice_index s.words (place_of u d)))
-slot_tells laws layout s table id v u here becomes (KindLoad x) there = λ locked.
+slot_tells laws plan s table id v u here becomes (KindLoad x) there = λ locked.
     let mine : v.actor.locked ≡ Some x = sym (locked_same becomes) ∙ locked in
     becomes.in_slot x mine
-    ∙ (slot_full laws.full layout s.words s.homes s.views table id x v here mine
+    ∙ (slot_full laws.full plan s.words s.homes s.views table id x v here mine
     ∙ ap resources_of (table.stands.reads (KindOf x) there))
-slot_tells laws layout s table id v u here becomes _ there = tt
+slot_tells laws plan s table id v u here becomes _ there = tt
 
 -- The hand's first duty finds what the hand knows of it.
-finds_known : ModelLaws → (layout : Layout) (words : List ℕ) (views : List View) (id : ℕ) (v : View) (d : Duty)
-    (found : ℕ) (stands : Stands layout words views) → get_elem? views id ≡ some v → (rest : List Duty)
+finds_known : ModelLaws → (plan : Plan) (words : List ℕ) (views : List View) (id : ℕ) (v : View) (d : Duty)
+    (found : ℕ) (stands : Stands plan words views) → get_elem? views id ≡ some v → (rest : List Duty)
     → v.actor.agenda ≡ d ∷ rest → v.actor.status ≢ Gone
     → stands.machine.memory (address_of v.layout v.thread v.actor.head d) ≡ found → SlotTells v d found
     → FindsKnown v (d ∷ []) found
-finds_known laws layout words views id v (KindLoad x) found stands here rest agenda alive is tells = (
+finds_known laws plan words views id v (KindLoad x) found stands here rest agenda alive is tells = (
   λ word some seen. sym is ∙ stands.kinds_seen id x word v here some seen,
   tells,
-  λ none. sym is ∙ (ap (λ (y : ℕ). stands.machine.memory (KindOf y)) none ∙ stands.named),
 )
-finds_known laws layout words views id v (CellLoad x i) found stands here rest agenda alive is tells =
+finds_known laws plan words views id v (CellLoad x i) found stands here rest agenda alive is tells =
     λ word changes seen.
     sym is
-    ∙ stands.cells_seen id x i word v here (change_guards laws.chains layout words views id v x stands here changes)
+    ∙ stands.cells_seen id x i word v here (change_guards laws.chains plan words views id v x stands here changes)
     seen
-finds_known laws layout words views id v (MergeExchange x c w Handed) found stands here rest agenda alive is tells =
+finds_known laws plan words views id v (MergeExchange x c w Handed) found stands here rest agenda alive is tells =
     λ same.
     laws.handed stands.accounts (1 + stands.machine.layout.workers) stands.machine v.thread v.actor x c w rest
     stands.counts
     (record { found = stands.acts id v here; agenda = agenda; alive = alive }) (is ∙ same)
-finds_known laws layout words views id v _ found stands here rest agenda alive is tells = tt
+finds_known laws plan words views id v _ found stands here rest agenda alive is tells = tt
+
+-- A kind word of a row that was there from the start is the row's first one.
+finds_first : (plan : Plan) (words : List ℕ) (views : List View) (id : ℕ) (v : View) (d : Duty) (found : ℕ)
+    (stands : Stands plan words views) → get_elem? views id ≡ some v
+    → stands.machine.memory (address_of v.layout v.thread v.actor.head d) ≡ found
+    → FindsFirst plan.lines v (d ∷ []) found
+finds_first plan words views id v (KindLoad x) found stands here is =
+    subst
+    (λ (l : Layout). 0 < first_kind_word plan.lines l x → found ≡ first_kind_word plan.lines l x)
+    (sym (stands.told id v here ∙ stands.layout_is)) (λ some. sym is ∙ stands.named x some)
+finds_first plan words views id v _ found stands here is = tt
 
 -- The hand's first duty is about the word at this place.
 pub record IsNextAt (v : View) (d : Duty) (rest : List Duty) (index : ℕ) : Type 0 where
@@ -94,19 +108,19 @@ pub record IsNextAt (v : View) (d : Duty) (rest : List Duty) (index : ℕ) : Typ
   pub word : IsTableWord (address_of v.layout v.thread v.actor.head d)
   pub index_is : index ≡ place v.layout (address_of v.layout v.thread v.actor.head d)
 
-module _ (laws : ModelLaws) (layout : Layout) (v u : View)
-    (d : Duty) (rest : List Duty) (index : ℕ) (becomes : Becomes layout v u) (next : IsNextAt u d rest index) where
-  knows : (words : List ℕ) (views : List View) (id : ℕ) → Does layout words views id u d rest
+module _ (laws : ModelLaws) (plan : Plan) (v u : View)
+    (d : Duty) (rest : List Duty) (index : ℕ) (becomes : Becomes plan v u) (next : IsNextAt u d rest index) where
+  knows : (words : List ℕ) (views : List View) (id : ℕ) → Does plan words views id u d rest
       → SlotTells u d (read_of u d (slice_index words (place_of u d)))
-      → Knows u d (read_of u d (slice_index words (place_of u d)))
+      → Knows plan.lines u d (read_of u d (slice_index words (place_of u d)))
   knows words views id does tells =
       let m = does.stands.machine in
       let told = does.stands.told id u does.here in
-      let relied = relies laws.kept laws.within laws.guarded layout words views id u d rest does in
+      let relied = relies laws.kept laws.within laws.guarded plan words views id u d rest does in
       let found = read_of u d (slice_index words (place_of u d)) in
       let seen : m.memory (address_of m.layout u.thread u.actor.head d) ≡ found =
       subst (λ (l : Layout). m.memory (address_of l u.thread u.actor.head d) ≡ found) told
-      (finds laws.kept laws.within laws.guarded layout words views id u d rest does) in
+      (finds laws.kept laws.within laws.guarded plan words views id u d rest does) in
       record {
         suits =
             subst (λ (l : Layout). Suits u.thread (is_running u.actor.status) (row_count l) d found) (sym told)
@@ -116,27 +130,30 @@ module _ (laws : ModelLaws) (layout : Layout) (v u : View)
             subst (λ (l : Layout). FindsOwner l d found) (sym told)
             (subst (λ (k : ℕ). FindsOwner m.layout d k) seen relied.owner);
         finds =
-            finds_known laws layout words views id u d found does.stands does.here rest does.agenda does.alive
-            (finds laws.kept laws.within laws.guarded layout words views id u d rest does) tells;
+            finds_known laws plan words views id u d found does.stands does.here rest does.agenda does.alive
+            (finds laws.kept laws.within laws.guarded plan words views id u d rest does) tells;
+        first =
+            finds_first plan words views id u d found does.stands does.here
+            (finds laws.kept laws.within laws.guarded plan words views id u d rest does);
       }
 
   -- What a table asks of the word that the step leaves. The word that it finds is one of 64 bits.
   abbrev pub LeavesWord : (ℕ → ℕ) → Type 0
   LeavesWord f =
-      ((found : ℕ) → found < 2 ^ 64 → Knows u d (read_of u d found)
+      ((found : ℕ) → found < 2 ^ 64 → Knows plan.lines u d (read_of u d found)
       → read_of u d (f found) ≡ new_word u.layout u.thread u.actor.head d (read_of u d found))
-      × ((words : List ℕ) (views : List View) (id : ℕ) (does : Does layout words views id u d rest)
+      × ((words : List ℕ) (views : List View) (id : ℕ) (does : Does plan words views id u d rest)
       → slice_index words (place_of u d) < 2 ^ 64
       → KeepsThreads does.stands.machine.layout words
       (set words (place_of u d) (f (slice_index words (place_of u d)))) u
       (view_by u (d ∷ rest) (read_of u d (slice_index words (place_of u d)))))
 
-  module _ {T : Type 0} (s : State (Option T) View) (holds : TableStands layout s.words s.homes s.views) (id : ℕ)
+  module _ {T : Type 0} (s : State (Option T) View) (holds : TableStands plan s.words s.homes s.views) (id : ℕ)
       (here : get_elem? s.views id ≡ some v) where
-    abbrev pub first : Passes layout s.words (set s.views id u) v.taken v.actor.locked holds.stands.machine
+    abbrev pub first : Passes plan s.words (set s.views id u) v.taken v.actor.locked holds.stands.machine
     first = becomes.passes s.words s.views id holds.stands here
 
-    abbrev pub does : Does layout s.words (set s.views id u) id u d rest
+    abbrev pub does : Does plan s.words (set s.views id u) id u d rest
     does = record {
       stands = first.stands;
       here = set_view s.views id v u here;
@@ -156,14 +173,14 @@ module _ (laws : ModelLaws) (layout : Layout) (v u : View)
     abbrev pub w : View
     w = view_by u (d ∷ rest) (read_of u d word)
 
-    pub known : Knows u d (read_of u d word)
+    pub known : Knows plan.lines u d (read_of u d word)
     known =
         let machine = first.stands.layout_is ∙ sym holds.stands.layout_is in
-        subst (λ (k : ℕ). Knows u d (read_of u d k)) same
+        subst (λ (k : ℕ). Knows plan.lines u d (read_of u d k)) same
         (knows s.words (set s.views id u) id does
-        (slot_tells laws layout s holds id v u here becomes d
+        (slot_tells laws plan s holds id v u here becomes d
         (subst (λ (l : Layout). HasWord l (address_of u.layout u.thread u.actor.head d)) machine
-        (has laws.kept laws.within laws.guarded layout s.words (set s.views id u) id u d rest does))))
+        (has laws.kept laws.within laws.guarded plan s.words (set s.views id u) id u d rest does))))
 
     -- The machine has what the step finds.
     pub finds_word : first.stands.machine.memory (address_of first.stands.machine.layout u.thread u.actor.head d)
@@ -171,39 +188,39 @@ module _ (laws : ModelLaws) (layout : Layout) (v u : View)
     finds_word =
         subst (λ (l : Layout). first.stands.machine.memory (address_of l u.thread u.actor.head d) ≡ read_of u d word)
         (first.stands.told id u (set_view s.views id v u here))
-        (finds laws.kept laws.within laws.guarded layout s.words (set s.views id u) id u d rest does
+        (finds laws.kept laws.within laws.guarded plan s.words (set s.views id u) id u d rest does
         ∙ ap (read_of u d) same)
 
     module _ (f : ℕ → ℕ) (leaves : LeavesWord f) (small : word < 2 ^ 64) where
-      after : Passes layout (set s.words (place_of u d) (f word))
+      after : Passes plan (set s.words (place_of u d) (f word))
           (set (set s.views id u) id (view_by u (d ∷ rest) (read_of u d (slice_index s.words (place_of u d))))) [] None
           first.stands.machine
       after =
-          passes_after laws.kept laws.within laws.guarded layout s.words (set s.views id u) id u d rest does (f word)
+          passes_after laws.kept laws.within laws.guarded plan s.words (set s.views id u) id u d rest does (f word)
           (leaves.0 word small known
           ∙ ap (λ (k : ℕ). new_word u.layout u.thread u.actor.head d (read_of u d k)) (sym same))
           (subst (λ (k : ℕ). KeepsThreads does.stands.machine.layout s.words (set s.words (place_of u d) (f k)) u
           (view_by u (d ∷ rest) (read_of u d (slice_index s.words (place_of u d))))) same
           (leaves.1 s.words (set s.views id u) id does (subst (λ (k : ℕ). k < 2 ^ 64) (sym same) small)))
 
-      moved : Passes layout (set s.words index (f word)) (set s.views id w) [] None first.stands.machine
+      moved : Passes plan (set s.words index (f word)) (set s.views id w) [] None first.stands.machine
       moved =
-          subst (λ (l : List View). Passes layout (set s.words index (f word)) l [] None first.stands.machine)
+          subst (λ (l : List View). Passes plan (set s.words index (f word)) l [] None first.stands.machine)
           (set-set s.views id u w)
-          (subst (λ (k : ℕ). Passes layout (set s.words index (f word))
+          (subst (λ (k : ℕ). Passes plan (set s.words index (f word))
           (set (set s.views id u) id (view_by u (d ∷ rest) (read_of u d k))) [] None first.stands.machine) same
-          (subst (λ (i : ℕ). Passes layout (set s.words i (f word))
+          (subst (λ (i : ℕ). Passes plan (set s.words i (f word))
           (set (set s.views id u) id (view_by u (d ∷ rest) (read_of u d (slice_index s.words (place_of u d))))) [] None
           first.stands.machine) (sym next.index_is) after))
 
-      pub now : Passes layout (set s.words index (f word)) (set s.views id w) v.taken v.actor.locked
+      pub now : Passes plan (set s.words index (f word)) (set s.views id w) v.taken v.actor.locked
           holds.stands.machine
       now =
           record { stands = moved.stands; slots = λ x which. moved.slots x (inl refl) ∙ first.slots x which }
 
       pub rows_now : RowsAreThere w
       rows_now =
-          rows_there laws.accounts laws.chains layout (set s.words index (f word)) (set s.views id w) id w now.stands
+          rows_there laws.accounts laws.chains plan (set s.words index (f word)) (set s.views id w) id w now.stands
           (set_view s.views id v w here)
 
       -- The step itself changes no slot.
@@ -235,9 +252,10 @@ module _ (laws : ModelLaws) (layout : Layout) (v u : View)
   pub allows : {T : Type 0} (slots id : ℕ) (me : Me (Option T) View) (f : ℕ → ℕ)
       (then : ℕ → Me (Option T) View → Type 0)
       → me.0 ≡ v → ((found : ℕ) → use_of d found ≡ Stays) → LeavesWord f
-      → ((found : ℕ) → Knows u d (read_of u d found) → RowsAreThere (view_by u (d ∷ rest) (read_of u d found))
+      → ((found : ℕ) → Knows plan.lines u d (read_of u d found)
+      → RowsAreThere (view_by u (d ∷ rest) (read_of u d found))
       → then found (view_by u (d ∷ rest) (read_of u d found), me.1))
-      → Allows (λ (s : State (Option T) View). TableStands layout s.words s.homes s.views) slots id me index f then
+      → Allows (λ (s : State (Option T) View). TableStands plan s.words s.homes s.views) slots id me index f then
   allows slots id me f then is_me stays leaves goes s holds homes here below =
       let mine = here ∙ ap some is_me in (
         w s holds id mine,
@@ -268,18 +286,19 @@ object_next v d rest index is_at = record {
   index_is = is_at.index_is;
 }
 
-module _ (laws : ModelLaws) (layout : Layout) (v u : View)
-    (d : Duty) (rest : List Duty) (index : ℕ) (becomes : Becomes layout v u) (is_at : IsAt u d rest index) where
+module _ (laws : ModelLaws) (plan : Plan) (v u : View)
+    (d : Duty) (rest : List Duty) (index : ℕ) (becomes : Becomes plan v u) (is_at : IsAt u d rest index) where
   -- An object's word says what it is.
   pub itself : (word : ℕ) → read_of u d word ≡ word
   itself word = object_reads (address_of u.layout u.thread u.actor.head d) word is_at.object
 
   pub object_leaves : (f : ℕ → ℕ)
-      → ((found : ℕ) → found < 2 ^ 64 → Knows u d found → f found ≡ new_word u.layout u.thread u.actor.head d found)
-      → LeavesWord laws layout v u d rest index becomes (object_next u d rest index is_at) f
+      → ((found : ℕ) → found < 2 ^ 64 → Knows plan.lines u d found
+      → f found ≡ new_word u.layout u.thread u.actor.head d found)
+      → LeavesWord laws plan v u d rest index becomes (object_next u d rest index is_at) f
   object_leaves f leaves = (
     λ found small known.
-        itself (f found) ∙ (leaves found small (subst (Knows u d) (itself found) known)
+        itself (f found) ∙ (leaves found small (subst (Knows plan.lines u d) (itself found) known)
         ∙ ap (new_word u.layout u.thread u.actor.head d) (sym (itself found))),
     λ words views i does small.
         let m = does.stands.machine in
@@ -288,28 +307,28 @@ module _ (laws : ModelLaws) (layout : Layout) (v u : View)
         subst (λ (l : Layout). KeepsThreads m.layout words (set words (place l at) (f raw)) u
         (view_by u (d ∷ rest) (read_of u d raw))) (sym (does.stands.told i u does.here))
         (object_step m.layout words u (view_by u (d ∷ rest) (read_of u d raw)) (event_of u d (read_of u d raw)) (f raw)
-        does.stands.plain
+        does.stands.plain (few_first does.stands.accounts (1 + m.layout.workers) m does.stands.counts)
         (omega (
           arith,
           slice_get_within m.actors u.thread u.actor (does.stands.acts i u does.here),
           does.stands.counts.kept.core.threads,
         ))
         (record { thread = refl; given = refl; trace = refl }) is_at.object
-        (has laws.kept laws.within laws.guarded layout words views i u d rest does)),
+        (has laws.kept laws.within laws.guarded plan words views i u d rest does)),
   )
 
 -- ---- what a call knows
 
 -- What contracts see of the table and the hand is what the table's code has.
-pub record Seen {S : Type 0} (words : TableState) (hand : HandState) (layout : Layout) (me : Me S View) : Type 0 where
-  pub layout_is : layout ≡ words.layout
+pub record Seen {S : Type 0} (words : TableState) (hand : HandState) (plan : Plan) (me : Me S View) : Type 0 where
+  pub plan_is : plan ≡ plan_of words
   pub view_is : me.0 ≡ hand.view
 
 module _ (laws : ModelLaws) (words : TableState)
-    (hand : HandState) (begins : View → View) {T : Type 0} (layout : Layout) (slots id index : ℕ)
-    (me : Me (Option T) View) (seen : Seen words hand layout me)
-    (becomes : Becomes words.layout hand.view (begins hand.view)) where
-  pub becomes_here : Becomes layout me.0 (begins me.0)
+    (hand : HandState) (begins : View → View) {T : Type 0} (plan : Plan) (slots id index : ℕ)
+    (me : Me (Option T) View) (seen : Seen words hand plan me)
+    (becomes : Becomes (plan_of words) hand.view (begins hand.view)) where
+  pub becomes_here : Becomes plan me.0 (begins me.0)
   becomes_here =
-      subst (λ (l : Layout). Becomes l me.0 (begins me.0)) (sym seen.layout_is)
-      (subst (λ (v : View). Becomes words.layout v (begins v)) (sym seen.view_is) becomes)
+      subst (λ (p : Plan). Becomes p me.0 (begins me.0)) (sym seen.plan_is)
+      (subst (λ (v : View). Becomes (plan_of words) v (begins v)) (sym seen.view_is) becomes)

@@ -1,7 +1,7 @@
 -- A hand that has put all its work aside, and what it then has at hand: references, and items that it borrows.
 use Rattle.std.proofs.Common.{◌≡◌, ℕ, suc, ◌+◌, ◌≤◌, true, Option, List, length, inl, inr, refl, sym, ap, ◌∙◌, subst, arith}
 use Rattle.std.specs.Prelude.{◌==◌}
-use Rattle.std.proofs.lemmas.Bool.{cases_Bool, eq-eqb}
+use Rattle.std.proofs.lemmas.Bool.{cases_Bool, eq-eqb, false≢true}
 use Rattle.std.proofs.lemmas.List.Sums.{length-filter}
 use mathlib.Core.Option.{some}
 use lib.ListN.{get_elem?}
@@ -15,28 +15,29 @@ use Rattle.brc_model.specs.Machine.{Machine, with_moves}
 use Rattle.brc_model.specs.Accounts.{Account, HoldsNone}
 use Rattle.brc_model.specs.OpenWork.{is_about}
 use Rattle.brc_model.specs.declared.address.Address.TheVariants.{Slot}
-use Rattle.brc_model.specs.Counting.{with_account, with_one_more, IsReady, HasNoneAbout, IsAtHand}
+use Rattle.brc_model.specs.Counting.{with_account, with_one_more, IsReady, HasNoneAbout, MayGiveUp, IsAtHand}
 use Rattle.brc_model.specs.CountingLaws.{ImmortalsAreFree}
+use Rattle.brc_table.specs.Plan.{Plan}
 use Rattle.brc_table.specs.declared.view.View.{View}
 use Rattle.brc_table.specs.Views.{open_work, rested}
 use Rattle.brc_table.specs.Rule.{Stands}
-use Rattle.brc_table.specs.Hands.{HoldsOne, MayUse, HasNoWork}
+use Rattle.brc_table.specs.Hands.{HoldsOne, KeepsLock, MayUse, HasNoWork}
 use Rattle.brc_table.specs.Begins.{Passes}
 use Rattle.brc_table.proofs.Accounts.{with_account_same, with_account_other, one_more_else, immortal_apart}
 use Rattle.brc_table.proofs.Passing.{passes_on}
 
 -- What is known of a hand that runs and has put all its work aside, with none of it about the row.
-pub record Rests (layout : Layout) (words : List ℕ) (views : List View) (id : ℕ) (v : View) (x : ℕ) : Type 0 where
-  pub stands : Stands layout words views
+pub record Rests (plan : Plan) (words : List ℕ) (views : List View) (id : ℕ) (v : View) (x : ℕ) : Type 0 where
+  pub stands : Stands plan words views
   pub here : get_elem? views id ≡ some (rested v)
   pub running : v.actor.status ≡ Running
   pub free : HasNoWork v x
 
 -- The machine's thread is ready.
-pub is_ready : (layout : Layout) (words : List ℕ) (views : List View) (id : ℕ) (v : View)
-    → (stands : Stands layout words views) → get_elem? views id ≡ some (rested v) → v.actor.status ≡ Running
+pub is_ready : (plan : Plan) (words : List ℕ) (views : List View) (id : ℕ) (v : View)
+    → (stands : Stands plan words views) → get_elem? views id ≡ some (rested v) → v.actor.status ≡ Running
     → IsReady stands.machine v.thread (rested v).actor
-is_ready layout words views id v stands here running =
+is_ready plan words views id v stands here running =
     record { found = stands.acts id (rested v) here; running = running; agenda = refl }
 
 -- None of the thread's work is about the row.
@@ -45,17 +46,23 @@ alone v x free = omega (arith, ap length free, length-filter (is_about x) (open_
 
 -- ---- free references
 
--- The rule holds with accounts in which the thread has a reference to the object.
-pub record HasOne (layout : Layout) (words : List ℕ) (views : List View) (t x : ℕ) (before : Machine) : Type 0 where
-  pub stands : Stands layout words views
+-- The rule holds with accounts in which the thread has this many references to the object, or more.
+pub record HasSome (plan : Plan) (words : List ℕ) (views : List View) (t x least : ℕ) (before : Machine) : Type 0 where
+  pub stands : Stands plan words views
   pub slots : (y : ℕ) → stands.machine.memory (Slot y) ≡ before.memory (Slot y)
-  pub more : 1 ≤ stands.accounts t AsCaller x
+  pub more : least ≤ stands.accounts t AsCaller x
+
+-- In these it has one.
+abbrev pub HasOne : Plan → List ℕ → List View → ℕ → ℕ → Machine → Type 0
+HasOne plan words views t x before = HasSome plan words views t x 1 before
 
 -- The rule holds as well with one reference more to an immortal object: views don't list it, and no word changes.
-gains_one : ImmortalsAreFree → (layout : Layout) (words : List ℕ) (views : List View) (id : ℕ) (v : View) (x : ℕ)
-    → (rests : Rests layout words views id v x) → is_immortal_row v.layout x ≡ true
-    → HasOne layout words views v.thread x rests.stands.machine
-gains_one law layout words views id v x rests immortal =
+gains_one : ImmortalsAreFree → (plan : Plan) (words : List ℕ) (views : List View) (id : ℕ) (v : View) (x : ℕ)
+    (least : ℕ)
+    → (rests : Rests plan words views id v x) → is_immortal_row v.layout x ≡ true
+    → least ≤ rests.stands.accounts v.thread AsCaller x
+    → HasSome plan words views v.thread x (suc least) rests.stands.machine
+gains_one law plan words views id v x least rests immortal enough =
     let old = rests.stands in
     let m = old.machine in
     let p = old.accounts in
@@ -69,16 +76,16 @@ gains_one law layout words views id v x rests immortal =
         machine = with_moves m (gain t AsCaller x);
         counts =
             law p (1 + m.layout.workers) m t (rested v).actor x old.counts
-            (is_ready layout words views id v old rests.here rests.running) (alone v x rests.free) immortal';
+            (is_ready plan words views id v old rests.here rests.running) (alone v x rests.free) immortal';
         layout_is = old.layout_is;
         plain = old.plain;
+        lines = old.lines;
         length_is = old.length_is;
         reads = old.reads;
         acts = old.acts;
         lends_none = old.lends_none;
         told = old.told;
         named = old.named;
-        rooted = old.rooted;
         kinds_seen = old.kinds_seen;
         cells_seen = old.cells_seen;
         holding = λ other w y is counted.
@@ -97,18 +104,19 @@ gains_one law layout words views id v x rests immortal =
       };
       slots = λ y. refl;
       more =
-          subst (λ (a : Account). 1 ≤ a AsCaller x) (sym (with_account_same p t more))
-          (let one : one_if (x == x) ≡ 1 = ap one_if (eq-eqb x x refl) in omega (arith, one));
+          subst (λ (a : Account). suc least ≤ a AsCaller x) (sym (with_account_same p t more))
+          (let one : one_if (x == x) ≡ 1 = ap one_if (eq-eqb x x refl) in omega (arith, one, enough));
     }
 
 -- If the hand holds the object, the rule holds with accounts in which its thread has a reference to it.
-pub has_one : ImmortalsAreFree → (layout : Layout) (words : List ℕ) (views : List View) (id : ℕ) (v : View) (x : ℕ)
-    → (rests : Rests layout words views id v x) → HoldsOne v x
-    → HasOne layout words views v.thread x rests.stands.machine
-has_one law layout words views id v x rests (inl immortal) = gains_one law layout words views id v x rests immortal
-has_one law layout words views id v x rests (inr one) =
+pub has_one : ImmortalsAreFree → (plan : Plan) (words : List ℕ) (views : List View) (id : ℕ) (v : View) (x : ℕ)
+    → (rests : Rests plan words views id v x) → HoldsOne v x
+    → HasOne plan words views v.thread x rests.stands.machine
+has_one law plan words views id v x rests (inl immortal) =
+    gains_one law plan words views id v x 0 rests immortal (omega arith)
+has_one law plan words views id v x rests (inr one) =
     elim (cases_Bool (is_immortal_row v.layout x)) [
-      | inl immortal ↦ gains_one law layout words views id v x rests immortal
+      | inl immortal ↦ gains_one law plan words views id v x 0 rests immortal (omega arith)
       | inr counted ↦
           let old = rests.stands in
           let counted' : IsCounted old.machine.layout x =
@@ -120,31 +128,80 @@ has_one law layout words views id v x rests (inr one) =
           }
     ]
 
+-- The rule holds with accounts in which the thread has a reference to the object that it may give up.
+pub record CanGiveUp (plan : Plan) (words : List ℕ) (views : List View) (v : View) (x : ℕ) (before : Machine)
+    : Type 0 where
+  pub stands : Stands plan words views
+  pub slots : (y : ℕ) → stands.machine.memory (Slot y) ≡ before.memory (Slot y)
+  pub more : 1 ≤ stands.accounts v.thread AsCaller x
+  pub keeps : MayGiveUp (stands.accounts v.thread) (rested v).actor x
+
+-- If the hand holds the object, and keeps a reference to it if it has locked it, the rule holds so. The account gets
+-- two references to an immortal object.
+pub can_give_up : ImmortalsAreFree → (plan : Plan) (words : List ℕ) (views : List View) (id : ℕ) (v : View) (x : ℕ)
+    → (rests : Rests plan words views id v x) → HoldsOne v x → KeepsLock v x
+    → CanGiveUp plan words views v x rests.stands.machine
+can_give_up law plan words views id v x rests holding keeps =
+    elim (cases_Bool (is_immortal_row v.layout x)) [
+      | inl immortal ↦
+          let one = gains_one law plan words views id v x 0 rests immortal (omega arith) in
+          let again : Rests plan words views id v x =
+          record { stands = one.stands; here = rests.here; running = rests.running; free = rests.free } in
+          let two = gains_one law plan words views id v x 1 again immortal one.more in
+          record {
+            stands = two.stands;
+            slots = λ y. two.slots y ∙ one.slots y;
+            more = omega (arith, two.more);
+            keeps = λ e. two.more;
+          }
+      | inr counted ↦
+          let one = has_one law plan words views id v x rests holding in
+          let s = one.stands in
+          let counted' : IsCounted s.machine.layout x =
+          subst (λ (l : Layout). IsCounted l x) (s.told id (rested v) rests.here) counted in
+          record {
+            stands = s;
+            slots = one.slots;
+            more = one.more;
+            keeps = λ e.
+                elim (keeps e) [
+                  | inl immortal ↦ absurd (false≢true (sym counted ∙ immortal))
+                  | inr two ↦ omega (arith, s.holding id (rested v) x rests.here counted', two)
+                ];
+          }
+    ]
+
 -- What is passed on from there is passed on.
-pub with_one : {layout : Layout} {words : List ℕ} {views after : List View} {t x : ℕ} {before : Machine}
-    {taken : List ℕ} {locked : Option ℕ} (one : HasOne layout words views t x before)
-    → Passes layout words after taken locked one.stands.machine → Passes layout words after taken locked before
+pub with_spare : {plan : Plan} {words : List ℕ} {views after : List View} {v : View} {x : ℕ} {before : Machine}
+    {taken : List ℕ} {locked : Option ℕ} (spare : CanGiveUp plan words views v x before)
+    → Passes plan words after taken locked spare.stands.machine → Passes plan words after taken locked before
+with_spare {before = before} spare next = passes_on before spare.stands.machine (λ y which. spare.slots y) next
+
+-- What is passed on from there is passed on.
+pub with_one : {plan : Plan} {words : List ℕ} {views after : List View} {t x : ℕ} {before : Machine}
+    {taken : List ℕ} {locked : Option ℕ} (one : HasOne plan words views t x before)
+    → Passes plan words after taken locked one.stands.machine → Passes plan words after taken locked before
 with_one {before = before} one next = passes_on before one.stands.machine (λ y which. one.slots y) next
 
 -- ---- borrowed items
 
 -- The rule holds with accounts in which the thread has a reference to the object, or the object is an item of the list
 -- that the thread has locked.
-pub record HasAtHand (layout : Layout) (words : List ℕ) (views : List View) (v : View) (x : ℕ) (before : Machine)
+pub record HasAtHand (plan : Plan) (words : List ℕ) (views : List View) (v : View) (x : ℕ) (before : Machine)
     : Type 0 where
-  pub stands : Stands layout words views
+  pub stands : Stands plan words views
   pub slots : (y : ℕ) → stands.machine.memory (Slot y) ≡ before.memory (Slot y)
   pub at_hand : IsAtHand (stands.accounts v.thread) stands.machine (rested v).actor x
 
 -- If the hand may use the object, the rule holds so. What the hand has seen in a cell of its locked list is still
 -- there.
-pub has_at_hand : ImmortalsAreFree → (layout : Layout) (words : List ℕ) (views : List View) (id : ℕ) (v : View) (x : ℕ)
-    → (rests : Rests layout words views id v x) → MayUse v x
-    → HasAtHand layout words views v x rests.stands.machine
-has_at_hand law layout words views id v x rests (inl holding) =
-    let one = has_one law layout words views id v x rests holding in
+pub has_at_hand : ImmortalsAreFree → (plan : Plan) (words : List ℕ) (views : List View) (id : ℕ) (v : View) (x : ℕ)
+    → (rests : Rests plan words views id v x) → MayUse v x
+    → HasAtHand plan words views v x rests.stands.machine
+has_at_hand law plan words views id v x rests (inl holding) =
+    let one = has_one law plan words views id v x rests holding in
     record { stands = one.stands; slots = one.slots; at_hand = inl one.more }
-has_at_hand law layout words views id v x rests (inr borrowed) =
+has_at_hand law plan words views id v x rests (inr borrowed) =
     let old = rests.stands in
     let list = borrowed.list in
     let cell = borrowed.cell in
@@ -157,8 +214,8 @@ has_at_hand law layout words views id v x rests (inr borrowed) =
     }
 
 -- What is passed on from there is passed on.
-pub with_at_hand : {layout : Layout} {words : List ℕ} {views after : List View} {v : View} {x : ℕ} {before : Machine}
-    {taken : List ℕ} {locked : Option ℕ} (usable : HasAtHand layout words views v x before)
-    → Passes layout words after taken locked usable.stands.machine → Passes layout words after taken locked before
+pub with_at_hand : {plan : Plan} {words : List ℕ} {views after : List View} {v : View} {x : ℕ} {before : Machine}
+    {taken : List ℕ} {locked : Option ℕ} (usable : HasAtHand plan words views v x before)
+    → Passes plan words after taken locked usable.stands.machine → Passes plan words after taken locked before
 with_at_hand {before = before} usable next =
     passes_on before usable.stands.machine (λ y which. usable.slots y) next

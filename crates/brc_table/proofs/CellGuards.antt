@@ -4,10 +4,10 @@ use Rattle.std.specs.Prelude.{◌⊎◌}
 use Rattle.std.proofs.lemmas.Option.{slice_get_within}
 use mathlib.Core.Option.{some}
 use lib.ListN.{get_elem?}
-use Rattle.brc_model.specs.declared.layout.Layout.{Layout}
 use Rattle.brc_model.specs.Layout.{row_count}
 use Rattle.brc_model.specs.Machine.{Dying}
 use Rattle.brc_model.specs.CountingLaws.{IsFirstOfChain, ChainsAreThere}
+use Rattle.brc_table.specs.Plan.{Plan}
 use Rattle.brc_table.specs.declared.view.View.{View}
 use Rattle.brc_table.specs.Views.{RowsAreThere}
 use Rattle.brc_table.specs.Hands.{MayChange, MayLoad}
@@ -31,24 +31,24 @@ change_by v x (inl locked) = inl locked
 change_by v x (inr first) = inr (omega (arith, first))
 
 -- No other hand changes the cells that the hand may change.
-pub change_guards : ChainsAreThere → (layout : Layout) (words : List ℕ) (views : List View) (id : ℕ) (v : View) (x : ℕ)
-    (stands : Stands layout words views) → get_elem? views id ≡ some v → MayChange v x → Guards stands.machine v x
-change_guards chains layout words views id v x stands here (inl locked) = inl locked
-change_guards chains layout words views id v x stands here (inr first) =
+pub change_guards : ChainsAreThere → (plan : Plan) (words : List ℕ) (views : List View) (id : ℕ) (v : View) (x : ℕ)
+    (stands : Stands plan words views) → get_elem? views id ≡ some v → MayChange v x → Guards stands.machine v x
+change_guards chains plan words views id v x stands here (inl locked) = inl locked
+change_guards chains plan words views id v x stands here (inr first) =
     inr ((chains stands.accounts (1 + stands.machine.layout.workers) stands.machine v.thread v.actor stands.counts
     (stands.acts id v here)).first x (omega (arith, first)))
 
 -- ---- one guard
 
 -- Two hands don't guard one list: its gate names one thread.
-pub guards_apart : (layout : Layout) (words : List ℕ) (views : List View) (id other : ℕ) (v w : View) (x : ℕ)
-    (s : Stands layout words views) → get_elem? views id ≡ some v → get_elem? views other ≡ some w
+pub guards_apart : (plan : Plan) (words : List ℕ) (views : List View) (id other : ℕ) (v w : View) (x : ℕ)
+    (s : Stands plan words views) → get_elem? views id ≡ some v → get_elem? views other ≡ some w
     → v.thread ≢ w.thread → Guards s.machine v x → Guards s.machine w x → ⊥
-guards_apart layout words views id other v w x s here there apart (inl locked) (inl theirs) =
+guards_apart plan words views id other v w x s here there apart (inl locked) (inl theirs) =
     let one = (s.counts.kept.core.each v.thread v.actor (s.acts id v here)).0.locks x locked in
     let two = (s.counts.kept.core.each w.thread w.actor (s.acts other w there)).0.locks x theirs in
     apart (omega (arith, one.gate, two.gate))
-guards_apart layout words views id other v w x s here there apart (inl locked) (inr (dies, (next, word, low))) =
+guards_apart plan words views id other v w x s here there apart (inl locked) (inr (dies, (next, word, low))) =
     let core = s.counts.kept.core in
     let one = (core.each v.thread v.actor (s.acts id v here)).0.locks x locked in
     absurd (omega (
@@ -59,7 +59,7 @@ guards_apart layout words views id other v w x s here there apart (inl locked) (
       core.threads,
       core.few_threads,
     ))
-guards_apart layout words views id other v w x s here there apart (inr (dies, (next, word, low))) (inl theirs) =
+guards_apart plan words views id other v w x s here there apart (inr (dies, (next, word, low))) (inl theirs) =
     let core = s.counts.kept.core in
     let two = (core.each w.thread w.actor (s.acts other w there)).0.locks x theirs in
     absurd (omega (
@@ -70,7 +70,7 @@ guards_apart layout words views id other v w x s here there apart (inr (dies, (n
       core.threads,
       core.few_threads,
     ))
-guards_apart layout words views id other v w x s here there apart (inr (dies, word)) (inr (theirs, other_word)) =
+guards_apart plan words views id other v w x s here there apart (inr (dies, word)) (inr (theirs, other_word)) =
     let both : Dying v.thread ≡ Dying w.thread = sym dies ∙ theirs in
     let threads : v.thread ≡ w.thread = cc in
     apart threads

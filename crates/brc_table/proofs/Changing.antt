@@ -1,5 +1,5 @@
 -- One hand's view changes, and with it the machine, so that the rule holds again.
-use Rattle.std.proofs.Common.{◌≡◌, ◌≢◌, ℕ, ◌+◌, ◌<◌, true, List, length, set, Option, None, Some, ◌⊎◌, ⊎_elim, inl, inr, refl, sym, ap, ◌∙◌, subst, arith}
+use Rattle.std.proofs.Common.{◌≡◌, ◌≢◌, ℕ, ◌+◌, ◌<◌, true, List, length, set, Option, None, Some, ◌⊎◌, ⊎_elim, inl, inr, refl, sym, ap, ◌∙◌, subst}
 use Rattle.std.specs.Prelude.{slice_get, slice_index, slice_index_or, All}
 use Rattle.std.proofs.lemmas.Bool.Decides.{eqb_tells}
 use Rattle.std.proofs.lemmas.Option.{slice_get_within}
@@ -11,15 +11,14 @@ use Rattle.brc_model.specs.declared.actor.Status.TheVariants.{Gone}
 use Rattle.brc_model.specs.declared.address.Address.{Address}
 use Rattle.brc_model.specs.declared.address.Address.TheVariants.{Gate, KindOf, Cell, Slot}
 use Rattle.brc_model.specs.declared.layout.Layout.{Layout}
-use Rattle.brc_word.specs.Words.{half}
-use Rattle.brc_model.specs.Limits.{root_cells}
-use Rattle.brc_model.specs.Actions.{list_word}
-use Rattle.brc_model.specs.Layout.{none_row, root_row, IsCounted}
+use Rattle.brc_model.specs.FirstRows.{first_kind_word}
+use Rattle.brc_model.specs.Layout.{IsCounted}
 use Rattle.brc_model.specs.declared.actor.Actor.{Actor}
 use Rattle.brc_model.specs.Machine.{Machine, idle_actor}
 use Rattle.brc_model.specs.Accounts.{Account, Accounts, HoldsNone}
 use Rattle.brc_model.specs.Knowledge.{IsDyingWord}
 use Rattle.brc_model.specs.Counting.{Counts, IsPlainLayout}
+use Rattle.brc_table.specs.Plan.{Plan}
 use Rattle.brc_table.specs.declared.view.View.{View}
 use Rattle.brc_table.specs.declared.view.Joined.{Joined}
 use Rattle.brc_table.specs.Places.{place, HasWord, word_count}
@@ -42,7 +41,7 @@ guards_before m new v x life gate (inr chained) =
 -- ---- what the change has to show
 
 -- The new machine of a table in which one hand's view has changed from v to u.
-pub record Changes (layout : Layout) (words : List ℕ) (views : List View) (v u : View) (old : Stands layout words views)
+pub record Changes (plan : Plan) (words : List ℕ) (views : List View) (v u : View) (old : Stands plan words views)
     (after : List ℕ)
     : Type 0 where
   pub accounts : Accounts
@@ -75,8 +74,8 @@ pub record Changes (layout : Layout) (words : List ℕ) (views : List View) (v u
   -- the words of threads say what they should
   pub threads : (id : ℕ) → get_elem? views id ≡ some v → ThreadsStand old.machine.layout after (set views id u)
 
-module _ (layout : Layout) (words : List ℕ) (views : List View) (id : ℕ) (v u : View) (old : Stands layout words views)
-    (here : get_elem? views id ≡ some v) (after : List ℕ) (new : Changes layout words views v u old after) where
+module _ (plan : Plan) (words : List ℕ) (views : List View) (id : ℕ) (v u : View) (old : Stands plan words views)
+    (here : get_elem? views id ≡ some v) (after : List ℕ) (new : Changes plan words views v u old after) where
   -- Another hand's thread is another thread.
   elsewhere : (other : ℕ) (w : View) → other ≢ id → get_elem? views other ≡ some w → w.thread ≢ v.thread
   elsewhere other w apart is e = apart (old.apart other id w v is here e)
@@ -228,20 +227,20 @@ module _ (layout : Layout) (words : List ℕ) (views : List View) (id : ℕ) (v 
       (λ t. old.joined other w t.1 k d low)
       (at_set views id other u w is))
 
-  pub changed : Stands layout after (set views id u)
+  pub changed : Stands plan after (set views id u)
   changed = record {
     accounts = new.accounts;
     machine = new.machine;
     counts = new.counts;
     layout_is = new.layout_same ∙ old.layout_is;
     plain = subst IsPlainLayout (sym new.layout_same) old.plain;
+    lines = old.lines;
     length_is = new.length_is ∙ (old.length_is ∙ ap word_count (sym new.layout_same));
     reads = new.reads;
     acts = acts_after;
     told = told_after;
     lends_none = lends_after;
-    named = new.kinds_stay none_row half (omega arith) old.named;
-    rooted = new.kinds_stay root_row (list_word root_cells) (omega arith) old.rooted;
+    named = λ x some. new.kinds_stay x (first_kind_word plan.lines plan.layout x) some (old.named x some);
     kinds_seen = kinds_after;
     cells_seen = cells_after;
     holding = holding_after;
@@ -267,24 +266,24 @@ module _ (layout : Layout) (words : List ℕ) (views : List View) (id : ℕ) (v 
   pub passes : (taken : List ℕ) (locked : Option ℕ)
       → ((x : ℕ) → (times_in x taken ≡ 0) ⊎ (locked ≡ Some x)
       → new.machine.memory (Slot x) ≡ old.machine.memory (Slot x))
-      → Passes layout after (set views id u) taken locked old.machine
+      → Passes plan after (set views id u) taken locked old.machine
   passes taken locked same = record {
     stands = changed;
     slots = λ x which. ap (λ (m : Machine). m.memory (Slot x)) changed_machine ∙ same x which;
   }
 
 -- The hand has taken the slots that it had taken, and has locked what it had locked.
-pub taken_same : {layout : Layout} {v u : View} → Becomes layout v u → u.taken ≡ v.taken
+pub taken_same : {plan : Plan} {v u : View} → Becomes plan v u → u.taken ≡ v.taken
 taken_same becomes = ap (λ (w : View). w.taken) becomes.same
 
-pub locked_same : {layout : Layout} {v u : View} → Becomes layout v u → u.actor.locked ≡ v.actor.locked
+pub locked_same : {plan : Plan} {v u : View} → Becomes plan v u → u.actor.locked ≡ v.actor.locked
 locked_same becomes = ap (λ (w : View). w.actor.locked) becomes.same
 
 -- A hand may stay as it is.
-pub itself_becomes : (layout : Layout) (v : View) → Becomes layout v v
-itself_becomes layout v = record {
+pub itself_becomes : (plan : Plan) (v : View) → Becomes plan v v
+itself_becomes plan v = record {
   passes = λ words views id stands here.
-      subst (λ (l : List View). Passes layout words l v.taken v.actor.locked stands.machine)
+      subst (λ (l : List View). Passes plan words l v.taken v.actor.locked stands.machine)
       (sym (set_again views id v here))
       (record { stands = stands; slots = λ x which. refl });
   same = refl;

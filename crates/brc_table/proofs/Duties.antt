@@ -1,5 +1,5 @@
 -- The rows of duties are there, and what comes next as a birth ends.
-use Rattle.std.proofs.Common.{◌≡◌, ◌≢◌, ℕ, ◌+◌, ◌*◌, ◌<◌, ◌≤◌, true, Bool, List, [], ◌∷◌, inl, inr, refl, sym, ap, ◌∙◌, subst, arith}
+use Rattle.std.proofs.Common.{◌≡◌, ◌≢◌, ℕ, ◌<◌, ◌≤◌, true, Bool, List, [], ◌∷◌, inl, inr, refl, sym, ap, ◌∙◌, subst, arith}
 use Rattle.std.specs.Prelude.{◌==◌, ◌||◌, cond}
 use Rattle.std.specs.List.{list_any}
 use Rattle.std.proofs.lemmas.Bool.{cases_Bool, eq-eqb}
@@ -9,8 +9,8 @@ use Rattle.brc_model.specs.declared.duty.Duty.TheVariants.{BirthSlot, BirthLocal
 use Rattle.brc_model.specs.declared.duty.Holding.TheVariants.{AsCaller}
 use Rattle.brc_model.specs.declared.actor.Status.TheVariants.{Running, Gone}
 use Rattle.brc_model.specs.declared.layout.Layout.{Layout}
-use Rattle.brc_model.specs.Layout.{front_rows, row_count}
-use Rattle.brc_model.specs.Limits.{worker_limit, row_limit}
+use Rattle.brc_model.specs.Layout.{row_count}
+use Rattle.brc_model.specs.Limits.{total_limit}
 use Rattle.brc_model.specs.Duties.{resources_of}
 use Rattle.brc_model.specs.OpenWork.{is_about}
 use Rattle.brc_model.specs.Counting.{IsPlainLayout}
@@ -19,6 +19,7 @@ use Rattle.brc_table.specs.declared.view.View.{View}
 use Rattle.brc_table.specs.KnownWords.{knows_kind}
 use Rattle.brc_table.specs.Accesses.{IsNext}
 use Rattle.brc_table.specs.Uses.{IsDue}
+use Rattle.brc_table.specs.Places.{FewFirstRows}
 use Rattle.brc_table.specs.Views.{RowsAreThere, slot_filled_by}
 use Rattle.brc_table.specs.Hands.{HoldsOne, MayUse, MayRead}
 use Rattle.brc_table.specs.Calls.{OwnsFirst}
@@ -29,19 +30,19 @@ runs_on v runs gone = let wrong : Running ≡ Gone = sym runs ∙ gone in absurd
 
 -- ---- rows
 
-pub held_there : (v : View) (x : ℕ) → IsPlainLayout v.layout → RowsAreThere v → HoldsOne v x → x < row_count v.layout
-held_there v x plain rows (inl immortal) = immortal_there v.layout x plain immortal
-held_there v x plain rows (inr held) = rows.held x held
+pub held_there : (v : View) (x : ℕ) → RowsAreThere v → HoldsOne v x → x < row_count v.layout
+held_there v x rows (inl immortal) = immortal_there v.layout x immortal
+held_there v x rows (inr held) = rows.held x held
 
 -- An object that the hand may use has a row.
-pub usable_there : (v : View) (x : ℕ) → IsPlainLayout v.layout → RowsAreThere v → MayUse v x → x < row_count v.layout
-usable_there v x plain rows (inl holding) = held_there v x plain rows holding
-usable_there v x plain rows (inr borrowed) = borrowed.there
+pub usable_there : (v : View) (x : ℕ) → RowsAreThere v → MayUse v x → x < row_count v.layout
+usable_there v x rows (inl holding) = held_there v x rows holding
+usable_there v x rows (inr borrowed) = borrowed.there
 
 -- So has an object at which it may look.
-pub looks_there : (v : View) (x : ℕ) → IsPlainLayout v.layout → RowsAreThere v → MayRead v x → x < row_count v.layout
-looks_there v x plain rows (inl usable) = usable_there v x plain rows usable
-looks_there v x plain rows (inr first) = omega (arith, rows.head, first)
+pub looks_there : (v : View) (x : ℕ) → RowsAreThere v → MayRead v x → x < row_count v.layout
+looks_there v x rows (inl usable) = usable_there v x rows usable
+looks_there v x rows (inr first) = omega (arith, rows.head, first)
 
 -- ---- words
 
@@ -67,10 +68,10 @@ next_there v x d rows is this = first_there v x d [] rows is this
 -- ---- births
 
 -- There are few rows.
-pub rows_few : (layout : Layout) → IsPlainLayout layout → row_count layout ≤ front_rows + worker_limit * row_limit
-rows_few layout plain =
+pub rows_few : (layout : Layout) → IsPlainLayout layout → FewFirstRows layout → row_count layout ≤ total_limit
+rows_few layout plain few =
     let most = mul-le-mul plain.few_workers plain.few_rows in
-    omega (arith, most, plain.immortals)
+    omega (arith, most, few)
 
 pub own_next : (v : View) (x : ℕ) (ds : List Duty) → v.actor.agenda ≡ ds → OwnsFirst x ds
     → IsNext (BirthLocal x AsCaller) (slot_filled_by ds v).actor.agenda

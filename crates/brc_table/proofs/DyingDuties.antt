@@ -4,9 +4,9 @@ use Rattle.std.proofs.lemmas.Bool.{eq-eqb}
 use Rattle.brc_model.specs.declared.duty.Duty.{Duty}
 use Rattle.brc_model.specs.declared.duty.Duty.TheVariants.{TakeSlot, Settle, SettleEnd}
 use Rattle.brc_model.specs.declared.actor.Status.TheVariants.{Gone}
-use Rattle.brc_model.specs.declared.layout.Layout.{Layout}
 use Rattle.brc_model.specs.Layout.{row_count}
 use Rattle.brc_model.specs.CountingLaws.{SettlesBegin}
+use Rattle.brc_table.specs.Plan.{Plan}
 use Rattle.brc_table.specs.declared.view.View.{View}
 use Rattle.brc_table.specs.Views.{slot_emptied_by, settle_first, settling, RowsAreThere, with_next}
 use Rattle.brc_table.specs.Hands.{MayWait}
@@ -20,26 +20,26 @@ use Rattle.brc_table.proofs.Duties.{runs_on, first_there}
 
 -- ---- the beginning
 
-settling_from : SettlesBegin → (layout : Layout) (v : View) (ds : List Duty) → v.actor.agenda ≡ ds → SettlesFrom v ds
-    → 0 < v.actor.head → Becomes layout v (with_next v (settle_first ds))
-settling_from law layout v [] is may some =
+settling_from : SettlesBegin → (plan : Plan) (v : View) (ds : List Duty) → v.actor.agenda ≡ ds → SettlesFrom v ds
+    → 0 < v.actor.head → Becomes plan v (with_next v (settle_first ds))
+settling_from law plan v [] is may some =
     record {
       passes = λ words views id stands here.
-          rearranged layout words views id v stands here (Settle ∷ []) v.actor.aside
+          rearranged plan words views id v stands here (Settle ∷ []) v.actor.aside
           (law stands.accounts (1 + stands.machine.layout.workers) stands.machine v.thread v.actor stands.counts
           (record { found = stands.acts id v here; running = may.0; agenda = is }) may.1 some);
       same = refl;
       in_slot = λ y locks. refl;
       uses = waiting_uses v (with_next v (Settle ∷ [])) (subst MayWait (sym is) tt) refl;
     }
-settling_from law layout v (Settle ∷ rest) is may some =
-    becomes_same layout v (with_next v (Settle ∷ rest)) (ap (with_next v) is)
-settling_from law layout v _ is may some = absurd may
+settling_from law plan v (Settle ∷ rest) is may some =
+    becomes_same plan v (with_next v (Settle ∷ rest)) (ap (with_next v) is)
+settling_from law plan v _ is may some = absurd may
 
 -- A hand that may settle its chain begins to, or goes on.
-pub settling_becomes : SettlesBegin → (layout : Layout) (v : View) → SettlesFrom v v.actor.agenda → 0 < v.actor.head
-    → Becomes layout v (settling v)
-settling_becomes law layout v may some = settling_from law layout v v.actor.agenda refl may some
+pub settling_becomes : SettlesBegin → (plan : Plan) (v : View) → SettlesFrom v v.actor.agenda → 0 < v.actor.head
+    → Becomes plan v (settling v)
+settling_becomes law plan v may some = settling_from law plan v v.actor.agenda refl may some
 
 -- To settle comes next, of a thread that isn't gone.
 pub settles_next : (v : View) (ds : List Duty) → SettlesFrom v ds → IsNext Settle (settle_first ds)

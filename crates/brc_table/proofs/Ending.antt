@@ -25,11 +25,12 @@ use Rattle.brc_model.specs.GuardLaws.{GoneThreadsHoldNothing}
 use Rattle.brc_model.specs.SlotLaws as slot_laws
 use Rattle.brc_model.specs.SlotLaws.{UsesSlot, needs_slot}
 use Rattle.brc_model.specs.Ending as model
+use Rattle.brc_table.specs.Plan.{Plan}
 use Rattle.brc_table.specs.declared.view.View.{View}
 use Rattle.brc_table.specs.Rule.{thread_reading, Stands}
 use Rattle.brc_table.specs.Threads.{thread_word}
 use Rattle.brc_table.specs.Homes.{resources, times_taken, IsHome, TableStands}
-use Rattle.brc_table.specs.Ending.{EndState, EndsWith, HaveEnded, SeenEndsAreSo, CellsNameRows, RowsEnd, SlotsEnd, kind_at, gate_at, cell_at, slot_at, resources_in}
+use Rattle.brc_table.specs.Ending.{EndState, EndsWith, plan_at, HaveEnded, FirstKindsStay, SeenEndsAreSo, CellsNameRows, RowsEnd, SlotsEnd, kind_at, gate_at, cell_at, slot_at, resources_in}
 
 -- ---- threads
 
@@ -39,9 +40,9 @@ status_gone Running is = absurd (omega (arith, is))
 status_gone Leaving is = absurd (omega (arith, is))
 status_gone Gone is = refl
 
-module _ (layout : Layout) (words : List ℕ) (views : List View) (s : Stands layout words views)
-    (ended : HaveEnded layout words) where
-  low : (t : ℕ) → t < 1 + s.machine.layout.workers → t ≤ layout.workers
+module _ (plan : Plan) (words : List ℕ) (views : List View) (s : Stands plan words views)
+    (ended : HaveEnded plan.layout words) where
+  low : (t : ℕ) → t < 1 + s.machine.layout.workers → t ≤ plan.layout.workers
   low t below = omega (arith, below, ap (λ (l : Layout). l.workers) s.layout_is)
 
   -- A thread that was never started has no hand.
@@ -69,20 +70,20 @@ module _ (layout : Layout) (words : List ℕ) (views : List View) (s : Stands la
 -- ---- rows
 
 pub rows_ended : model.RowsEnd → RowsEnd
-rows_ended law layout words views x s ended counted there =
+rows_ended law plan words views x s ended counted there =
     let m = s.machine in
     let l = s.layout_is in
     let there' : x < row_count m.layout = subst (λ (k : Layout). x < row_count k) (sym l) there in
     let counted' : IsCounted m.layout x = subst (λ (k : Layout). IsCounted k x) (sym l) counted in
     let ends =
-    law s.accounts (1 + m.layout.workers) m x s.counts (machine_ended layout words views s ended) counted' there' in
+    law s.accounts (1 + m.layout.workers) m x s.counts (machine_ended plan words views s ended) counted' there' in
     let kind : m.memory (KindOf x) ≡ kind_at words x = s.reads (KindOf x) there' in
     let gate : (y : ℕ) → y < row_count m.layout → m.memory (Gate y)
     ≡ gate_at words y = λ y low_y. s.reads (Gate y) low_y in
     let cell : (y i : ℕ) → y < row_count m.layout → i < m.layout.cells
-    → m.memory (Cell y i) ≡ cell_at layout words y i =
+    → m.memory (Cell y i) ≡ cell_at plan.layout words y i =
     λ y i low_y low_i. s.reads (Cell y i) (low_y, low_i) ∙ ap (λ (k : Layout). cell_at k words y i) l in
-    let low_cell : (i : ℕ) → i < layout.cells → i < m.layout.cells =
+    let low_cell : (i : ℕ) → i < plan.layout.cells → i < m.layout.cells =
     λ i low. subst (λ (k : Layout). i < k.cells) (sym l) low in
     let shut : gate_at words x ≡ closed_word → m.memory (Gate x) ≡ closed_word = λ is. gate x there' ∙ is in
     record {
@@ -116,6 +117,12 @@ seen_ends v end ends first all t below =
           ∙ ap (λ (b : Bool). cond b 1 0) never.not_started)
     ]
 
+-- The kind word of a row that was there from the start is still the row's first one.
+pub first_kinds : FirstKindsStay
+first_kinds v end x ends first there =
+    let s = ends.stands in
+    sym (s.reads (KindOf x) (subst (λ (l : Layout). x < row_count l) (sym s.layout_is) there)) ∙ s.named x first
+
 -- ---- cells
 
 named_there : (rows word : ℕ) → ((y : ℕ) → word ≡ suc y → y < rows) → word ≤ rows
@@ -123,9 +130,9 @@ named_there rows zero low = omega arith
 named_there rows (suc y) low = omega (arith, low y refl)
 
 -- The cells of a table name rows.
-pub cells_name_rows : ItemsAreThere → (layout : Layout) (words : List ℕ) (views : List View)
-    → Stands layout words views → CellsNameRows layout words
-cells_name_rows law layout words views s y i there low =
+pub cells_name_rows : ItemsAreThere → (plan : Plan) (words : List ℕ) (views : List View)
+    → Stands plan words views → CellsNameRows plan.layout words
+cells_name_rows law plan words views s y i there low =
     let m = s.machine in
     let there' : y < row_count m.layout = subst (λ (l : Layout). y < row_count l) (sym s.layout_is) there in
     let low' : i < m.layout.cells = subst (λ (l : Layout). i < l.cells) (sym s.layout_is) low in
@@ -161,7 +168,7 @@ all_home law v end ends x ended other w there = elim (cases_lt 0 (times_taken x 
   | inl some_times ↦
       let s = ends.stands in
       absurd (unused_at_end law s.accounts (1 + s.machine.layout.workers) s.machine w.thread w.actor x s.counts
-      (machine_ended end.layout end.words ends.views s ended) (s.acts other w there)
+      (machine_ended (plan_at end) end.words ends.views s ended) (s.acts other w there)
       (ends.used other x w there (omega (arith, some_times))))
   | inr not ↦ omega (arith, not)
 ]
@@ -175,7 +182,7 @@ slots_ended law gone v end x ends ended counted there =
     let counted' : IsCounted m.layout x = subst (λ (k : Layout). IsCounted k x) (sym s.layout_is) counted in
     ends.homes x there (all_home gone v end ends x ended)
     ∙ (law s.accounts (1 + m.layout.workers) m x s.counts
-    (machine_ended end.layout end.words ends.views s ended) counted'
+    (machine_ended (plan_at end) end.words ends.views s ended) counted'
     ∙ same_left (m.memory (Gate x)) (gate_at end.words x) (m.memory (KindOf x)) (kind_at end.words x)
     (s.reads (Gate x) there') (s.reads (KindOf x) there'))
 
@@ -187,12 +194,18 @@ slot_found (s ∷ ss) zero slot is = ap resources (some-injective s slot is)
 slot_found (s ∷ ss) (suc x) slot is = slot_found ss x slot is
 
 -- A table whose last words and views meet the rule was closed with each of its hands.
-pub ends_with : {T : Type 0} (layout : Layout) (words : List ℕ) (homes : List (home.Option (Option T)))
+pub ends_with : {T : Type 0} (plan : Plan) (words : List ℕ) (homes : List (home.Option (Option T)))
     (views : List View) (slots : List (Option T)) (table : TableId) (v : View) (id : ℕ)
-    → TableStands layout words homes views → get_elem? views id ≡ some v
+    → TableStands plan words homes views → get_elem? views id ≡ some v
     → ((k : ℕ) (slot : Option T) → get_elem? homes k ≡ some (some slot) → get_elem? slots k ≡ some slot)
-    → EndsWith v (record { table = table; layout = layout; words = words; slots = resources_in slots })
-ends_with layout words homes views slots table v id holds here same =
+    → EndsWith v (record {
+      table = table;
+      layout = plan.layout;
+      lines = plan.lines;
+      words = words;
+      slots = resources_in slots;
+    })
+ends_with plan words homes views slots table v id holds here same =
     let s = holds.stands in
     record {
       views = views;

@@ -1,4 +1,4 @@
--- The first words say what the words of the first machine of hands are.
+-- The first words of a table, but for those of immortal lists.
 use Rattle.std.proofs.Common.{◌≡◌, ◌≢◌, ℕ, zero, suc, ◌+◌, ◌*◌, ◌/◌, ◌%◌, ◌-◌, ◌<◌, ◌≤◌, ◌⊎◌, Bool, true, false, List, ◌++◌, length, replicate, inl, inr, refl, sym, ap, ◌∙◌, arith}
 use Rattle.std.specs.Prelude.{◌==◌, nat_lt, if◌then◌else◌, slice_index}
 use Rattle.std.specs.List.{slice_range}
@@ -6,7 +6,7 @@ use Rattle.std.proofs.Math.ListN.{get_or}
 use Rattle.std.proofs.Math.Nat.{div-add-mod, mod-lt}
 use Rattle.std.proofs.Math.ListN.{drop}
 use Rattle.std.proofs.Math.Seq.{get_or-append_right}
-use Rattle.std.proofs.lemmas.Bool.{cases_lt, ne_eqb, le-leb, le-ltb, lt-ltb}
+use Rattle.std.proofs.lemmas.Bool.{cases_lt, ne_eqb, le-ltb, lt-ltb}
 use Rattle.std.proofs.lemmas.List.{get_or-drop, get_or-replicate, get_or-take, get_or_append_left, length-append, length-drop, length-replicate, length-take-le}
 use Rattle.brc_model.specs.declared.address.Address.{Address}
 use Rattle.brc_model.specs.declared.address.Address.TheVariants.{Local, Shared, Gate, KindOf, Marks, Cell, Slot, Resource, ThreadWord}
@@ -14,10 +14,8 @@ use Rattle.brc_model.specs.declared.layout.Layout.{Layout}
 use Rattle.brc_model.specs.Layout.{row_count, none_row, root_row}
 use Rattle.brc_model.specs.Counting.{IsPlainLayout}
 use Rattle.brc_model.specs.Machine.{same_address}
-use Rattle.brc_model.specs.StepMachine.{rooted_memory}
-use Rattle.brc_table.specs.Places.{line, front, tile_lines, tile, in_tile, cells_front, cell_place, place, HasWord}
-use Rattle.brc_table.specs.Rule.{reading}
-use Rattle.brc_table.specs.Opening.{blank_line, blank_word, first_word, AreFirst}
+use Rattle.brc_table.specs.Places.{line, front, tile_lines, tile, in_tile, cells_front, cell_place, place, HasWord, FewFirstRows}
+use Rattle.brc_table.specs.Opening.{blank_line, blank_word, first_word, ArePlain, AreWordsOf, plain_memory}
 use Rattle.brc_table.proofs.Places.{is_cell, in_front, place_apart, place_front, place_within}
 
 -- ---- lines
@@ -106,7 +104,7 @@ module _ (ws : List ℕ) (q : ℕ) (two : 2 ≤ q) (long : length ws ≡ front +
 -- First words in front of the cells, and then empty cells, are the first words of a table.
 pub tiles_and_cells : (layout : Layout) (words cells : List ℕ) → length words ≡ cells_front layout
     → ((k : ℕ) → k < length words → slice_index words k ≡ first_word k)
-    → cells ≡ replicate (layout.cells * row_count layout) 0 → AreFirst layout (words ++ cells)
+    → cells ≡ replicate (layout.cells * row_count layout) 0 → ArePlain layout (words ++ cells)
 tiles_and_cells layout words cells long first empty =
     let n = layout.cells * row_count layout in
     let many : length cells ≡ n = ap (λ (ws : List ℕ). length ws) empty ∙ length-replicate n 0 in
@@ -124,7 +122,7 @@ tiles_and_cells layout words cells long first empty =
 -- ---- addresses
 
 -- The same of an address.
-module _ (layout : Layout) (plain : IsPlainLayout layout) where
+module _ (layout : Layout) (plain : IsPlainLayout layout) (few : FewFirstRows layout) where
   none_there : none_row < row_count layout
   none_there = omega arith
 
@@ -136,10 +134,10 @@ module _ (layout : Layout) (plain : IsPlainLayout layout) where
       → same_address a (KindOf root_row) ≡ false → first_word (place layout a)
       ≡ blank_word (place layout a)
   first_apart a has b c d e =
-      first_else (place layout a) (place_apart layout a (Local none_row) plain has none_there b)
-      (place_apart layout a (Local root_row) plain has root_there c)
-      (place_apart layout a (KindOf none_row) plain has none_there d)
-      (place_apart layout a (KindOf root_row) plain has root_there e)
+      first_else (place layout a) (place_apart layout a (Local none_row) plain few has none_there b)
+      (place_apart layout a (Local root_row) plain few has root_there c)
+      (place_apart layout a (KindOf none_row) plain few has none_there d)
+      (place_apart layout a (KindOf root_row) plain few has root_there e)
 
   rest_low : (x : ℕ) → x % line < line
   rest_low x = mod-lt x (omega arith)
@@ -153,9 +151,9 @@ module _ (layout : Layout) (plain : IsPlainLayout layout) where
 
   -- ---- addresses
 
-  -- The table's first words say what the first machine's are, but for the cells.
+  -- The first words by place are those by address, but for the cells.
   pub first_reads : (a : Address) → HasWord layout a → is_cell a ≡ false
-      → rooted_memory layout.workers 1 a ≡ reading a (first_word (place layout a))
+      → plain_memory a ≡ first_word (place layout a)
   first_reads (Local zero) has other = refl
   first_reads (Local (suc zero)) has other = refl
   first_reads (Local (suc (suc x))) has other =
@@ -178,7 +176,7 @@ module _ (layout : Layout) (plain : IsPlainLayout layout) where
       ∙ blank_behind (row / line) 3 (row % line) (omega arith) (rest_low row))
   first_reads (Marks t w) has other =
       let at = place layout (Marks t w) in
-      let before : nat_lt at front ≡ true = lt-ltb at front (in_front layout t w plain has) in
+      let before : nat_lt at front ≡ true = lt-ltb at front (in_front layout t w plain few has) in
       let behind : (at == 0) ≡ false = ne_eqb at 0 (λ e. omega (arith, e)) in
       sym (first_apart (Marks t w) has refl refl refl refl
       ∙ (ap (λ (b : Bool). if b then (if at == 0 then 1 else 0) else blank_line ((at - front) % tile / line)) before
@@ -186,20 +184,11 @@ module _ (layout : Layout) (plain : IsPlainLayout layout) where
   first_reads (Cell x i) has other = absurd cc
   first_reads (Slot x) has other = absurd has
   first_reads (Resource x) has other = absurd has
-  first_reads (ThreadWord zero) has other =
-      ap (λ (b : Bool). if b then 1 else 0) (le-leb 0 layout.workers (omega arith))
-  first_reads (ThreadWord (suc t)) has other =
-      let word : first_word (suc t) ≡ 0 =
-      thread_first (suc t) has
-      ∙ ap (λ (b : Bool). if b then 1 else 0) (ne_eqb (suc t) 0 (λ e. omega (arith, e))) in
-      ap (λ (b : Bool). if b then 1 else 0) (le-leb (suc t) layout.workers (omega (arith, has)))
-      ∙ sym (ap (reading (ThreadWord (suc t))) word)
+  first_reads (ThreadWord t) has other = sym (thread_first t has)
 
-  -- So do words that are the first ones at each place; and all cells are empty.
-  pub words_read : (words : List ℕ) → AreFirst layout words → (a : Address) → HasWord layout a
-      → rooted_memory layout.workers 1 a ≡ reading a (slice_index words (place layout a))
-  words_read words first (Cell x i) has =
-      sym (first.cells (cell_place layout x i) (omega arith) (place_within layout (Cell x i) plain has))
-  words_read words first a has =
-      first_reads a has refl
-      ∙ sym (ap (reading a) (first.each (place layout a) (place_front layout a plain has refl)))
+  -- So are words that are the first ones at each place, and whose cells are all empty.
+  pub plain_words_are : (words : List ℕ) → ArePlain layout words → AreWordsOf layout words plain_memory
+  plain_words_are words first (Cell x i) has =
+      first.cells (cell_place layout x i) (omega arith) (place_within layout (Cell x i) plain few has)
+  plain_words_are words first a has =
+      first.each (place layout a) (place_front layout a plain few has refl) ∙ sym (first_reads a has refl)

@@ -10,6 +10,7 @@ use Rattle.brc_table.proofs.Picked.{count_less}
 -- The rows that main names are still there.
 pub giving_there : (v : View) (t : ℕ) → RowsAreThere v → RowsAreThere (giving v t)
 giving_there v t rows = record {
+  few = rows.few;
   thread = rows.thread;
   used = rows.used;
   main = rows.main;

@@ -2,10 +2,10 @@
 use Rattle.std.proofs.Common.{◌≡◌, ◌≢◌, ℕ, ◌<◌, true}
 use Rattle.brc_model.specs.declared.actor.Status.TheVariants.{Gone}
 use Rattle.brc_model.specs.declared.duty.Duty.{Duty}
-use Rattle.brc_model.specs.declared.layout.Layout.{Layout}
 use Rattle.brc_model.specs.Layout.{row_count}
 use Rattle.brc_model.specs.CountingLaws.{WorkIsPutAside, WorkIsTakenBack}
 use Rattle.brc_model.specs.OpenWork.{is_about}
+use Rattle.brc_table.specs.Plan.{Plan}
 use Rattle.brc_table.specs.declared.view.View.{View}
 use Rattle.brc_table.specs.declared.work.Work.{Work}
 use Rattle.brc_table.specs.declared.work.Work.TheVariants.{Next, Aside}
@@ -18,10 +18,10 @@ use Rattle.brc_table.proofs.Changing.{itself_becomes}
 use Rattle.brc_table.proofs.NextDuty.{coming, next_there}
 
 -- The hand may become what it goes on with,
-pub goes_on_becomes : WorkIsPutAside → WorkIsTakenBack → (layout : Layout) (work : Work) (v : View) (x : ℕ)
-    → MayGoOn work v → Becomes layout v (turned_to work v x)
-goes_on_becomes put take layout Next v x may = itself_becomes layout v
-goes_on_becomes put take layout Aside v x may = turned_becomes put take layout v x may.1
+pub goes_on_becomes : WorkIsPutAside → WorkIsTakenBack → (plan : Plan) (work : Work) (v : View) (x : ℕ)
+    → MayGoOn work v → Becomes plan v (turned_to work v x)
+goes_on_becomes put take plan Next v x may = itself_becomes plan v
+goes_on_becomes put take plan Aside v x may = turned_becomes put take plan v x may.1
 
 -- its thread isn't gone,
 pub goes_on_alive : (work : Work) (v : View) (x : ℕ) → MayGoOn work v → (turned_to work v x).actor.status ≢ Gone

@@ -31,6 +31,7 @@ use Rattle.brc_model.specs.SlotLaws.{UsesSlot, needs_slot}
 use Rattle.brc_model.proofs.Basics.Blocks.{block_within}
 use Rattle.brc_model.proofs.Basics.Lists.{some_is}
 use Rattle.brc_model.proofs.Basics.Written.{written_here}
+use Rattle.brc_table.specs.Plan.{Plan}
 use Rattle.brc_table.specs.Agreeing.{row_mark}
 use Rattle.brc_table.proofs.RowMarks.{mark_reads}
 use Rattle.brc_table.specs.declared.view.View.{View}
@@ -51,7 +52,7 @@ word_runs Running e = refl
 word_runs Leaving e = absurd (omega (arith, e))
 word_runs Gone e = absurd (omega (arith, e))
 
-module _ (layout : Layout) (words : List ℕ) (views : List View) (s : Stands layout words views) where
+module _ (plan : Plan) (words : List ℕ) (views : List View) (s : Stands plan words views) where
   abbrev m : Machine
   m = s.machine
 
@@ -75,7 +76,7 @@ module _ (layout : Layout) (words : List ℕ) (views : List View) (s : Stands la
   watched_so x (machine.ByRunning runs) =
       ByRunning (running_says (block_of m.layout x) (block_low x) runs.0 runs.1 runs.2)
   watched_so x (machine.ByExit a found leaves scans) =
-      elim (thread_is layout words views s (block_of m.layout x) a found) [
+      elim (thread_is plan words views s (block_of m.layout x) a found) [
         | inl hand ↦
             ByExit hand.0.id hand.0.view hand.0.here hand.0.thread
             (ap (λ (b : Actor). b.status) (sym hand.1) ∙ leaves)
@@ -84,7 +85,7 @@ module _ (layout : Layout) (words : List ℕ) (views : List View) (s : Stands la
         | inr idle ↦
             let wrong : Running ≡ Leaving = ap (λ (b : Actor). b.status) (sym idle) ∙ leaves in absurd cc
       ]
-  watched_so x (machine.ByLook t a found looks) = elim (thread_is layout words views s t a found) [
+  watched_so x (machine.ByLook t a found looks) = elim (thread_is plan words views s t a found) [
     | inl hand ↦
         ByLook hand.0.id hand.0.view hand.0.here
         (list_any-append (looks_at x) hand.0.view.actor.agenda hand.0.view.actor.aside
@@ -104,8 +105,8 @@ module _ (layout : Layout) (words : List ℕ) (views : List View) (s : Stands la
 
 -- ---- words that change
 
-module _ (layout : Layout) (words : List ℕ) (views : List View) (v : View) (d : Duty) (a : Address)
-    (it : ChangesWord layout words views v d a) where
+module _ (plan : Plan) (words : List ℕ) (views : List View) (v : View) (d : Duty) (a : Address)
+    (it : ChangesWord plan words views v d a) where
   abbrev now : Machine
   now = it.stands.machine
 
@@ -119,7 +120,7 @@ module _ (layout : Layout) (words : List ℕ) (views : List View) (v : View) (d 
   changed : ((word : ℕ) → reading a word ≡ word)
       → (machine_by_duty now v.thread v.actor d it.rest).memory a ≢ now.memory a
   changed plain same =
-      let found : now.memory a ≡ slice_index words (place layout a) =
+      let found : now.memory a ≡ slice_index words (place plan.layout a) =
       it.stands.reads a has ∙ plain (slice_index words (place now.layout a))
       ∙ ap (λ (l : Layout). slice_index words (place l a)) it.stands.layout_is in
       let at : address_of now.layout v.thread v.actor.head d ≡ a =
@@ -129,29 +130,29 @@ module _ (layout : Layout) (words : List ℕ) (views : List View) (v : View) (d 
       ap (λ (b : Address). written now.memory b (new_word now.layout v.thread v.actor.head d (now.memory b)) a) at
       ∙ written_here now.memory a (new_word now.layout v.thread v.actor.head d (now.memory a)) in
       it.other
-      (ap (λ (l : Layout). new_word l v.thread v.actor.head d (slice_index words (place layout a)))
+      (ap (λ (l : Layout). new_word l v.thread v.actor.head d (slice_index words (place plan.layout a)))
       (sym it.stands.layout_is)
       ∙ (ap (new_word now.layout v.thread v.actor.head d) (sym found) ∙ (sym after ∙ (same ∙ found))))
 
 -- ---- the laws
 
 pub marks_are_watched : guard.QueuedMarksAreWatched → SetMarksAreWatched
-marks_are_watched law layout words views x s there set =
+marks_are_watched law plan words views x s there set =
     let same = s.layout_is in
     let there' : x < row_count s.machine.layout = subst (λ (l : Layout). x < row_count l) (sym same) there in
     subst (λ (l : Layout). IsWatched l words views x) same
-    (watched_so layout words views s x (law s.accounts (1 + s.machine.layout.workers) s.machine x s.counts
+    (watched_so plan words views s x (law s.accounts (1 + s.machine.layout.workers) s.machine x s.counts
     (λ none.
     set (sym (ap (λ (l : Layout). row_mark l words x) same)
-    ∙ (sym (mark_reads layout words views s x there') ∙ none)))))
+    ∙ (sym (mark_reads plan words views s x there') ∙ none)))))
 
 pub holders_change : guard.CellsAreGuarded → OnlyHoldersChangeCells
-holders_change law layout words views v d x i it =
+holders_change law plan words views v d x i it =
     let s = it.stands in
     elim (law s.accounts (1 + s.machine.layout.workers) s.machine v.thread v.actor d it.rest x i s.counts
-    (next layout words views v d (Cell x i) it) (changed layout words views v d (Cell x i) it (λ word. refl))) [
+    (next plan words views v d (Cell x i) it) (changed plan words views v d (Cell x i) it (λ word. refl))) [
       | inl holds ↦
-          let there = has layout words views v d (Cell x i) it in
+          let there = has plan words views v d (Cell x i) it in
           let mine : holds.actor ≡ v.actor = some_is holds.actor v.actor (sym holds.found
           ∙ s.acts it.id v it.here) in
           inl (
@@ -163,7 +164,7 @@ holders_change law layout words views v d x i it =
 
 -- A lock that a hand has is in the gate's word.
 pub holders_swap : AccountsAreThere → OnlyHoldersSwapCells
-holders_swap law layout words views id v x i word s here may = elim may.changes [
+holders_swap law plan words views id v x i word s here may = elim may.changes [
   | inl locked ↦
       let found = s.acts id v here in
       let fits = (s.counts.kept.core.each v.thread v.actor found).0.locks x locked in
@@ -174,17 +175,17 @@ holders_swap law layout words views id v x i word s here may = elim may.changes 
 ]
 
 pub owners_count : guard.OwnersCountAlone → OnlyRunningOwnersCount
-owners_count law layout words views v d x it says =
+owners_count law plan words views v d x it says =
     let s = it.stands in
     let same = s.layout_is in
     let says' : thread_says words (block_of s.machine.layout x) ≡ 1 =
     subst (λ (l : Layout). thread_says words (block_of l x) ≡ 1) (sym same) says in
     let runs =
-    says_running layout words views s (block_of s.machine.layout x)
-    (block_low layout words views s x) says' in
+    says_running plan words views s (block_of s.machine.layout x)
+    (block_low plan words views s x) says' in
     subst (λ (l : Layout). v.thread ≡ block_of l x) same
     (law s.accounts (1 + s.machine.layout.workers) s.machine v.thread v.actor d it.rest x s.counts
-    (next layout words views v d (Local x) it) runs (changed layout words views v d (Local x) it (λ word. refl)))
+    (next plan words views v d (Local x) it) runs (changed plan words views v d (Local x) it (λ word. refl)))
 
 -- A thread with nothing to do and no lock uses no slot.
 uses_none : (a : Actor) (x : ℕ) → a.agenda ≡ [] → a.locked ≡ None → UsesSlot a x → ⊥
@@ -200,7 +201,7 @@ none_listed (x ∷ rows) none =
 
 -- A hand whose thread is gone holds nothing, and uses no slot, so it has taken none.
 pub gone_hold : {T : Type 0} → guard.GoneThreadsHoldNothing → GoneHandsHoldNothing T
-gone_hold law layout words homes views id v table here gone =
+gone_hold law plan words homes views id v table here gone =
     let s = table.stands in
     let it = law s.accounts (1 + s.machine.layout.workers) s.machine v.thread v.actor s.counts (s.acts id v here)
     gone in
@@ -227,20 +228,20 @@ reading_three (suc k) e =
 -- A thread's word says that it is gone exactly if its hand does.
 pub gone_words : GoneWordsTell
 gone_words = record {
-  told = λ layout words views id v s here gone.
+  told = λ plan words views id v s here gone.
       let found = s.acts id v here in
       let low = slice_get_within s.machine.actors v.thread v.actor found in
       reading_three (thread_word words v.thread)
       (sym (s.reads (ThreadWord v.thread) (omega (arith, low, s.counts.kept.core.threads)))
       ∙ ((s.counts.kept.core.each v.thread v.actor found).0.word ∙ ap status_word gone));
-  gone = λ layout words views t s there says.
+  gone = λ plan words views t s there says.
       let under : t < 1 + s.machine.layout.workers =
       omega (arith, there, ap (λ (l : Layout). l.workers) s.layout_is) in
       let (a, found) = there_is s.machine.actors t (omega (arith, under, s.counts.kept.core.threads)) in
       let is_gone : a.status ≡ Gone =
       status_gone a.status (sym (s.counts.kept.core.each t a found).0.word
       ∙ (s.reads (ThreadWord t) under ∙ ap thread_reading says)) in
-      elim (thread_is layout words views s t a found) [
+      elim (thread_is plan words views s t a found) [
         | inl hand ↦ record {
           id = hand.0.id;
           view = hand.0.view;
@@ -257,11 +258,11 @@ gone_words = record {
 
 -- Each view has the table's layout.
 pub views_keep : ViewsKeepTheLayout
-views_keep layout words views id v s here = s.told id v here ∙ s.layout_is
+views_keep plan words views id v s here = s.told id v here ∙ s.layout_is
 
 -- The root's kind word is the machine's.
 pub root_is : RootIsAList
-root_is layout words views s = sym (s.reads (KindOf root_row) (omega arith)) ∙ s.rooted
+root_is plan words views s = sym (s.reads (KindOf root_row) (omega arith)) ∙ s.named root_row (omega arith)
 
 -- Some hand has taken the row's slot.
 record IsTaken (views : List View) (x : ℕ) : Type 0 where
@@ -288,7 +289,7 @@ taken_or_home (v ∷ views) x = elim (cases_lt 0 (times_taken x v)) [
 
 -- A slot that isn't at home is with one hand.
 pub taken_alone : {T : Type 0} → TakenSlotsAreAlone T
-taken_alone layout words homes views x table there out = elim (taken_or_home views x) [
+taken_alone plan words homes views x table there out = elim (taken_or_home views x) [
   | inl found ↦ record {
     id = found.id;
     view = found.view;

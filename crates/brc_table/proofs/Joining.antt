@@ -14,6 +14,7 @@ use Rattle.brc_model.specs.GuardLaws.{GoneThreadsHoldNothing}
 use Rattle.brc_model.specs.Invariant.{kind_stored}
 use Rattle.brc_model.specs.Knowledge.{status_word}
 use Rattle.brc_model.specs.Layout.{row_count, block_of, block_size, index_of}
+use Rattle.brc_table.specs.Plan.{Plan}
 use Rattle.brc_table.specs.declared.view.View.{View}
 use Rattle.brc_table.specs.declared.view.Joined.{Joined}
 use Rattle.brc_table.specs.Views.{RowsAreThere, IsJoined}
@@ -30,7 +31,7 @@ use Rattle.brc_table.proofs.ThreadsKept.{threads_same}
 
 -- ---- the step
 
-module _ (layout : Layout) (words : List ℕ) (views : List View) (id : ℕ) (v w : View) (s : Stands layout words views)
+module _ (plan : Plan) (words : List ℕ) (views : List View) (id : ℕ) (v w : View) (s : Stands plan words views)
     (here : get_elem? views id ≡ some v) (other : ℕ) (there : get_elem? views other ≡ some w) (gone : w.actor.status
     ≡ Gone)
   where
@@ -41,9 +42,9 @@ module _ (layout : Layout) (words : List ℕ) (views : List View) (id : ℕ) (v 
     joined_all zero d low = record { actor = w.actor; found = s.acts other w there; gone = gone; used = refl }
     joined_all (suc k) d low = s.joined id v here k d (omega (arith, low))
 
-    pub passes_joined : Passes layout words (set views id (joining v w)) v.taken v.actor.locked s.machine
+    pub passes_joined : Passes plan words (set views id (joining v w)) v.taken v.actor.locked s.machine
     passes_joined =
-        passes layout words views id v (joining v w) s here words (record {
+        passes plan words views id v (joining v w) s here words (record {
           accounts = s.accounts;
           machine = s.machine;
           counts = s.counts;
@@ -64,16 +65,16 @@ module _ (layout : Layout) (words : List ℕ) (views : List View) (id : ℕ) (v 
           cells_stay = λ one x z apart is guards. (guards, λ i. refl);
           kinds_here = λ x word more seen. s.kinds_seen id x word v here more seen;
           cells_here = λ x i word guards seen. s.cells_seen id x i word v here guards seen;
-          threads = λ k there_k. threads_same layout words views k v (joining v w) s there_k refl refl refl;
+          threads = λ k there_k. threads_same plan words views k v (joining v w) s there_k refl refl refl;
         }) v.taken v.actor.locked (λ x which. refl)
 
 -- What a table asks of a seat that takes in another one, whose view stays as it is.
-pub joins : {T : Type 0} (layout : Layout) (id other : ℕ) (v w spent : View) → w.actor.status ≡ Gone → w ≡ spent
-    → Joins (λ (s : State (Option T) View). TableStands layout s.words s.homes s.views) id v other w (joining v w) spent
-joins layout id other v w spent gone same = λ s holds here apart there.
+pub joins : {T : Type 0} (plan : Plan) (id other : ℕ) (v w spent : View) → w.actor.status ≡ Gone → w ≡ spent
+    → Joins (λ (s : State (Option T) View). TableStands plan s.words s.homes s.views) id v other w (joining v w) spent
+joins plan id other v w spent gone same = λ s holds here apart there.
     let found : get_elem? s.views other ≡ some w = sym (set_else s.views id other (joining v w) apart) ∙ there in
-    let now = passes_joined layout s.words s.views id v w holds.stands here other found gone in
-    subst (λ (l : List View). TableStands layout s.words s.homes l)
+    let now = passes_joined plan s.words s.views id v w holds.stands here other found gone in
+    subst (λ (l : List View). TableStands plan s.words s.homes l)
     (sym (ap (set (set s.views id (joining v w)) other) (sym same)
     ∙ set_again (set s.views id (joining v w)) other w there))
     (record {
@@ -87,6 +88,7 @@ joins layout id other v w spent gone same = λ s holds here apart there.
 -- The rows of a hand's duties and references are there as before.
 pub joins_there : (v w : View) → RowsAreThere v → RowsAreThere (joining v w)
 joins_there v w old = record {
+  few = old.few;
   thread = old.thread;
   used = old.used;
   main = old.main;
@@ -108,7 +110,7 @@ none_held (s ∷ ss) is = absurd cc
 
 -- ---- what is known of joined hands
 
-module _ (layout : Layout) (words : List ℕ) (views : List View) (s : Stands layout words views) (hand : Joined)
+module _ (plan : Plan) (words : List ℕ) (views : List View) (s : Stands plan words views) (hand : Joined)
     (is : IsGone s.machine.actors hand) where
   says_gone : thread_word words hand.thread ≡ 3
   says_gone =
@@ -118,16 +120,16 @@ module _ (layout : Layout) (words : List ℕ) (views : List View) (s : Stands la
       ∙ ((s.counts.kept.core.each hand.thread is.actor is.found).0.word ∙ ap status_word is.gone))
 
   -- The row, as the machine sees it.
-  row_low : (x : ℕ) → x < row_count layout → x < row_count s.machine.layout
+  row_low : (x : ℕ) → x < row_count plan.layout → x < row_count s.machine.layout
   row_low x low = subst (λ (l : Layout). x < row_count l) (sym s.layout_is) low
 
-  row_own : (x : ℕ) → block_of layout x ≡ hand.thread → block_of s.machine.layout x ≡ hand.thread
+  row_own : (x : ℕ) → block_of plan.layout x ≡ hand.thread → block_of s.machine.layout x ≡ hand.thread
   row_own x own = subst (λ (l : Layout). block_of l x ≡ hand.thread) (sym s.layout_is) own
 
-  index_is : (x : ℕ) → index_of s.machine.layout hand.thread x ≡ index_of layout hand.thread x
+  index_is : (x : ℕ) → index_of s.machine.layout hand.thread x ≡ index_of plan.layout hand.thread x
   index_is x = ap (λ (l : Layout). index_of l hand.thread x) s.layout_is
 
-  rows_used : GoneThreadsHoldNothing → RowsAreUsed layout words hand
+  rows_used : GoneThreadsHoldNothing → RowsAreUsed plan.layout words hand
   rows_used law =
       let core = s.counts.kept.core in
       let uses = core.uses hand.thread is.actor is.found in
@@ -149,16 +151,16 @@ module _ (layout : Layout) (words : List ℕ) (views : List View) (s : Stands la
 
 pub joined_are_gone : GoneThreadsHoldNothing → JoinedHandsAreGone
 joined_are_gone law = record {
-  gone = λ layout words views id v s here k d low.
-      says_gone layout words views s (slice_index_or v.joined k d) (s.joined id v here k d low);
-  used = λ layout words views id v s here k d low.
-      rows_used layout words views s (slice_index_or v.joined k d) (s.joined id v here k d low) law;
+  gone = λ plan words views id v s here k d low.
+      says_gone plan words views s (slice_index_or v.joined k d) (s.joined id v here k d low);
+  used = λ plan words views id v s here k d low.
+      rows_used plan words views s (slice_index_or v.joined k d) (s.joined id v here k d low) law;
 }
 
 -- A thread whose hand was joined is gone.
-pub joined_gone : (layout : Layout) (words : List ℕ) (views : List View) (id : ℕ) (v : View) (t : ℕ)
-    → Stands layout words views → get_elem? views id ≡ some v → IsJoined t v → thread_word words t ≡ 3
-joined_gone layout words views id v t s here joined =
+pub joined_gone : (plan : Plan) (words : List ℕ) (views : List View) (id : ℕ) (v : View) (t : ℕ)
+    → Stands plan words views → get_elem? views id ≡ some v → IsJoined t v → thread_word words t ≡ 3
+joined_gone plan words views id v t s here joined =
     let hand : Joined = record { thread = t; used = joined.0 } in
-    says_gone layout words views s hand
+    says_gone plan words views s hand
     (subst (IsGone s.machine.actors) joined.1.2 (s.joined id v here joined.1.0 hand joined.1.1))

@@ -1,6 +1,6 @@
 -- What a hand keeps, but for what it knows, in several calls.
-use Rattle.std.proofs.Common.{◌≡◌, refl, ◌∙◌}
-use Rattle.brc_table.specs.Hands.{TableState, HandState, KeepsButView, IsOf}
+use Rattle.std.proofs.Common.{refl, ◌∙◌}
+use Rattle.brc_table.specs.Hands.{HandState, KeepsButView}
 
 -- A hand keeps what it has.
 pub kept_itself : (h : HandState) → KeepsButView h h
@@ -13,8 +13,3 @@ kept_on one next = record {
   carried = next.carried ∙ one.carried;
   slots = next.slots ∙ one.slots;
 }
-
--- It stays a hand of its table.
-pub kept_of : {words : TableState} {h k : HandState} → IsOf words h → KeepsButView h k → k.view.layout ≡ h.view.layout
-    → IsOf words k
-kept_of is kept layout = (kept.table ∙ is.0, layout ∙ is.1)

@@ -8,6 +8,7 @@ mod KnownKept
 mod Stepping
 mod CellGuards
 mod RowMarks
+mod FewRows
 mod RowsThere
 mod LockedSlots
 mod Allowed
@@ -40,6 +41,8 @@ mod DyingDuties
 mod ThreadWords
 mod NewHands
 mod FirstWords
+mod FirstLists
+mod WrittenWords
 mod Opening
 mod Summing
 mod Tally

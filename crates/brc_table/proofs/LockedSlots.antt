@@ -8,9 +8,9 @@ use mathlib.Core.Option.{some}
 use lib.ListN.{get_elem?}
 use Rattle.brc_model.specs.declared.address.Address.TheVariants.{KindOf}
 use Rattle.brc_model.specs.declared.duty.Duty.{Duty}
-use Rattle.brc_model.specs.declared.layout.Layout.{Layout}
 use Rattle.brc_model.specs.Duties.{resources_of}
 use Rattle.brc_model.specs.SlotLaws.{LockedSlotsAreFull}
+use Rattle.brc_table.specs.Plan.{Plan}
 use Rattle.brc_table.specs.declared.view.View.{View}
 use Rattle.brc_table.specs.Views.{event_of, view_by}
 use Rattle.brc_table.specs.KnownWords.{shows_kind, knows_kind}
@@ -24,8 +24,8 @@ still_seen x word v d rest found seen =
     list_any-append (shows_kind x word) v.trace behind
     ∙ ap (λ b. b || list_any (shows_kind x word) behind) seen
 
-module _ (full : LockedSlotsAreFull) {T : Type 0} (layout : Layout) (words : List ℕ)
-    (homes : List (home.Option (Option T))) (views : List View) (holds : TableStands layout words homes views)
+module _ (full : LockedSlotsAreFull) {T : Type 0} (plan : Plan) (words : List ℕ)
+    (homes : List (home.Option (Option T))) (views : List View) (holds : TableStands plan words homes views)
     (id x : ℕ) (v : View) (here : get_elem? views id ≡ some v) (locked : v.actor.locked ≡ Some x) where
   -- The slot holds as many resources as the machine's kind word says.
   pub slot_full : v.in_slot ≡ resources_of (holds.stands.machine.memory (KindOf x))

@@ -4,12 +4,12 @@ use Rattle.std.specs.Prelude.{◌==◌, count_by, slice_get}
 use Rattle.std.proofs.lemmas.Bool.{cases_Bool, eqb-true, false≢true}
 use Rattle.atomic_table.specs.Table.{Me}
 use Rattle.brc_model.specs.declared.layout.Layout.{Layout}
-use Rattle.brc_model.specs.Layout.{front_rows, root_row}
+use Rattle.brc_model.specs.Layout.{front_rows, block_size, root_row}
 use Rattle.brc_model.specs.Limits.{block_limit}
 use Rattle.brc_model.specs.Machine.{is_running}
-use Rattle.brc_model.specs.Counting.{IsPlainLayout}
 use Rattle.brc_table.specs.declared.view.View.{View}
 use Rattle.brc_table.specs.Views.{RowsAreThere, HasSpares, IsGivenBy, main_view, worker_view}
+use Rattle.brc_table.specs.Places.{FewFirstRows}
 use Rattle.brc_table.specs.Homes.{rows_of}
 use Rattle.brc_table.specs.Spares.{is_spent}
 use Rattle.brc_table.proofs.Spares.{none_spent, room}
@@ -24,11 +24,12 @@ held_root x held = elim (cases_Bool (root_row == x)) [
       let none : count_by (λ y. y == x) (root_row ∷ []) ≡ 0 = rw other refl in absurd (omega (arith, none, held))
 ]
 
-main_rows : (layout : Layout) → IsPlainLayout layout → RowsAreThere (main_view layout)
-main_rows layout plain = record {
+main_rows : (layout : Layout) → FewFirstRows layout → RowsAreThere (main_view layout)
+main_rows layout few = record {
+  few = few;
   thread = omega arith;
   used = omega arith;
-  main = λ first. omega (arith, plain.immortals);
+  main = λ first. refl;
   held = λ x held. omega (arith, held_root x held);
   agenda = λ x is. absurd cc;
   aside = λ x is. absurd cc;
@@ -40,9 +41,10 @@ main_rows layout plain = record {
   kinds = λ x word seen. absurd (false≢true seen);
 }
 
-worker_rows : (layout : Layout) (thread : ℕ) → 0 < thread → thread ≤ layout.workers
+worker_rows : (layout : Layout) (thread : ℕ) → FewFirstRows layout → 0 < thread → thread ≤ layout.workers
     → RowsAreThere (worker_view layout thread)
-worker_rows layout thread some known = record {
+worker_rows layout thread few some known = record {
+  few = few;
   thread = known;
   used = omega arith;
   main = λ first. absurd (omega (arith, first, some));
@@ -69,33 +71,34 @@ NewFits thread used spares counts me =
 
 pub main_fits : {T A : Type 0} (layout : Layout) (spares : List (Option A)) (counts : List (Option ℕ))
     (me : Me (Option T) View)
-    → IsPlainLayout layout → length spares ≡ layout.workers
+    → FewFirstRows layout → length spares ≡ layout.workers
     → ((worker : ℕ) → is_spent (slice_get spares worker) ≡ false) → counts ≡ replicate block_limit None
-    → me ≡ (main_view layout, []) → NewFits 0 front_rows spares counts me
-main_fits {T} layout spares counts me plain long left none is =
-    subst (λ (it : Me (Option T) View). NewFits 0 front_rows spares counts it) (sym is) (
+    → me ≡ (main_view layout, []) → NewFits 0 (block_size layout 0) spares counts me
+main_fits {T} layout spares counts me few long left none is =
+    subst (λ (it : Me (Option T) View). NewFits 0 (block_size layout 0) spares counts it) (sym is) (
       refl,
       refl,
       refl,
       refl,
       refl,
-      main_rows layout plain,
+      main_rows layout few,
       (λ main. long),
       (λ t. none_spent spares t left),
       room counts none,
     )
 
 pub worker_fits : {T A : Type 0} (layout : Layout) (thread : ℕ) (spares : List (Option A)) (counts : List (Option ℕ))
-    (me : Me (Option T) View) → 0 < thread → thread ≤ layout.workers → spares ≡ [] → counts ≡ replicate block_limit None
+    (me : Me (Option T) View) → FewFirstRows layout → 0 < thread → thread ≤ layout.workers → spares ≡ []
+    → counts ≡ replicate block_limit None
     → me ≡ (worker_view layout thread, []) → NewFits thread 0 spares counts me
-worker_fits {T} layout thread spares counts me some known empty none is =
+worker_fits {T} layout thread spares counts me few some known empty none is =
     subst (λ (it : Me (Option T) View). NewFits thread 0 spares counts it) (sym is) (
       refl,
       refl,
       refl,
       refl,
       refl,
-      worker_rows layout thread some known,
+      worker_rows layout thread few some known,
       (λ main. absurd (omega (arith, main, some))),
       (λ t. none_spent spares t (λ k. ap (λ ps. is_spent (slice_get ps k)) empty)),
       room counts none,

@@ -23,7 +23,7 @@ use Rattle.brc_effect.specs.Effects.{IsIndexed}
 use Rattle.brc_table.specs.Accesses.{HasAccess, HasCell, HasChain, HasNextRow, HasUsedRow, IsNext, row_of}
 use Rattle.brc_table.specs.DutySteps.{OverwritesFirst, said}
 use Rattle.brc_table.specs.Rule.{reading}
-use Rattle.brc_table.specs.Places.{HasWord, IsObjectWord, IsTableWord}
+use Rattle.brc_table.specs.Places.{HasWord, IsObjectWord, IsTableWord, FewFirstRows}
 use Rattle.brc_table.specs.Plays.{overwritten, overwritten_by}
 use Rattle.brc_table.specs.Uses.{first_use, first_due, held_after}
 use Rattle.brc_table.specs.Views.{RowsAreThere, view_by, view_after}
@@ -88,7 +88,7 @@ word_there v (Scan w n) plain rows has cell chain used row = own_word_there v w 
 word_there v (MarksLoad w) plain rows has cell chain used row = own_word_there v w rows used
 word_there v (TakeFound w marks) plain rows has cell chain used row =
     mark_has v.layout (found_row v.layout v.thread w marks) plain
-    (own_row_there v (marks_of_word * w + lowest_mark marks) rows plain.immortals used.1)
+    (own_row_there v (marks_of_word * w + lowest_mark marks) rows used.1)
 word_there v (SetMark x) plain rows has cell chain used row = mark_has v.layout x plain (row (eq-eqb x x refl))
 word_there v (TakeMark x) plain rows has cell chain used row = mark_has v.layout x plain (row (eq-eqb x x refl))
 word_there v (ClaimMark x) plain rows has cell chain used row = mark_has v.layout x plain (row (eq-eqb x x refl))
@@ -109,15 +109,15 @@ use_same (LockGate x) has found = absurd has
 use_same _ has found = refl
 
 -- If the duty chains a row that is there, the row plus 1 is a number of 32 bits.
-pub next_row_low : (layout : Layout) (t head : ℕ) (d : Duty) → IsPlainLayout layout
+pub next_row_low : (layout : Layout) (t head : ℕ) (d : Duty) → IsPlainLayout layout → FewFirstRows layout
     → HasWord layout (address_of layout t head d) → HasNextRow d
-next_row_low layout t head (Die x) plain there = omega (arith, rows_few layout plain, there)
-next_row_low layout t head _ plain there = tt
+next_row_low layout t head (Die x) plain few there = omega (arith, rows_few layout plain few, there)
+next_row_low layout t head _ plain few there = tt
 
 -- A thread has room for its numbers.
-pub block_few : (layout : Layout) (t : ℕ) → IsPlainLayout layout → block_size layout t < 2 ^ 31
-block_few layout zero plain = omega (arith, plain.immortals)
-block_few layout (suc t) plain = omega (arith, plain.few_rows)
+pub block_few : (layout : Layout) (t : ℕ) → IsPlainLayout layout → FewFirstRows layout → block_size layout t < 2 ^ 31
+block_few layout zero plain few = omega (arith, few)
+block_few layout (suc t) plain few = omega (arith, plain.few_rows)
 
 -- ---- the first duty of an agenda
 
@@ -209,9 +209,9 @@ stored_says layout t head d (Store word b) started =
 stored_says layout t head d _ started = tt
 
 -- The mark word that the duty names has no large number, if the thread has used a row of it.
-pub index_small : (layout : Layout) (t used : ℕ) (d : Duty) → IsPlainLayout layout → used ≤ block_size layout t
-    → HasUsedRow d used → IsIndexed d
-index_small layout t used (Scan w n) plain few low = omega (arith, block_few layout t plain, few, low)
-index_small layout t used (TakeFound w marks) plain few low =
-    (low.0, omega (arith, block_few layout t plain, few, low.1))
-index_small layout t used _ plain few low = tt
+pub index_small : (layout : Layout) (t used : ℕ) (d : Duty) → IsPlainLayout layout → FewFirstRows layout
+    → used ≤ block_size layout t → HasUsedRow d used → IsIndexed d
+index_small layout t used (Scan w n) plain few most low = omega (arith, block_few layout t plain few, most, low)
+index_small layout t used (TakeFound w marks) plain few most low =
+    (low.0, omega (arith, block_few layout t plain few, most, low.1))
+index_small layout t used _ plain few most low = tt

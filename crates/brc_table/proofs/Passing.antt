@@ -7,10 +7,10 @@ use Rattle.std.proofs.lemmas.List.{set-set}
 use Rattle.brc_model.specs.declared.address.Address.TheVariants.{Slot}
 use Rattle.brc_model.specs.declared.duty.Duty.{Duty}
 use Rattle.brc_model.specs.declared.duty.Duty.TheVariants.{BirthSlot, BirthLocal, SettleCell, TakeSlot, CloseResource, SettleEnd}
-use Rattle.brc_model.specs.declared.layout.Layout.{Layout}
 use Rattle.brc_model.specs.Machine.{Machine}
 use Rattle.brc_model.specs.OpenWork.{may_wait}
 use Rattle.brc_model.specs.SlotLaws.{UsesSlot, needs_slot}
+use Rattle.brc_table.specs.Plan.{Plan}
 use Rattle.brc_table.specs.declared.view.View.{View}
 use Rattle.brc_table.specs.Views.{with_work}
 use Rattle.brc_table.specs.Hands.{MayWait}
@@ -22,21 +22,21 @@ use Rattle.brc_table.proofs.Lists.{set_view}
 -- ---- two changes in a row
 
 -- What is passed from one machine to a second, and from there to a third, is passed from the first to the third.
-pub passes_on : {layout : Layout} {words : List ℕ} {views : List View} {taken : List ℕ} {locked : Option ℕ}
+pub passes_on : {plan : Plan} {words : List ℕ} {views : List View} {taken : List ℕ} {locked : Option ℕ}
     (first second : Machine)
     → ((x : ℕ) → (times_in x taken ≡ 0) ⊎ (locked ≡ Some x) → second.memory (Slot x) ≡ first.memory (Slot x))
-    → Passes layout words views taken locked second → Passes layout words views taken locked first
+    → Passes plan words views taken locked second → Passes plan words views taken locked first
 passes_on first second same next =
     record { stands = next.stands; slots = λ x which. next.slots x which ∙ same x which }
 
 -- Two changes of a hand's view, one after the other, are one change.
-pub becomes_then : (layout : Layout) (v w u : View) → Becomes layout v w → Becomes layout w u → Becomes layout v u
-becomes_then layout v w u first second = record {
+pub becomes_then : (plan : Plan) (v w u : View) → Becomes plan v w → Becomes plan w u → Becomes plan v u
+becomes_then plan v w u first second = record {
   passes = λ words views id stands here.
       let one = first.passes words views id stands here in
       let two = second.passes words (set views id w) id one.stands (set_view views id v w here) in
       let both =
-      subst (λ (l : List View). Passes layout words l w.taken w.actor.locked one.stands.machine)
+      subst (λ (l : List View). Passes plan words l w.taken w.actor.locked one.stands.machine)
       (set-set views id w u) two in
       record {
         stands = both.stands;
@@ -55,8 +55,8 @@ becomes_then layout v w u first second = record {
 }
 
 -- A hand may keep its view.
-pub becomes_same : (layout : Layout) (v u : View) → v ≡ u → Becomes layout v u
-becomes_same layout v u same = subst (Becomes layout v) same (itself_becomes layout v)
+pub becomes_same : (plan : Plan) (v u : View) → v ≡ u → Becomes plan v u
+becomes_same plan v u same = subst (Becomes plan v) same (itself_becomes plan v)
 
 -- ---- slots that stay
 

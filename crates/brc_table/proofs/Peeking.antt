@@ -1,5 +1,5 @@
 -- A hand looks what a thread's word says, and the rule holds again: no word changes.
-use Rattle.std.proofs.Common.{◌≡◌, ◌⊎◌, ℕ, ◌<◌, ◌≤◌, Bool, true, false, cond, Option, List, [], ◌∷◌, length, set, None, inl, inr, refl, sym, ap, ◌∙◌, subst, arith}
+use Rattle.std.proofs.Common.{◌≡◌, ◌⊎◌, ℕ, ◌+◌, ◌<◌, ◌≤◌, Bool, true, false, cond, Option, List, [], ◌∷◌, length, set, None, inl, inr, refl, sym, ap, ◌∙◌, subst, arith}
 use Rattle.std.specs.Prelude.{◌==◌, ◌&&◌, ◌||◌, slice_index}
 use Rattle.std.specs.List.{list_any}
 use Rattle.std.proofs.lemmas.Bool.{cases_Bool, cases_lt, eq-eqb, false≢true}
@@ -19,6 +19,7 @@ use Rattle.brc_model.specs.Machine.{Machine}
 use Rattle.brc_model.specs.CountingLaws.{AccountsAreThere, ChainsAreThere}
 use Rattle.brc_table.specs.declared.view.View.{View}
 use Rattle.brc_model.specs.declared.event.WordEvent.{WordEvent}
+use Rattle.brc_table.specs.Plan.{Plan}
 use Rattle.brc_table.specs.Places.{HasWord}
 use Rattle.brc_table.specs.Views.{is_given, RowsAreThere}
 use Rattle.brc_table.specs.KnownWords.{shows_kind, cell_known, starts, has_started, shows_gone}
@@ -32,6 +33,7 @@ use Rattle.brc_table.proofs.RowsThere.{rows_there}
 use Rattle.brc_table.proofs.Changing.{Changes, passes}
 use Rattle.brc_table.proofs.Joining.{joined_gone}
 use Rattle.brc_table.proofs.SlotsKept.{slots_kept}
+use Rattle.brc_table.proofs.FewRows.{few_first}
 use Rattle.brc_table.proofs.Lists.{set_view, set_itself}
 use Rattle.brc_table.proofs.Starting.{unwritten}
 use Rattle.brc_table.proofs.Stepping.{written_reads}
@@ -63,9 +65,9 @@ not_both word = elim (eqb_tells word 0) [
   | inr pos ↦ ap (λ (b : Bool). b && (word == 1)) pos.0
 ]
 
-module _ (accounts : AccountsAreThere) (chains : ChainsAreThere) (layout : Layout) (v : View) (t : ℕ)
+module _ (accounts : AccountsAreThere) (chains : ChainsAreThere) (plan : Plan) (v : View) (t : ℕ)
     (known : t ≤ v.layout.workers) where
-  module _ (words : List ℕ) (views : List View) (id : ℕ) (s : Stands layout words views)
+  module _ (words : List ℕ) (views : List View) (id : ℕ) (s : Stands plan words views)
       (here : get_elem? views id ≡ some v) where
     abbrev m : Machine
     m = s.machine
@@ -100,7 +102,7 @@ module _ (accounts : AccountsAreThere) (chains : ChainsAreThere) (layout : Layou
           stays_gone = λ is. is;
         })
 
-    changes : Changes layout words views v after s (set words t found)
+    changes : Changes plan words views v after s (set words t found)
     changes = record {
       accounts = s.accounts;
       machine = m;
@@ -110,7 +112,7 @@ module _ (accounts : AccountsAreThere) (chains : ChainsAreThere) (layout : Layou
       reads = λ b there_b.
           sym (unwritten m.memory (ThreadWord t) b (thread_reading found) (s.reads (ThreadWord t) has))
           ∙ written_reads m.layout words m.memory (ThreadWord t) found (thread_reading found) s.plain
-          s.length_is refl has s.reads b there_b;
+          (few_first s.accounts (1 + m.layout.workers) m s.counts) s.length_is refl has s.reads b there_b;
       actors = sym (set_itself m.actors v.thread v.actor (s.acts id v here));
       thread_same = refl;
       told_same = refl;
@@ -128,14 +130,14 @@ module _ (accounts : AccountsAreThere) (chains : ChainsAreThere) (layout : Layou
       cells_here = λ x i word guards seen.
           s.cells_seen id x i word v here guards (sym (fold-append (cell_known x i) None v.trace (event ∷ [])) ∙ seen);
       threads = λ k there_k.
-          threads_kept layout words (set words t found) views k v after s there_k keeps_threads;
+          threads_kept plan words (set words t found) views k v after s there_k keeps_threads;
     }
 
-    pub passes_peeked : Passes layout (set words t found) (set views id after) v.taken
+    pub passes_peeked : Passes plan (set words t found) (set views id after) v.taken
         v.actor.locked m
     unfolding changes
     passes_peeked =
-        passes layout words views id v after s here (set words t found) changes v.taken
+        passes plan words views id v after s here (set words t found) changes v.taken
         v.actor.locked
         (λ x which. refl)
 
@@ -179,7 +181,7 @@ module _ (accounts : AccountsAreThere) (chains : ChainsAreThere) (layout : Layou
 
   -- The look is allowed.
   pub peek_allowed : {T : Type 0} (slots id index : ℕ) (me : Me (Option T) View) → me.0 ≡ v → index ≡ t
-      → Allows (λ (s : State (Option T) View). TableStands layout s.words s.homes s.views) slots id me index
+      → Allows (λ (s : State (Option T) View). TableStands plan s.words s.homes s.views) slots id me index
       (λ found. found)
       (λ found after. Peeks t me found after)
   peek_allowed slots id index me is_me at s holds homes here below =
@@ -188,13 +190,13 @@ module _ (accounts : AccountsAreThere) (chains : ChainsAreThere) (layout : Layou
       let same : thread_word s.words t ≡ found = ap (slice_index s.words) (sym at) in
       let w = peeked v t found in
       let before = holds.stands.machine in
-      let moved : Passes layout (set s.words index found) (set s.views id w) v.taken v.actor.locked before =
-      subst (λ (k : ℕ). Passes layout (set s.words k found) (set s.views id w) v.taken v.actor.locked before) (sym at)
-      (subst (λ (k : ℕ). Passes layout (set s.words t k) (set s.views id (peeked v t k)) v.taken v.actor.locked
+      let moved : Passes plan (set s.words index found) (set s.views id w) v.taken v.actor.locked before =
+      subst (λ (k : ℕ). Passes plan (set s.words k found) (set s.views id w) v.taken v.actor.locked before) (sym at)
+      (subst (λ (k : ℕ). Passes plan (set s.words t k) (set s.views id (peeked v t k)) v.taken v.actor.locked
       before) same
       (passes_peeked s.words s.views id holds.stands mine)) in
       let rows : RowsAreThere w =
-      rows_there accounts chains layout (set s.words index found) (set s.views id w) id w moved.stands
+      rows_there accounts chains plan (set s.words index found) (set s.views id w) id w moved.stands
       (set_view s.views id v w mine) in (
         w,
         keeps,
@@ -211,7 +213,7 @@ module _ (accounts : AccountsAreThere) (chains : ChainsAreThere) (layout : Layou
           refl,
           omega (arith, same, found_low s.words s.views id holds.stands mine),
           λ first none. never_started s.words s.views id holds.stands mine first (same ∙ none),
-          λ joined. sym same ∙ joined_gone layout s.words s.views id v t holds.stands mine joined,
+          λ joined. sym same ∙ joined_gone plan s.words s.views id v t holds.stands mine joined,
           rows,
         ),
       )

@@ -5,22 +5,22 @@ use Rattle.brc_model.specs.declared.duty.Duty.{Duty}
 use Rattle.brc_model.specs.declared.duty.Duty.TheVariants.{MergeExchange, KindLoad, CellLoad}
 use Rattle.brc_model.specs.declared.duty.Reason.TheVariants.{Handed}
 use Rattle.brc_model.specs.declared.actor.Status.TheVariants.{Gone}
-use Rattle.brc_model.specs.declared.layout.Layout.{Layout}
 use Rattle.brc_model.specs.Layout.{row_count}
 use Rattle.brc_model.specs.Machine.{is_running}
 use Rattle.brc_model.specs.Duties.{address_of, new_word}
 use Rattle.brc_model.specs.SlotLaws.{SlotUse, Stays, Takes, Gives, use_of}
 use Rattle.brc_model.specs.Within.{Suits}
+use Rattle.brc_table.specs.Plan.{Plan}
 use Rattle.brc_table.specs.ModelLaws.{ModelLaws}
 use Rattle.brc_table.specs.declared.view.View.{View}
 use Rattle.brc_table.specs.Rule.{thread_reading}
 use Rattle.brc_table.specs.Views.{RowsAreThere, view_by, taken_after}
 use Rattle.brc_table.specs.Places.{place, IsObjectWord, IsTableWord}
-use Rattle.brc_table.specs.Hands.{TableState, HandState}
+use Rattle.brc_table.specs.Hands.{TableState, HandState, plan_of}
 use Rattle.brc_table.specs.Homes.{rows_of, held_in, TableStands}
 use Rattle.brc_table.specs.Begins.{Becomes}
 use Rattle.brc_table.specs.Uses.{IsDue, first_use, first_due, held_after, Uses}
-use Rattle.brc_table.specs.Plays.{SuitsFirst, FirstFindsOwner, FindsKnown}
+use Rattle.brc_table.specs.Plays.{SuitsFirst, FirstFindsOwner, FindsKnown, FindsFirst}
 use Rattle.brc_table.specs.Accesses.{HasAccess, IsNext}
 use Rattle.brc_table.specs.DutySteps.{DueSlot, OverwritesFirst, Steps, StepsBy, said}
 use Rattle.brc_table.proofs.Changing.{taken_same}
@@ -41,34 +41,41 @@ behind_known v (CellLoad x i) rest found known = known
 behind_known v (MergeExchange x c w Handed) rest found known = known
 behind_known v _ rest found known = tt
 
+behind_first : (lines : List (List ℕ)) (v : View) (d : Duty) (rest : List Duty) (found : ℕ)
+    → FindsFirst lines v (d ∷ []) found → FindsFirst lines v (d ∷ rest) found
+behind_first lines v (KindLoad x) rest found first = first
+behind_first lines v _ rest found first = tt
+
 module _ (laws : ModelLaws) (words : TableState) (hand : HandState) (begins : View → View)
-    {T : Type 0} (layout : Layout) (slots id index : ℕ) (me : Me (Option T) View) (seen : Seen words hand layout me)
-    (becomes : Becomes words.layout hand.view (begins hand.view)) where
+    {T : Type 0} (plan : Plan) (slots id index : ℕ) (me : Me (Option T) View) (seen : Seen words hand plan me)
+    (becomes : Becomes (plan_of words) hand.view (begins hand.view)) where
   abbrev u : View
   u = begins me.0
 
-  pub becoming : Becomes layout me.0 u
+  pub becoming : Becomes plan me.0 u
   becoming =
-      allowed.becomes_here laws words hand begins layout slots id index me seen becomes
+      allowed.becomes_here laws words hand begins plan slots id index me seen becomes
 
   module _ (d : Duty) (rest : List Duty) (next : IsNextAt u d rest index) (f : ℕ → ℕ)
-      (leaves : allowed.LeavesWord laws layout me.0 u d rest index becoming next f) where
+      (leaves : allowed.LeavesWord laws plan me.0 u d rest index becoming next f) where
     -- What the hand learns, beside what becomes of its slots.
-    learns : (found : ℕ) (after : Me (Option T) View) → Knows u d found → Uses begins me found after
-        → Steps begins me found after
+    learns : (found : ℕ) (after : Me (Option T) View) → Knows plan.lines u d found → Uses begins me found after
+        → Steps plan.lines begins me found after
     learns found after known uses = (
       uses,
       subst (λ (ds : List Duty). SuitsFirst u ds found) (sym next.agenda) known.suits,
       subst (λ (ds : List Duty). FirstFindsOwner u ds found) (sym next.agenda) known.owner,
       subst (λ (ds : List Duty). FindsKnown u ds found) (sym next.agenda) (behind_known u d rest found known.finds),
       subst (λ (ds : List Duty). OverwritesFirst u.thread ds found) (sym next.agenda) known.overwrites,
+      subst (λ (ds : List Duty). FindsFirst plan.lines u ds found) (sym next.agenda)
+          (behind_first plan.lines u d rest found known.first),
     )
 
     -- The hand goes on with what the word says.
-    goes_on : (word : ℕ) (after : Me (Option T) View) → Knows u d (read_of u d word)
-        → Uses begins me (read_of u d word) after → StepsBy begins me word after
+    goes_on : (word : ℕ) (after : Me (Option T) View) → Knows plan.lines u d (read_of u d word)
+        → Uses begins me (read_of u d word) after → StepsBy plan.lines begins me word after
     goes_on word after known uses =
-        subst (λ (ds : List Duty). Steps begins me (said u ds word) after) (sym next.agenda)
+        subst (λ (ds : List Duty). Steps plan.lines begins me (said u ds word) after) (sym next.agenda)
         (learns (read_of u d word) after known uses)
 
     -- A duty that takes no slot and gives none back uses none.
@@ -86,19 +93,19 @@ module _ (laws : ModelLaws) (words : TableState) (hand : HandState) (begins : Vi
 
     pub permitted : rows_of me.1 ≡ me.0.taken → (s : SlotUse)
         → ((found : ℕ) → use_of d found ≡ s) → DueSlot s (held_in me.1) u
-        → Allows (λ (s : State (Option T) View). TableStands layout s.words s.homes s.views) slots id me index f
-        (StepsBy begins me)
+        → Allows (λ (s : State (Option T) View). TableStands plan s.words s.homes s.views) slots id me index f
+        (StepsBy plan.lines begins me)
     permitted rows Stays all due =
-        allowed.allows laws layout me.0 u d rest index becoming next slots id me f
-        (StepsBy begins me) refl all leaves
+        allowed.allows laws plan me.0 u d rest index becoming next slots id me f
+        (StepsBy plan.lines begins me) refl all leaves
         (λ word knows there.
         goes_on word (view_by u (d ∷ rest) (read_of u d word), me.1) knows (uses_none all (read_of u d word) there))
     permitted rows (Takes x) all due =
-        taken.takes_allows laws layout me.0 u d rest index becoming next x slots id me f
-        begins (StepsBy begins me) refl refl all leaves goes_on
+        taken.takes_allows laws plan me.0 u d rest index becoming next x slots id me f
+        begins (StepsBy plan.lines begins me) refl refl all leaves goes_on
     permitted rows (Gives x) all due =
-        given.gives_allows laws layout me.0 u d rest index becoming next x
-        slots id due.0 me f begins (StepsBy begins me) refl refl rows due.1
+        given.gives_allows laws plan me.0 u d rest index becoming next x
+        slots id due.0 me f begins (StepsBy plan.lines begins me) refl refl rows due.1
         (subst (λ (ds : List Duty). IsDue u ds due.0) next.agenda due.2) all leaves goes_on
 
   -- The step of a duty that comes next leaves the duty's new word.
@@ -106,7 +113,7 @@ module _ (laws : ModelLaws) (words : TableState) (hand : HandState) (begins : Vi
       → (f : ℕ → ℕ)
       → ((running : Bool) (n found : ℕ) → found < 2 ^ 64 → Suits u.thread running n d found
       → f found ≡ new_word u.layout u.thread u.actor.head d found)
-      → allowed.LeavesWord laws layout me.0 u e rest index becoming next f
+      → allowed.LeavesWord laws plan me.0 u e rest index becoming next f
   next_leaves d has e rest next like f leaves = elim (word_of u.layout u.thread u.actor.head d has) [
     | inl object ↦
         let is_at : IsAt u e rest index = record {
@@ -115,14 +122,14 @@ module _ (laws : ModelLaws) (words : TableState) (hand : HandState) (begins : Vi
           object = subst IsObjectWord (sym (like.address u.layout u.thread u.actor.head)) object;
           index_is = next.index_is;
         } in
-        allowed.object_leaves laws layout me.0 u e rest index becoming is_at f
+        allowed.object_leaves laws plan me.0 u e rest index becoming is_at f
         (λ found small knows.
         leaves (is_running u.actor.status) (row_count u.layout) found small
         (like.suits u.thread (is_running u.actor.status) (row_count u.layout) found knows.suits)
         ∙ sym (like.word u.layout u.thread u.actor.head found))
     | inr (on, suits) ↦
         let word = like.word u.layout u.thread u.actor.head in
-        thread_leaves laws layout me.0 u e rest index becoming next
+        thread_leaves laws plan me.0 u e rest index becoming next
         (record {
           thread = on.thread;
           address = like.address u.layout u.thread u.actor.head ∙ on.address;
@@ -147,8 +154,8 @@ module _ (laws : ModelLaws) (words : TableState) (hand : HandState) (begins : Vi
       → ((running : Bool) (n found : ℕ) → found < 2 ^ 64 → Suits u.thread running n d found
       → f found ≡ new_word u.layout u.thread u.actor.head d found)
       → DueSlot (use_of d 0) (held_in me.1) u
-      → Allows (λ (s : State (Option T) View). TableStands layout s.words s.homes s.views) slots id me index f
-      (StepsBy begins me)
+      → Allows (λ (s : State (Option T) View). TableStands plan s.words s.homes s.views) slots id me index f
+      (StepsBy plan.lines begins me)
   next_permitted rows d has coming_next alive at f leaves due =
       let c = coming d u.actor.agenda coming_next in
       let address = c.like.address u.layout u.thread u.actor.head in

@@ -11,7 +11,7 @@ use Rattle.brc_model.specs.Duties.{mark_place}
 use Rattle.brc_model.specs.Machine.{same_address}
 use Rattle.brc_model.proofs.Basics.Blocks.{block_within}
 use Rattle.brc_model.proofs.Basics.Marks.{word_within}
-use Rattle.brc_table.specs.Places.{line, mark_room, front, tile_lines, tile, local_line, shared_line, gate_line, kind_line, in_tile, tiles, cells_front, cell_place, place, HasWord, word_count}
+use Rattle.brc_table.specs.Places.{line, mark_room, front, tile_lines, tile, local_line, shared_line, gate_line, kind_line, in_tile, tiles, cells_front, cell_place, place, HasWord, word_count, FewFirstRows}
 
 -- Says whether the address is a cell's.
 abbrev pub is_cell : Address → Bool
@@ -85,21 +85,21 @@ cell_apart layout x i y j small small' e = multiple_apart layout.cells x i y j s
 -- ---- mark words
 
 -- The mark words of a block have room in front of those of the next one.
-marks_low : (layout : Layout) (t : ℕ) → IsPlainLayout layout → mark_words_of layout t ≤ mark_room
-marks_low layout zero plain = omega (arith, plain.immortals)
-marks_low layout (suc t) plain = omega (arith, plain.few_rows)
+marks_low : (layout : Layout) (t : ℕ) → IsPlainLayout layout → FewFirstRows layout → mark_words_of layout t ≤ mark_room
+marks_low layout zero plain few = omega (arith, few)
+marks_low layout (suc t) plain few = omega (arith, plain.few_rows)
 
 -- They are in front of the tiles,
-pub in_front : (layout : Layout) (t w : ℕ) → IsPlainLayout layout → HasWord layout (Marks t w)
+pub in_front : (layout : Layout) (t w : ℕ) → IsPlainLayout layout → FewFirstRows layout → HasWord layout (Marks t w)
     → place layout (Marks t w) < front
-in_front layout t w plain has = omega (arith, has.0, has.1, marks_low layout t plain, plain.few_workers)
+in_front layout t w plain few has = omega (arith, has.0, has.1, marks_low layout t plain few, plain.few_workers)
 
 -- and each has a place of its own.
-marks_apart : (layout : Layout) (t w u z : ℕ) → IsPlainLayout layout → HasWord layout (Marks t w)
+marks_apart : (layout : Layout) (t w u z : ℕ) → IsPlainLayout layout → FewFirstRows layout → HasWord layout (Marks t w)
     → HasWord layout (Marks u z) → place layout (Marks t w) ≡ place layout (Marks u z) → (t ≡ u) × (w ≡ z)
-marks_apart layout t w u z plain one other e =
-    let low : w < mark_room = omega (arith, one.1, marks_low layout t plain) in
-    let low' : z < mark_room = omega (arith, other.1, marks_low layout u plain) in
+marks_apart layout t w u z plain few one other e =
+    let low : w < mark_room = omega (arith, one.1, marks_low layout t plain few) in
+    let low' : z < mark_room = omega (arith, other.1, marks_low layout u plain few) in
     (omega (arith, low, low', e), omega (arith, low, low', e))
 
 -- The mark word of a row is there, if the row is.
@@ -114,110 +114,113 @@ not_same : (x y : ℕ) → (x == y) ≡ false → x ≢ y
 not_same x y apart e = absurd (let both : true ≡ false = sym (eq-eqb x y e) ∙ apart in cc)
 
 -- Different addresses have different places.
-pub place_apart : (layout : Layout) (a b : Address) → IsPlainLayout layout → HasWord layout a
+pub place_apart : (layout : Layout) (a b : Address) → IsPlainLayout layout → FewFirstRows layout → HasWord layout a
     → HasWord layout b
     → same_address a b ≡ false → place layout a ≢ place layout b
-place_apart layout (Local x) (Local y) plain one other apart e = not_same x y apart (header_row 0 x y (omega arith) e)
-place_apart layout (Local x) (Shared y) plain one other apart e = absurd
+place_apart layout (Local x) (Local y) plain few one other apart e =
+    not_same x y apart (header_row 0 x y (omega arith) e)
+place_apart layout (Local x) (Shared y) plain few one other apart e = absurd
     (omega (arith, header_line 0 1 x y (omega arith) (omega arith) e))
-place_apart layout (Local x) (Gate y) plain one other apart e = absurd
+place_apart layout (Local x) (Gate y) plain few one other apart e = absurd
     (omega (arith, header_line 0 2 x y (omega arith) (omega arith) e))
-place_apart layout (Local x) (KindOf y) plain one other apart e = absurd
+place_apart layout (Local x) (KindOf y) plain few one other apart e = absurd
     (omega (arith, header_line 0 3 x y (omega arith) (omega arith) e))
-place_apart layout (Local x) (Cell y i) plain one other apart e =
+place_apart layout (Local x) (Cell y i) plain few one other apart e =
     header_cell layout 0 x y i (omega arith) one e
-place_apart layout (Local x) (ThreadWord u) plain one other apart e = absurd
+place_apart layout (Local x) (ThreadWord u) plain few one other apart e = absurd
     (omega (arith, plain.few_workers, other, e))
-place_apart layout (Cell y i) (Local x) plain one other apart e =
+place_apart layout (Cell y i) (Local x) plain few one other apart e =
     header_cell layout 0 x y i (omega arith) other (sym e)
-place_apart layout (ThreadWord u) (Local x) plain one other apart e = absurd
+place_apart layout (ThreadWord u) (Local x) plain few one other apart e = absurd
     (omega (arith, plain.few_workers, one, e))
-place_apart layout (Shared x) (Local y) plain one other apart e = absurd
+place_apart layout (Shared x) (Local y) plain few one other apart e = absurd
     (omega (arith, header_line 1 0 x y (omega arith) (omega arith) e))
-place_apart layout (Shared x) (Shared y) plain one other apart e = not_same x y apart (header_row 1 x y (omega arith) e)
-place_apart layout (Shared x) (Gate y) plain one other apart e = absurd
+place_apart layout (Shared x) (Shared y) plain few one other apart e =
+    not_same x y apart (header_row 1 x y (omega arith) e)
+place_apart layout (Shared x) (Gate y) plain few one other apart e = absurd
     (omega (arith, header_line 1 2 x y (omega arith) (omega arith) e))
-place_apart layout (Shared x) (KindOf y) plain one other apart e = absurd
+place_apart layout (Shared x) (KindOf y) plain few one other apart e = absurd
     (omega (arith, header_line 1 3 x y (omega arith) (omega arith) e))
-place_apart layout (Shared x) (Cell y i) plain one other apart e =
+place_apart layout (Shared x) (Cell y i) plain few one other apart e =
     header_cell layout 1 x y i (omega arith) one e
-place_apart layout (Shared x) (ThreadWord u) plain one other apart e = absurd
+place_apart layout (Shared x) (ThreadWord u) plain few one other apart e = absurd
     (omega (arith, plain.few_workers, other, e))
-place_apart layout (Cell y i) (Shared x) plain one other apart e =
+place_apart layout (Cell y i) (Shared x) plain few one other apart e =
     header_cell layout 1 x y i (omega arith) other (sym e)
-place_apart layout (ThreadWord u) (Shared x) plain one other apart e = absurd
+place_apart layout (ThreadWord u) (Shared x) plain few one other apart e = absurd
     (omega (arith, plain.few_workers, one, e))
-place_apart layout (Gate x) (Local y) plain one other apart e = absurd
+place_apart layout (Gate x) (Local y) plain few one other apart e = absurd
     (omega (arith, header_line 2 0 x y (omega arith) (omega arith) e))
-place_apart layout (Gate x) (Shared y) plain one other apart e = absurd
+place_apart layout (Gate x) (Shared y) plain few one other apart e = absurd
     (omega (arith, header_line 2 1 x y (omega arith) (omega arith) e))
-place_apart layout (Gate x) (Gate y) plain one other apart e = not_same x y apart (header_row 2 x y (omega arith) e)
-place_apart layout (Gate x) (KindOf y) plain one other apart e = absurd
+place_apart layout (Gate x) (Gate y) plain few one other apart e = not_same x y apart (header_row 2 x y (omega arith) e)
+place_apart layout (Gate x) (KindOf y) plain few one other apart e = absurd
     (omega (arith, header_line 2 3 x y (omega arith) (omega arith) e))
-place_apart layout (Gate x) (Cell y i) plain one other apart e =
+place_apart layout (Gate x) (Cell y i) plain few one other apart e =
     header_cell layout 2 x y i (omega arith) one e
-place_apart layout (Gate x) (ThreadWord u) plain one other apart e = absurd
+place_apart layout (Gate x) (ThreadWord u) plain few one other apart e = absurd
     (omega (arith, plain.few_workers, other, e))
-place_apart layout (Cell y i) (Gate x) plain one other apart e =
+place_apart layout (Cell y i) (Gate x) plain few one other apart e =
     header_cell layout 2 x y i (omega arith) other (sym e)
-place_apart layout (ThreadWord u) (Gate x) plain one other apart e = absurd
+place_apart layout (ThreadWord u) (Gate x) plain few one other apart e = absurd
     (omega (arith, plain.few_workers, one, e))
-place_apart layout (KindOf x) (Local y) plain one other apart e = absurd
+place_apart layout (KindOf x) (Local y) plain few one other apart e = absurd
     (omega (arith, header_line 3 0 x y (omega arith) (omega arith) e))
-place_apart layout (KindOf x) (Shared y) plain one other apart e = absurd
+place_apart layout (KindOf x) (Shared y) plain few one other apart e = absurd
     (omega (arith, header_line 3 1 x y (omega arith) (omega arith) e))
-place_apart layout (KindOf x) (Gate y) plain one other apart e = absurd
+place_apart layout (KindOf x) (Gate y) plain few one other apart e = absurd
     (omega (arith, header_line 3 2 x y (omega arith) (omega arith) e))
-place_apart layout (KindOf x) (KindOf y) plain one other apart e = not_same x y apart (header_row 3 x y (omega arith) e)
-place_apart layout (KindOf x) (Cell y i) plain one other apart e =
+place_apart layout (KindOf x) (KindOf y) plain few one other apart e =
+    not_same x y apart (header_row 3 x y (omega arith) e)
+place_apart layout (KindOf x) (Cell y i) plain few one other apart e =
     header_cell layout 3 x y i (omega arith) one e
-place_apart layout (KindOf x) (ThreadWord u) plain one other apart e = absurd
+place_apart layout (KindOf x) (ThreadWord u) plain few one other apart e = absurd
     (omega (arith, plain.few_workers, other, e))
-place_apart layout (Cell y i) (KindOf x) plain one other apart e =
+place_apart layout (Cell y i) (KindOf x) plain few one other apart e =
     header_cell layout 3 x y i (omega arith) other (sym e)
-place_apart layout (ThreadWord u) (KindOf x) plain one other apart e = absurd
+place_apart layout (ThreadWord u) (KindOf x) plain few one other apart e = absurd
     (omega (arith, plain.few_workers, one, e))
-place_apart layout (Cell x i) (Cell y j) plain one other apart e =
+place_apart layout (Cell x i) (Cell y j) plain few one other apart e =
     let same = cell_apart layout x i y j one.1 other.1 e in
     absurd (let both : ((x == y) && (i == j)) ≡ true = rw (eq-eqb x y same.0, eq-eqb i j same.1) refl in let wrong :
     true ≡ false = sym both ∙ apart in cc)
-place_apart layout (Cell x i) (ThreadWord u) plain one other apart e = absurd
+place_apart layout (Cell x i) (ThreadWord u) plain few one other apart e = absurd
     (omega (arith, plain.few_workers, other, e))
-place_apart layout (ThreadWord u) (Cell x i) plain one other apart e = absurd
+place_apart layout (ThreadWord u) (Cell x i) plain few one other apart e = absurd
     (omega (arith, plain.few_workers, one, e))
-place_apart layout (Marks t w) (Marks u z) plain one other apart e =
-    let same = marks_apart layout t w u z plain one other e in
+place_apart layout (Marks t w) (Marks u z) plain few one other apart e =
+    let same = marks_apart layout t w u z plain few one other e in
     absurd (let both : ((t == u) && (w == z)) ≡ true = rw (eq-eqb t u same.0, eq-eqb w z same.1) refl in let wrong :
     true ≡ false = sym both ∙ apart in cc)
-place_apart layout (Marks t w) (Local y) plain one other apart e = absurd
-    (omega (arith, in_front layout t w plain one, e))
-place_apart layout (Local y) (Marks t w) plain one other apart e = absurd
-    (omega (arith, in_front layout t w plain other, e))
-place_apart layout (Marks t w) (Shared y) plain one other apart e = absurd
-    (omega (arith, in_front layout t w plain one, e))
-place_apart layout (Shared y) (Marks t w) plain one other apart e = absurd
-    (omega (arith, in_front layout t w plain other, e))
-place_apart layout (Marks t w) (Gate y) plain one other apart e = absurd
-    (omega (arith, in_front layout t w plain one, e))
-place_apart layout (Gate y) (Marks t w) plain one other apart e = absurd
-    (omega (arith, in_front layout t w plain other, e))
-place_apart layout (Marks t w) (KindOf y) plain one other apart e = absurd
-    (omega (arith, in_front layout t w plain one, e))
-place_apart layout (KindOf y) (Marks t w) plain one other apart e = absurd
-    (omega (arith, in_front layout t w plain other, e))
-place_apart layout (Marks t w) (Cell y i) plain one other apart e = absurd
-    (omega (arith, in_front layout t w plain one, e))
-place_apart layout (Cell y i) (Marks t w) plain one other apart e = absurd
-    (omega (arith, in_front layout t w plain other, e))
-place_apart layout (Marks t w) (ThreadWord u) plain one other apart e = absurd
+place_apart layout (Marks t w) (Local y) plain few one other apart e = absurd
+    (omega (arith, in_front layout t w plain few one, e))
+place_apart layout (Local y) (Marks t w) plain few one other apart e = absurd
+    (omega (arith, in_front layout t w plain few other, e))
+place_apart layout (Marks t w) (Shared y) plain few one other apart e = absurd
+    (omega (arith, in_front layout t w plain few one, e))
+place_apart layout (Shared y) (Marks t w) plain few one other apart e = absurd
+    (omega (arith, in_front layout t w plain few other, e))
+place_apart layout (Marks t w) (Gate y) plain few one other apart e = absurd
+    (omega (arith, in_front layout t w plain few one, e))
+place_apart layout (Gate y) (Marks t w) plain few one other apart e = absurd
+    (omega (arith, in_front layout t w plain few other, e))
+place_apart layout (Marks t w) (KindOf y) plain few one other apart e = absurd
+    (omega (arith, in_front layout t w plain few one, e))
+place_apart layout (KindOf y) (Marks t w) plain few one other apart e = absurd
+    (omega (arith, in_front layout t w plain few other, e))
+place_apart layout (Marks t w) (Cell y i) plain few one other apart e = absurd
+    (omega (arith, in_front layout t w plain few one, e))
+place_apart layout (Cell y i) (Marks t w) plain few one other apart e = absurd
+    (omega (arith, in_front layout t w plain few other, e))
+place_apart layout (Marks t w) (ThreadWord u) plain few one other apart e = absurd
     (omega (arith, plain.few_workers, other, e))
-place_apart layout (ThreadWord u) (Marks t w) plain one other apart e = absurd
+place_apart layout (ThreadWord u) (Marks t w) plain few one other apart e = absurd
     (omega (arith, plain.few_workers, one, e))
-place_apart layout (ThreadWord t) (ThreadWord u) plain one other apart e = not_same t u apart e
-place_apart layout (Slot x) b plain one other apart e = one
-place_apart layout (Resource x) b plain one other apart e = one
-place_apart layout a (Slot y) plain one other apart e = other
-place_apart layout a (Resource y) plain one other apart e = other
+place_apart layout (ThreadWord t) (ThreadWord u) plain few one other apart e = not_same t u apart e
+place_apart layout (Slot x) b plain few one other apart e = one
+place_apart layout (Resource x) b plain few one other apart e = one
+place_apart layout a (Slot y) plain few one other apart e = other
+place_apart layout a (Resource y) plain few one other apart e = other
 
 -- ---- places are within the table
 
@@ -233,19 +236,20 @@ cell_within layout x i low there =
     omega (arith, more, low)
 
 -- Words but for cells are in front of the cells.
-pub place_front : (layout : Layout) (a : Address) → IsPlainLayout layout → HasWord layout a → is_cell a ≡ false
+pub place_front : (layout : Layout) (a : Address) → IsPlainLayout layout → FewFirstRows layout → HasWord layout a
+    → is_cell a ≡ false
     → place layout a < cells_front layout
-place_front layout (Local x) plain has other = header_front layout local_line x (omega arith) has
-place_front layout (Shared x) plain has other = header_front layout shared_line x (omega arith) has
-place_front layout (Gate x) plain has other = header_front layout gate_line x (omega arith) has
-place_front layout (KindOf x) plain has other = header_front layout kind_line x (omega arith) has
-place_front layout (Cell x i) plain has other = absurd cc
-place_front layout (ThreadWord t) plain has other = omega (arith, plain.few_workers, has)
-place_front layout (Marks t w) plain has other = omega (arith, in_front layout t w plain has)
-place_front layout (Slot x) plain has other = absurd has
-place_front layout (Resource x) plain has other = absurd has
+place_front layout (Local x) plain few has other = header_front layout local_line x (omega arith) has
+place_front layout (Shared x) plain few has other = header_front layout shared_line x (omega arith) has
+place_front layout (Gate x) plain few has other = header_front layout gate_line x (omega arith) has
+place_front layout (KindOf x) plain few has other = header_front layout kind_line x (omega arith) has
+place_front layout (Cell x i) plain few has other = absurd cc
+place_front layout (ThreadWord t) plain few has other = omega (arith, plain.few_workers, has)
+place_front layout (Marks t w) plain few has other = omega (arith, in_front layout t w plain few has)
+place_front layout (Slot x) plain few has other = absurd has
+place_front layout (Resource x) plain few has other = absurd has
 
-pub place_within : (layout : Layout) (a : Address) → IsPlainLayout layout → HasWord layout a
+pub place_within : (layout : Layout) (a : Address) → IsPlainLayout layout → FewFirstRows layout → HasWord layout a
     → place layout a < word_count layout
-place_within layout (Cell x i) plain has = cell_within layout x i has.1 has.0
-place_within layout a plain has = omega (arith, place_front layout a plain has refl)
+place_within layout (Cell x i) plain few has = cell_within layout x i has.1 has.0
+place_within layout a plain few has = omega (arith, place_front layout a plain few has refl)

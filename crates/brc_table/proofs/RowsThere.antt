@@ -9,29 +9,29 @@ use lib.ListN.{get_elem?}
 use Rattle.brc_model.specs.declared.duty.Duty.{Duty}
 use Rattle.brc_model.specs.declared.duty.Holding.TheVariants.{AsCaller}
 use Rattle.brc_model.specs.declared.layout.Layout.{Layout}
-use Rattle.brc_model.specs.Layout.{row_count, block_size, none_row, first_immortal_list, is_immortal_row}
+use Rattle.brc_model.specs.Layout.{row_count, block_size, none_row, first_immortal_list, first_number, is_immortal_row}
 use Rattle.brc_model.specs.Duties.{cells_of}
 use Rattle.brc_model.specs.OpenWork.{is_about}
 use Rattle.brc_model.specs.Ranges.{AreSmall}
-use Rattle.brc_model.specs.Counting.{IsPlainLayout}
 use Rattle.brc_model.specs.CountingLaws.{AccountsAreThere, ChainsAreThere}
+use Rattle.brc_table.specs.Plan.{Plan}
 use Rattle.brc_table.specs.declared.view.View.{View}
+use Rattle.brc_table.specs.Places.{FewFirstRows}
 use Rattle.brc_table.specs.Views.{NamesFewCells, RowsAreThere, work_about}
 use Rattle.brc_table.specs.Rule.{Stands}
+use Rattle.brc_table.proofs.FewRows.{few_first}
 use Rattle.brc_table.proofs.Lists.{and_second}
 
--- An immortal row is none's.
-pub immortal_there : (layout : Layout) (x : ℕ) → IsPlainLayout layout → is_immortal_row layout x ≡ true
-    → x < row_count layout
-immortal_there layout x plain immortal =
+-- An immortal row is there.
+pub immortal_there : (layout : Layout) (x : ℕ) → is_immortal_row layout x ≡ true → x < row_count layout
+immortal_there layout x immortal =
     elim (cases_Bool (x == none_row)) [
       | inl none ↦ let it = eqb-true x none_row none in omega (arith, it)
       | inr other ↦
           let behind = sym (ap (λ (b : Bool). b || (nat_le (first_immortal_list layout) x
-          && nat_lt x (first_immortal_list layout + layout.immortal_lists))) other) ∙ immortal in
-          let low = and_second (nat_le (first_immortal_list layout) x)
-          (nat_lt x (first_immortal_list layout + layout.immortal_lists)) behind in
-          ltb-true x (first_immortal_list layout + layout.immortal_lists) low
+          && nat_lt x (first_number layout))) other) ∙ immortal in
+          let low = and_second (nat_le (first_immortal_list layout) x) (nat_lt x (first_number layout)) behind in
+          omega (arith, ltb-true x (first_number layout) low)
     ]
 
 small_there : (layout : Layout) (ds : List Duty) (x : ℕ) → AreSmall layout ds → list_any (is_about x) ds ≡ true
@@ -82,9 +82,9 @@ work_there v x d rest agenda aside is = elim (either_list x v.actor.agenda v.act
   | inr waiting ↦ aside waiting
 ]
 
-pub rows_there : AccountsAreThere → ChainsAreThere → (layout : Layout) (words : List ℕ) (views : List View) (id : ℕ)
-    (v : View) → Stands layout words views → get_elem? views id ≡ some v → RowsAreThere v
-rows_there law chains layout words views id v stands here =
+pub rows_there : AccountsAreThere → ChainsAreThere → (plan : Plan) (words : List ℕ) (views : List View) (id : ℕ)
+    (v : View) → Stands plan words views → get_elem? views id ≡ some v → RowsAreThere v
+rows_there law chains plan words views id v stands here =
     let m = stands.machine in
     let told = stands.told id v here in
     let found = stands.acts id v here in
@@ -96,6 +96,7 @@ rows_there law chains layout words views id v stands here =
     let aside : (x : ℕ) → list_any (is_about x) v.actor.aside ≡ true → x < row_count v.layout =
     λ x is. rows x (small_there m.layout v.actor.aside x (stands.counts.ranges.aside v.thread v.actor found) is) in
     record {
+      few = subst FewFirstRows (sym told) (few_first stands.accounts (1 + m.layout.workers) m stands.counts);
       thread =
           subst (λ (l : Layout). v.thread ≤ l.workers) (sym told)
           (omega (arith, slice_get_within m.actors v.thread v.actor found, stands.counts.kept.core.threads));
@@ -106,7 +107,7 @@ rows_there law chains layout words views id v stands here =
           subst (λ (l : Layout). v.actor.used ≡ block_size l v.thread) (sym told)
           ((stands.counts.kept.core.uses v.thread v.actor found).main first);
       held = λ x held. rows x (elim (cases_Bool (is_immortal_row m.layout x)) [
-        | inl immortal ↦ immortal_there m.layout x stands.plain immortal
+        | inl immortal ↦ immortal_there m.layout x immortal
         | inr counted ↦
             law stands.accounts (1 + m.layout.workers) m v.thread v.actor AsCaller x stands.counts found
             (omega (arith, held, stands.holding id v x here counted))

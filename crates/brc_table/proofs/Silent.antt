@@ -18,6 +18,7 @@ use Rattle.brc_model.specs.declared.actor.Actor.{Actor}
 use Rattle.brc_model.specs.Machine.{Machine, Life, written, is_running, life_by, actor_by, machine_by_duty}
 use Rattle.brc_model.specs.CountingLaws.{ComesNext, DutiesAreKept}
 use Rattle.brc_model.specs.SlotLaws.{needs_slot, UsesSlot, NeededSlotsAreUnlocked}
+use Rattle.brc_table.specs.Plan.{Plan}
 use Rattle.brc_table.specs.declared.view.View.{View}
 use Rattle.brc_table.specs.Places.{HasWord}
 use Rattle.brc_table.specs.Views.{slot_filled_by, slot_emptied_by, with_next}
@@ -138,7 +139,7 @@ close_silent x = record {
 
 -- ---- the change
 
-module _ (kept : DutiesAreKept) (unlocked : NeededSlotsAreUnlocked) (layout : Layout) (x : ℕ) where
+module _ (kept : DutiesAreKept) (unlocked : NeededSlotsAreUnlocked) (plan : Plan) (x : ℕ) where
   module _ (v : View) (d next : Duty) (rest : List Duty) (silent : Silent x d next) (agenda : v.actor.agenda ≡ d ∷ rest)
       (alive : v.actor.status ≢ Gone) (taken : 1 ≤ times_in x v.taken) where
     abbrev u : View
@@ -157,7 +158,7 @@ module _ (kept : DutiesAreKept) (unlocked : NeededSlotsAreUnlocked) (layout : La
               inr (ap (λ (b : Bool). needs_slot y next || b) later ∙ or_true (needs_slot y next))
         ]
 
-    module _ (words : List ℕ) (views : List View) (id : ℕ) (s : Stands layout words views)
+    module _ (words : List ℕ) (views : List View) (id : ℕ) (s : Stands plan words views)
         (here : get_elem? views id ≡ some v) where
       abbrev m : Machine
       m = s.machine
@@ -188,11 +189,11 @@ module _ (kept : DutiesAreKept) (unlocked : NeededSlotsAreUnlocked) (layout : La
       guards_of (inl locked) = inl locked
       guards_of (inr chained) = inr chained
 
-      passed : Passes layout words (set views id u) v.taken v.actor.locked m
+      passed : Passes plan words (set views id u) v.taken v.actor.locked m
       passed =
           let at = silent.at m.layout t a.head in
           let word = new_word m.layout t a.head d (m.memory address) in
-          passes layout words views id v u s here words (record {
+          passes plan words views id v u s here words (record {
             accounts = s.accounts;
             machine = machine_by_duty m t a d rest;
             counts = (kept s.accounts (1 + m.layout.workers) m t a d rest s.counts comes).1;
@@ -223,11 +224,11 @@ module _ (kept : DutiesAreKept) (unlocked : NeededSlotsAreUnlocked) (layout : La
                 ∙ s.cells_seen id y i w v here
                 (guards_before m (machine_by_duty m t a d rest) v y (still y) (gate_away x address at m.memory word y)
                 (guards_of guards)) seen;
-            threads = λ i there. threads_same layout words views i v u s there refl refl refl;
+            threads = λ i there. threads_same plan words views i v u s there refl refl refl;
           }) v.taken v.actor.locked
           (λ y which. slot_apart x address at m.memory word y (other_row y which))
 
-    silent_becomes : Becomes layout v u
+    silent_becomes : Becomes plan v u
     silent_becomes = record {
       passes = passed;
       same = refl;
@@ -237,25 +238,25 @@ module _ (kept : DutiesAreKept) (unlocked : NeededSlotsAreUnlocked) (layout : La
 
   -- A hand that gives birth to an object puts its resource into its slot.
   pub filled_becomes : (v : View) (ds : List Duty) → v.actor.agenda ≡ ds → OwnsFirst x ds → v.actor.status ≢ Gone
-      → 1 ≤ times_in x v.taken → Becomes layout v (slot_filled_by ds v)
+      → 1 ≤ times_in x v.taken → Becomes plan v (slot_filled_by ds v)
   filled_becomes v (BirthSlot y h ∷ []) is same alive taken =
       let is_x : v.actor.agenda ≡ BirthSlot x h ∷ [] = is ∙ ap (λ (z : ℕ). BirthSlot z h ∷ []) same in
-      subst (λ (z : ℕ). Becomes layout v (with_next v (BirthLocal z h ∷ []))) (sym same)
+      subst (λ (z : ℕ). Becomes plan v (with_next v (BirthLocal z h ∷ []))) (sym same)
       (silent_becomes v (BirthSlot x h) (BirthLocal x h) [] (birth_silent x h) is_x alive taken)
-  filled_becomes v (BirthLocal y h ∷ []) is same alive taken = itself_becomes layout v
+  filled_becomes v (BirthLocal y h ∷ []) is same alive taken = itself_becomes plan v
   filled_becomes v _ is same alive taken = absurd same
 
   -- A hand that deallocates an object takes its resource out, and the host closes it.
   pub emptied_becomes : (v : View) (ds : List Duty) → v.actor.agenda ≡ ds → ClosesRow x ds → v.actor.status ≢ Gone
-      → 1 ≤ times_in x v.taken → Becomes layout v (slot_emptied_by ds v)
+      → 1 ≤ times_in x v.taken → Becomes plan v (slot_emptied_by ds v)
   emptied_becomes v (TakeSlot y ∷ rest) is same alive taken =
       let is_x : v.actor.agenda ≡ TakeSlot x ∷ rest = is ∙ ap (λ (z : ℕ). TakeSlot z ∷ rest) same in
       let w : View = with_next v (CloseResource x ∷ rest) in
-      subst (λ (z : ℕ). Becomes layout v (with_next v (SettleEnd z ∷ rest))) (sym same)
-      (becomes_then layout v w (with_next v (SettleEnd x ∷ rest))
+      subst (λ (z : ℕ). Becomes plan v (with_next v (SettleEnd z ∷ rest))) (sym same)
+      (becomes_then plan v w (with_next v (SettleEnd x ∷ rest))
       (silent_becomes v (TakeSlot x) (CloseResource x) rest (take_silent x) is_x alive taken)
       (silent_becomes w (CloseResource x) (SettleEnd x) rest (close_silent x) refl alive taken))
-  emptied_becomes v (SettleEnd y ∷ rest) is same alive taken = itself_becomes layout v
+  emptied_becomes v (SettleEnd y ∷ rest) is same alive taken = itself_becomes plan v
   emptied_becomes v _ is same alive taken = absurd same
 
 -- ---- what stays

@@ -10,10 +10,9 @@ use Rattle.atomic_table.specs.Table.{State, keeps, takes, Me, Allows}
 use Rattle.brc_word.specs.Words.{free_word, locked_word}
 use Rattle.brc_model.specs.declared.address.Address.TheVariants.{Slot}
 use Rattle.brc_model.specs.declared.duty.Duty.TheVariants.{LockGate}
-use Rattle.brc_model.specs.declared.layout.Layout.{Layout}
-use Rattle.brc_model.specs.Layout.{IsCounted}
 use Rattle.brc_model.specs.CountingLaws.{WorkIsPutAside, LocksBegin, ImmortalsAreFree}
 use Rattle.brc_model.specs.SlotLaws.{Stays, Takes, use_of}
+use Rattle.brc_table.specs.Plan.{Plan}
 use Rattle.brc_table.specs.ModelLaws.{ModelLaws}
 use Rattle.brc_table.specs.declared.view.View.{View}
 use Rattle.brc_table.specs.Views.{view_after, view_by, taken_after, locking}
@@ -32,8 +31,8 @@ use Rattle.brc_table.proofs.SlotsTaken as taken
 
 module _ (laws : ModelLaws) where
   module _ (put : WorkIsPutAside) (locks_begin : LocksBegin) (immortals : ImmortalsAreFree)
-      (layout : Layout) (v : View) (x gate : ℕ) (running : IsRunning v)
-      (counted : IsCounted v.layout x) (idle : HasNoWork v x) (holding : HoldsOne v x) (unlocked : v.actor.locked
+      (plan : Plan) (v : View) (x gate : ℕ) (running : IsRunning v)
+      (idle : HasNoWork v x) (holding : HoldsOne v x) (unlocked : v.actor.locked
       ≡ None)
       (names : gate ≡ locked_word v.thread) where
     abbrev f : ℕ → ℕ
@@ -47,7 +46,7 @@ module _ (laws : ModelLaws) where
     is_some x y e = cc
 
     pub lock_allowed : {T : Type 0} (slots id index : ℕ) (me : Me (Option T) View) → me.0 ≡ v → index ≡ in_tile 2 x
-        → Allows (λ (s : State (Option T) View). TableStands layout s.words s.homes s.views) slots id me index f
+        → Allows (λ (s : State (Option T) View). TableStands plan s.words s.homes s.views) slots id me index f
         (λ found after. Locks x me found after)
     lock_allowed slots id index me is_me at s holds homes here below =
         let mine = here ∙ ap some is_me in
@@ -55,25 +54,25 @@ module _ (laws : ModelLaws) where
         let m = holds.stands.machine in
         let n = m.memory (Slot x) in
         let u = locking v x n in
-        let becomes = locking_becomes put locks_begin immortals layout v x n running counted idle holding unlocked in
+        let becomes = locking_becomes put locks_begin immortals plan v x n running idle holding unlocked in
         let is_at : IsAt u (LockGate x) [] index =
         record { agenda = refl; alive = runs_on v running.0; object = tt; index_is = at } in
         let next = object_next u (LockGate x) [] index is_at in
         let leaves =
-        allowed.object_leaves laws layout v u (LockGate x) [] index becomes is_at f
+        allowed.object_leaves laws plan v u (LockGate x) [] index becomes is_at f
         (λ found small knows. either_is found free_word gate free_word (locked_word v.thread) refl names) in
         let w = view_by u (LockGate x ∷ []) word in
         let rows =
-        allowed.rows_now laws layout v u (LockGate x) [] index becomes next s holds id mine
+        allowed.rows_now laws plan v u (LockGate x) [] index becomes next s holds id mine
         f leaves below in
         elim (cases_Bool (word == free_word)) [
           | inl is_free ↦
               let takes_it : use_of (LockGate x) word ≡ Takes x = ap (λ (b : Bool). cond b (Takes x) Stays) is_free in
               let slot =
-              taken.slot_home laws layout v u (LockGate x) [] index becomes next x s
+              taken.slot_home laws plan v u (LockGate x) [] index becomes next x s
               holds id mine takes_it in
               let now =
-              taken.stands_now laws layout v u (LockGate x) [] index becomes next x s
+              taken.stands_now laws plan v u (LockGate x) [] index becomes next x s
               holds id mine takes_it f leaves below (λ y locks. none_locked y locks)
               (λ y locks.
               inl (is_some x y (sym (ap (λ (b : Bool). cond b (Some x) v.actor.locked) is_free) ∙ locks), refl)) in (
@@ -90,7 +89,7 @@ module _ (laws : ModelLaws) where
                   ap (λ (k : ℕ). (x, k) ∷ held_in me.1) slot.holds
                       ∙ sym (ap (λ (b : Bool). cond b ((x, n) ∷ held_in me.1) (held_in me.1)) is_free),
                   λ kind found_free more seen.
-                      slot_seen laws.full layout (set s.words index (f word)) (set s.homes x home.none)
+                      slot_seen laws.full plan (set s.words index (f word)) (set s.homes x home.none)
                       (set s.views id w)
                       now id x w (set_view s.views id v w mine) (ap (λ (b : Bool). cond b (Some x) v.actor.locked)
                       is_free)
@@ -102,7 +101,7 @@ module _ (laws : ModelLaws) where
           | inr other ↦
               let stays : use_of (LockGate x) word ≡ Stays = ap (λ (b : Bool). cond b (Takes x) Stays) other in
               let now =
-              allowed.now laws layout v u (LockGate x) [] index becomes next s holds id mine
+              allowed.now laws plan v u (LockGate x) [] index becomes next s holds id mine
               f leaves below in (
                 w,
                 keeps,
@@ -110,7 +109,7 @@ module _ (laws : ModelLaws) where
                 record {
                   stands = now.stands;
                   slots =
-                      allowed.slots_now laws layout v u (LockGate x) [] index becomes next s
+                      allowed.slots_now laws plan v u (LockGate x) [] index becomes next s
                       holds id mine f leaves below stays;
                 },
                 (

@@ -21,6 +21,7 @@ use Rattle.brc_table.specs.declared.view.View.{View}
 use Rattle.brc_table.specs.Views.{view_by, behind_first, taken_after}
 use Rattle.brc_table.specs.KnownWords.{knows_kind}
 use Rattle.brc_model.specs.Knowledge.{HeadOf}
+use Rattle.brc_table.specs.Plan.{Plan}
 use Rattle.brc_table.specs.Homes.{resources, rows_of, held_in, TableStands}
 use Rattle.brc_table.specs.Begins.{Becomes}
 use Rattle.brc_table.specs.Uses.{FirstSlot, IsDue, first_use, first_due, held_after, Uses}
@@ -54,19 +55,19 @@ given_there layout t head (SettleEnd y) found x is there =
 given_there layout t head _ found x is there = absurd cc
 
 -- What is due is what the machine says that the slot holds, after the hand has turned to the duty.
-due_is : SlotsAreKnown → (layout : Layout) (words : List ℕ) (views : List View) (id : ℕ) (v u : View) (d : Duty)
-    (rest : List Duty) (does : Does layout words views id u d rest) (found x n : ℕ) → use_of d found ≡ Gives x
+due_is : SlotsAreKnown → (plan : Plan) (words : List ℕ) (views : List View) (id : ℕ) (v u : View) (d : Duty)
+    (rest : List Duty) (does : Does plan words views id u d rest) (found x n : ℕ) → use_of d found ≡ Gives x
     → v.actor.locked ≡ u.actor.locked → ((y : ℕ) → v.actor.locked ≡ Some y → u.in_slot ≡ v.in_slot)
     → ((y : ℕ) → v.actor.locked ≡ Some y → does.stands.machine.memory (Slot y) ≡ v.in_slot)
     → IsDue u (d ∷ rest) n → n ≡ does.stands.machine.memory (Slot x)
-due_is law layout words views id v u (LockGate y) rest does found x n is same in_slot locked due = absurd due
-due_is law layout words views id v u (UnlockGate y) rest does found x n is same in_slot locked due =
+due_is law plan words views id v u (LockGate y) rest does found x n is same in_slot locked due = absurd due
+due_is law plan words views id v u (UnlockGate y) rest does found x n is same in_slot locked due =
     let s = does.stands in
     let fits = (s.counts.kept.core.each u.thread u.actor (s.acts id u does.here)).0.head_fits in
     let head = subst (HeadOf s.machine u.thread u.actor) does.agenda fits in
-    let mine : v.actor.locked ≡ Some x = same ∙ (head.2 ∙ ap Some (gives_row x y is)) in
+    let mine : v.actor.locked ≡ Some x = same ∙ (head.1 ∙ ap Some (gives_row x y is)) in
     due ∙ (in_slot x mine ∙ sym (locked x mine))
-due_is law layout words views id v u (BirthLocal y h) rest does found x n is same in_slot locked due =
+due_is law plan words views id v u (BirthLocal y h) rest does found x n is same in_slot locked due =
     let s = does.stands in
     let filled =
     law.born s.accounts (1 + s.machine.layout.workers) s.machine u.thread u.actor y h rest s.counts
@@ -76,24 +77,24 @@ due_is law layout words views id v u (BirthLocal y h) rest does found x n is sam
     s.kinds_seen id x due.0 u does.here due.1 (subst (λ (z : ℕ). knows_kind z due.0 u ≡ true) row due.2) in
     due.3 ∙ (ap resources_of (sym seen ∙ ap (λ (z : ℕ). s.machine.memory (KindOf z)) (sym row))
     ∙ (sym filled ∙ ap (λ (z : ℕ). s.machine.memory (Slot z)) row))
-due_is law layout words views id v u (SettleEnd y) rest does found x n is same in_slot locked due =
+due_is law plan words views id v u (SettleEnd y) rest does found x n is same in_slot locked due =
     let s = does.stands in
     let none =
     law.closing s.accounts (1 + s.machine.layout.workers) s.machine u.thread u.actor y rest s.counts
     (record { found = s.acts id u does.here; agenda = does.agenda; alive = does.alive }) in
     due ∙ (sym none ∙ ap (λ (z : ℕ). s.machine.memory (Slot z)) (gives_row x y is))
-due_is law layout words views id v u _ rest does found x n is same in_slot locked due = absurd due
+due_is law plan words views id v u _ rest does found x n is same in_slot locked due = absurd due
 
 -- ---- the step
 
 module _ (laws : ModelLaws)
-    (layout : Layout) (v u : View) (d : Duty) (rest : List Duty) (index : ℕ) (becomes : Becomes layout v u)
+    (plan : Plan) (v u : View) (d : Duty) (rest : List Duty) (index : ℕ) (becomes : Becomes plan v u)
     (next : IsNextAt u d rest index) (x : ℕ) where
-  module _ {T : Type 0} (s : State (Option T) View) (holds : TableStands layout s.words s.homes s.views) (id : ℕ)
+  module _ {T : Type 0} (s : State (Option T) View) (holds : TableStands plan s.words s.homes s.views) (id : ℕ)
       (here : get_elem? s.views id ≡ some v) (gives_it : use_of d (read_of u d (slice_index s.words index)) ≡ Gives x)
       (rows : List ℕ) (taken : v.taken ≡ x ∷ rows) (slot : Option T) (due : IsDue u (d ∷ rest) (resources slot)) where
-    abbrev it : Does layout s.words (set s.views id u) id u d rest
-    it = allowed.does laws layout v u d rest index becomes next s holds id here
+    abbrev it : Does plan s.words (set s.views id u) id u d rest
+    it = allowed.does laws plan v u d rest index becomes next s holds id here
 
     abbrev m : Machine
     m = holds.stands.machine
@@ -112,7 +113,7 @@ module _ (laws : ModelLaws)
 
     row_low : x < row_count m.layout
     row_low =
-        let relied = relies laws.kept laws.within laws.guarded layout s.words (set s.views id u) id u d rest it in
+        let relied = relies laws.kept laws.within laws.guarded plan s.words (set s.views id u) id u d rest it in
         let same : k.layout ≡ m.layout = it.stands.layout_is ∙ sym holds.stands.layout_is in
         subst (λ (l : Layout). x < row_count l) same
         (given_there k.layout u.thread u.actor.head d found x gives_it
@@ -121,29 +122,29 @@ module _ (laws : ModelLaws)
     -- What the slot holds is what the machine says.
     holds_due : resources slot ≡ k.memory (Slot x)
     holds_due =
-        let first = allowed.first laws layout v u d rest index becomes next s holds id here
+        let first = allowed.first laws plan v u d rest index becomes next s holds id here
         in
-        due_is laws.known layout s.words (set s.views id u) id v u d rest it found x (resources slot) gives_it
+        due_is laws.known plan s.words (set s.views id u) id v u d rest it found x (resources slot) gives_it
         (sym (locked_same becomes)) becomes.in_slot
         (λ y locks. first.slots y (inr locks) ∙ (holds.slots.locked id y v here locks).1) due
 
     module _ (f : ℕ → ℕ)
-        (leaves : allowed.LeavesWord laws layout v u d rest index becomes next f)
+        (leaves : allowed.LeavesWord laws plan v u d rest index becomes next f)
         (small : slice_index s.words index < 2 ^ 64) where
       -- The rule holds after the step.
-      pub stands_now : TableStands layout (set s.words index (f (slice_index s.words index)))
+      pub stands_now : TableStands plan (set s.words index (f (slice_index s.words index)))
           (set s.homes x (home.some slot)) (set s.views id (view_by u (d ∷ rest) found))
       stands_now =
           let now =
-          allowed.now laws layout v u d rest index becomes next s holds id here f leaves small in
+          allowed.now laws plan v u d rest index becomes next s holds id here f leaves small in
           let stays =
-          allowed.slots_stay laws layout v u d rest index becomes next s holds id here f
+          allowed.slots_stay laws plan v u d rest index becomes next s holds id here f
           leaves small in
           record {
             stands = now.stands;
             slots =
                 slots_given m now.stands.machine s.homes s.views id v (view_by u (d ∷ rest) found) holds.slots here
-                (allowed.layout_stays laws layout v u d rest index becomes next s holds id
+                (allowed.layout_stays laws plan v u d rest index becomes next s holds id
                 here f leaves small) x rows taken
                 (ap (taken_after u.taken) gives_it ∙ ap behind_first ((taken_same becomes) ∙ taken)) slot row_low
                 (holds_due ∙ sym (stays x))
@@ -162,10 +163,10 @@ module _ (laws : ModelLaws)
       (begins : View → View) (then : ℕ → Me (Option T) View → Type 0)
       → seat ≡ v → begins v ≡ u → x ∷ rows_of ps ≡ v.taken → IsDue u (d ∷ rest) (resources slot)
       → (all : (found : ℕ) → use_of d found ≡ Gives x)
-      → allowed.LeavesWord laws layout v u d rest index becomes next f
-      → ((found : ℕ) (after : Me (Option T) View) → Knows u d (read_of u d found)
+      → allowed.LeavesWord laws plan v u d rest index becomes next f
+      → ((found : ℕ) (after : Me (Option T) View) → Knows plan.lines u d (read_of u d found)
       → Uses begins (seat, (x, slot) ∷ ps) (read_of u d found) after → then found after)
-      → Allows (λ (s : State (Option T) View). TableStands layout s.words s.homes s.views) slots id
+      → Allows (λ (s : State (Option T) View). TableStands plan s.words s.homes s.views) slots id
       (seat, (x, slot) ∷ ps) index f then
   given_allows slots id seat slot ps f begins then is_me becomes_is follows due all leaves goes s holds homes here
       below =
@@ -181,10 +182,10 @@ module _ (laws : ModelLaws)
         tt,
         now,
         goes word (w, ps)
-            (allowed.known laws layout v u d rest index becomes next s holds id mine) (
+            (allowed.known laws plan v u d rest index becomes next s holds id mine) (
               ap (λ (ds : List Duty). view_by u ds found_now) (sym next.agenda)
                   ∙ ap (λ (z : View). view_by z z.actor.agenda found_now) (sym is_u),
-              allowed.rows_now laws layout v u d rest index becomes next s holds id mine f
+              allowed.rows_now laws plan v u d rest index becomes next s holds id mine f
                   leaves below,
               λ same.
                   ap behind_first (follows ∙ sym (taken_same becomes)) ∙ sym (ap (taken_after u.taken) gives_it),
@@ -200,15 +201,15 @@ module _ (laws : ModelLaws)
       (then : ℕ → Me (Option T) View → Type 0)
       → me.0 ≡ v → begins v ≡ u → rows_of me.1 ≡ v.taken → FirstSlot (held_in me.1) x n → IsDue u (d ∷ rest) n
       → (all : (found : ℕ) → use_of d found ≡ Gives x)
-      → allowed.LeavesWord laws layout v u d rest index becomes next f
-      → ((found : ℕ) (after : Me (Option T) View) → Knows u d (read_of u d found)
+      → allowed.LeavesWord laws plan v u d rest index becomes next f
+      → ((found : ℕ) (after : Me (Option T) View) → Knows plan.lines u d (read_of u d found)
       → Uses begins me (read_of u d found) after → then found after)
-      → Allows (λ (s : State (Option T) View). TableStands layout s.words s.homes s.views) slots id me index f then
+      → Allows (λ (s : State (Option T) View). TableStands plan s.words s.homes s.views) slots id me index f then
   gives_allows {T} slots id n me f begins then is_me becomes_is follows first due all leaves goes =
       let l = last_of me.1 x n first in
       let whole : me ≡ (me.0, (x, l.slot) ∷ l.ps) = ap (λ (c : List (ℕ × Option T)). (me.0, c)) l.is in
       subst (λ (it : Me (Option T) View).
-      Allows (λ (s : State (Option T) View). TableStands layout s.words s.homes s.views) slots id it index f then)
+      Allows (λ (s : State (Option T) View). TableStands plan s.words s.homes s.views) slots id it index f then)
       (sym whole)
       (given_allows slots id me.0 l.slot l.ps f begins then is_me becomes_is (sym (ap rows_of l.is) ∙ follows)
       (subst (IsDue u (d ∷ rest)) (sym l.count) due) all leaves

@@ -19,6 +19,7 @@ use Rattle.brc_model.specs.Duties.{address_of}
 use Rattle.brc_model.specs.Machine.{Machine, locked_by}
 use Rattle.brc_model.specs.Within.{IsThere}
 use Rattle.brc_model.specs.SlotLaws.{SlotUse, Stays, Takes, Gives, use_of, UsesSlot, SlotsAreKnown}
+use Rattle.brc_table.specs.Plan.{Plan}
 use Rattle.brc_table.specs.ModelLaws.{ModelLaws}
 use Rattle.brc_table.specs.declared.view.View.{View}
 use Rattle.brc_table.specs.Views.{view_by, taken_after}
@@ -61,42 +62,42 @@ takes_no_lock (UnlockGate y) x all locked found = absurd (let wrong : Gives y �
 takes_no_lock _ x all locked found = refl
 
 -- What such a duty knows of the slot.
-pub due_known : SlotsAreKnown → (layout : Layout) (words : List ℕ) (views : List View) (id : ℕ) (u : View) (d : Duty)
-    (rest : List Duty) (does : Does layout words views id u d rest) (x : ℕ) → ((found : ℕ) → use_of d found ≡ Takes x)
+pub due_known : SlotsAreKnown → (plan : Plan) (words : List ℕ) (views : List View) (id : ℕ) (u : View) (d : Duty)
+    (rest : List Duty) (does : Does plan words views id u d rest) (x : ℕ) → ((found : ℕ) → use_of d found ≡ Takes x)
     → does.stands.machine.memory (Slot x)
     ≡ first_due (d ∷ rest) (does.stands.machine.memory (address_of does.stands.machine.layout u.thread u.actor.head d))
-due_known law layout words views id u (LockGate y) rest does x all =
+due_known law plan words views id u (LockGate y) rest does x all =
     absurd (let wrong : Stays ≡ Takes x = all 0 in cc)
-due_known law layout words views id u (BirthKind y h w) rest does x all =
+due_known law plan words views id u (BirthKind y h w) rest does x all =
     let s = does.stands in
     let none =
     law.unborn s.accounts (1 + s.machine.layout.workers) s.machine u.thread u.actor y h w rest s.counts
     (record { found = s.acts id u does.here; agenda = does.agenda; alive = does.alive }) in
     ap (λ (z : ℕ). s.machine.memory (Slot z)) (sym (takes_row x y (all 0))) ∙ none
-due_known law layout words views id u (SettleKind y) rest does x all =
+due_known law plan words views id u (SettleKind y) rest does x all =
     let s = does.stands in
     let full =
     law.dying s.accounts (1 + s.machine.layout.workers) s.machine u.thread u.actor y rest s.counts
     (record { found = s.acts id u does.here; agenda = does.agenda; alive = does.alive }) in
     ap (λ (z : ℕ). s.machine.memory (Slot z)) (sym (takes_row x y (all 0))) ∙ full
-due_known law layout words views id u (UnlockGate y) rest does x all =
+due_known law plan words views id u (UnlockGate y) rest does x all =
     absurd (let wrong : Gives y ≡ Takes x = all 0 in cc)
-due_known law layout words views id u (BirthLocal y h) rest does x all =
+due_known law plan words views id u (BirthLocal y h) rest does x all =
     absurd (let wrong : Gives y ≡ Takes x = all 0 in cc)
-due_known law layout words views id u (SettleEnd y) rest does x all =
+due_known law plan words views id u (SettleEnd y) rest does x all =
     absurd (let wrong : Gives y ≡ Takes x = all 0 in cc)
-due_known law layout words views id u _ rest does x all =
+due_known law plan words views id u _ rest does x all =
     absurd (let wrong : Stays ≡ Takes x = all 0 in cc)
 
 -- ---- the step
 
-module _ (laws : ModelLaws) (layout : Layout) (v u : View) (d : Duty)
-    (rest : List Duty) (index : ℕ) (becomes : Becomes layout v u) (next : IsNextAt u d rest index) (x : ℕ) where
-  module _ {T : Type 0} (s : State (Option T) View) (holds : TableStands layout s.words s.homes s.views) (id : ℕ)
+module _ (laws : ModelLaws) (plan : Plan) (v u : View) (d : Duty)
+    (rest : List Duty) (index : ℕ) (becomes : Becomes plan v u) (next : IsNextAt u d rest index) (x : ℕ) where
+  module _ {T : Type 0} (s : State (Option T) View) (holds : TableStands plan s.words s.homes s.views) (id : ℕ)
       (here : get_elem? s.views id ≡ some v) (takes_it : use_of d (read_of u d (slice_index s.words index)) ≡ Takes x)
     where
-      abbrev it : Does layout s.words (set s.views id u) id u d rest
-      it = allowed.does laws layout v u d rest index becomes next s holds id here
+      abbrev it : Does plan s.words (set s.views id u) id u d rest
+      it = allowed.does laws plan v u d rest index becomes next s holds id here
 
       abbrev m : Machine
       m = holds.stands.machine
@@ -109,7 +110,7 @@ module _ (laws : ModelLaws) (layout : Layout) (v u : View) (d : Duty)
 
       pub finds_found : k.memory (address_of k.layout u.thread u.actor.head d) ≡ found
       finds_found =
-          allowed.finds_word laws layout v u d rest index becomes next s holds id here
+          allowed.finds_word laws plan v u d rest index becomes next s holds id here
 
       -- Nobody uses the slot,
       free_of : (z : View) → slice_get k.actors z.thread ≡ Some z.actor → UsesSlot z.actor x → ⊥
@@ -138,7 +139,7 @@ module _ (laws : ModelLaws) (layout : Layout) (v u : View) (d : Duty)
 
       row_low : x < row_count m.layout
       row_low =
-          let relied = relies laws.kept laws.within laws.guarded layout s.words (set s.views id u) id u d rest it in
+          let relied = relies laws.kept laws.within laws.guarded plan s.words (set s.views id u) id u d rest it in
           let same : k.layout ≡ m.layout = it.stands.layout_is ∙ sym holds.stands.layout_is in
           subst (λ (l : Layout). x < row_count l) same
           (taken_there k.layout u.thread u.actor.head d found x takes_it
@@ -150,28 +151,28 @@ module _ (laws : ModelLaws) (layout : Layout) (v u : View) (d : Duty)
       -- The hand's turning to this duty has not changed it.
       pub slot_then : k.memory (Slot x) ≡ m.memory (Slot x)
       slot_then =
-          (allowed.first laws layout v u d rest index becomes next s holds id here).slots x
+          (allowed.first laws plan v u d rest index becomes next s holds id here).slots x
           (inl (is_home id v here))
 
       module _ (f : ℕ → ℕ)
-          (leaves : allowed.LeavesWord laws layout v u d rest index becomes next f)
+          (leaves : allowed.LeavesWord laws plan v u d rest index becomes next f)
           (small : slice_index s.words index < 2 ^ 64)
           (lock : (y : ℕ) → u.actor.locked ≡ Some y → locked_by u.actor.locked d found ≡ Some y)
           (locks : (y : ℕ) → locked_by u.actor.locked d found ≡ Some y
           → ((y ≡ x) × (m.memory (Slot x) ≡ u.in_slot)) ⊎ ((v.actor.locked ≡ Some y) × (u.in_slot ≡ v.in_slot))) where
         -- The rule holds after the step.
-        pub stands_now : TableStands layout (set s.words index (f (slice_index s.words index)))
+        pub stands_now : TableStands plan (set s.words index (f (slice_index s.words index)))
             (set s.homes x home.none)
             (set s.views id (view_by u (d ∷ rest) found))
         stands_now =
             let now =
-            allowed.now laws layout v u d rest index becomes next s holds id here f leaves small
+            allowed.now laws plan v u d rest index becomes next s holds id here f leaves small
             in
             record {
               stands = now.stands;
               slots =
                   slots_taken m now.stands.machine s.homes s.views id v (view_by u (d ∷ rest) found) holds.slots here
-                  (allowed.layout_stays laws layout v u d rest index becomes next s holds id
+                  (allowed.layout_stays laws plan v u d rest index becomes next s holds id
                   here f leaves small) x
                   (ap (taken_after u.taken) takes_it ∙ ap (λ (rows : List ℕ). x ∷ rows) (taken_same becomes)) is_home
                   (used_now u d rest found x takes_it)
@@ -185,10 +186,10 @@ module _ (laws : ModelLaws) (layout : Layout) (v u : View) (d : Duty)
   pub takes_allows : {T : Type 0} (slots id : ℕ) (me : Me (Option T) View) (f : ℕ → ℕ) (begins : View → View)
       (then : ℕ → Me (Option T) View → Type 0)
       → me.0 ≡ v → begins v ≡ u → (all : (found : ℕ) → use_of d found ≡ Takes x)
-      → allowed.LeavesWord laws layout v u d rest index becomes next f
-      → ((found : ℕ) (after : Me (Option T) View) → Knows u d (read_of u d found)
+      → allowed.LeavesWord laws plan v u d rest index becomes next f
+      → ((found : ℕ) (after : Me (Option T) View) → Knows plan.lines u d (read_of u d found)
       → Uses begins me (read_of u d found) after → then found after)
-      → Allows (λ (s : State (Option T) View). TableStands layout s.words s.homes s.views) slots id me index f then
+      → Allows (λ (s : State (Option T) View). TableStands plan s.words s.homes s.views) slots id me index f then
   takes_allows {T} slots id me f begins then is_me becomes_is all leaves goes s holds homes here below =
       let mine = here ∙ ap some is_me in
       let word = slice_index s.words index in
@@ -204,7 +205,7 @@ module _ (laws : ModelLaws) (layout : Layout) (v u : View) (d : Duty)
       inr (before, becomes.in_slot y before)) in
       let due : resources slot.slot ≡ first_due (d ∷ rest) found_now =
       slot.holds ∙ (sym (slot_then s holds id mine takes_it)
-      ∙ (due_known laws.known layout s.words (set s.views id u) id u d rest (it s holds id mine takes_it) x all
+      ∙ (due_known laws.known plan s.words (set s.views id u) id u d rest (it s holds id mine takes_it) x all
       ∙ ap (first_due (d ∷ rest)) (finds_found s holds id mine takes_it))) in
       let is_u : begins me.0 ≡ u = ap begins is_me ∙ becomes_is in
       let after : Me (Option T) View = (w, (x, slot.slot) ∷ me.1) in (
@@ -213,10 +214,10 @@ module _ (laws : ModelLaws) (layout : Layout) (v u : View) (d : Duty)
         slot.there,
         now,
         goes word after
-            (allowed.known laws layout v u d rest index becomes next s holds id mine) (
+            (allowed.known laws plan v u d rest index becomes next s holds id mine) (
               ap (λ (ds : List Duty). view_by u ds found_now) (sym next.agenda)
                   ∙ ap (λ (z : View). view_by z z.actor.agenda found_now) (sym is_u),
-              allowed.rows_now laws layout v u d rest index becomes next s holds id mine f
+              allowed.rows_now laws plan v u d rest index becomes next s holds id mine f
                   leaves below,
               λ follows.
                   ap (λ (rows : List ℕ). x ∷ rows) (follows ∙

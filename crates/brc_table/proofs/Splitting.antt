@@ -13,14 +13,15 @@ use Rattle.brc_model.specs.declared.duty.Holding.TheVariants.{ByVariable, AsCall
 use Rattle.brc_model.specs.declared.duty.Duty.{Duty}
 use Rattle.brc_model.specs.declared.address.Address.TheVariants.{KindOf, Cell, Slot}
 use Rattle.brc_model.specs.declared.layout.Layout.{Layout}
-use Rattle.brc_model.specs.Layout.{first_immortal_list, IsCounted, root_row}
+use Rattle.brc_model.specs.Layout.{first_immortal_list, first_number, is_immortal_row, IsCounted, root_row}
 use Rattle.brc_model.specs.AbstractState.{PassOn, ByThread}
 use Rattle.brc_model.specs.References.{one_if, reference_of}
 use Rattle.brc_model.specs.Accounts.{Account, Accounts, HoldsNone}
 use Rattle.brc_model.specs.Machine.{Machine, idle_actor, with_moves}
 use Rattle.brc_model.specs.OpenWork.{is_about, about_of}
-use Rattle.brc_model.specs.Counting.{Counts, HasNoneAbout, with_account, with_one_less, with_one_more}
+use Rattle.brc_model.specs.Counting.{Counts, HasNoneAbout, MayGiveUp, with_account, with_one_less, with_one_more}
 use Rattle.brc_model.specs.CountingLaws.{ReferencesAreHandedOver}
+use Rattle.brc_table.specs.Plan.{Plan}
 use Rattle.brc_table.specs.declared.view.View.{View}
 use Rattle.brc_table.specs.Views.{holds, is_given, giving, worker_view}
 use Rattle.brc_table.specs.Rule.{Guards, IsGone, Stands}
@@ -51,8 +52,8 @@ has_none v x free =
 
 -- ---- the hands afterwards
 
-module _ (law : ReferencesAreHandedOver) (layout : Layout) (words : List ℕ) (views : List View) (id : ℕ) (v : View)
-    (t : ℕ) (may : MayGive v t) (old : Stands layout words views) (here : get_elem? views id ≡ some v) where
+module _ (law : ReferencesAreHandedOver) (plan : Plan) (words : List ℕ) (views : List View) (id : ℕ) (v : View)
+    (t : ℕ) (may : MayGive v t) (old : Stands plan words views) (here : get_elem? views id ≡ some v) where
   abbrev main_after : View
   main_after = giving v t
 
@@ -147,15 +148,25 @@ module _ (law : ReferencesAreHandedOver) (layout : Layout) (words : List ℕ) (v
   root_counted : IsCounted old.machine.layout root_row
   root_counted =
       let l = old.machine.layout in
-      ap (λ (b : Bool). b && nat_lt root_row (first_immortal_list l + l.immortal_lists))
+      ap (λ (b : Bool). b && nat_lt root_row (first_number l))
       (lt-leb (first_immortal_list l) root_row (omega arith))
+
+  -- If main has locked the root, it has another reference to it.
+  keeps_root : MayGiveUp (p v.thread) v.actor root_row
+  keeps_root e =
+      elim (may.keeps e) [
+        | inl immortal ↦
+            absurd (false≢true (sym root_counted
+            ∙ subst (λ (l : Layout). is_immortal_row l root_row ≡ true) (old.told id v here) immortal))
+        | inr two ↦ omega (arith, old.holding id v root_row here root_counted, two)
+      ]
 
   counts : Counts after (1 + old.machine.layout.workers) machine
   counts =
       law p (1 + old.machine.layout.workers) old.machine v.thread t v.actor (idle_actor 0) root_row old.counts
       (old.acts id v here) worker_idle.0 (λ e. t_apart (sym e)) (has_none v root_row may.no_work) refl refl root_counted
       (omega (arith, old.holding id v root_row here root_counted, may.holds_root))
-      (λ e. omega (arith, old.holding id v root_row here root_counted, may.keeps e))
+      keeps_root
       (omega (arith, worker_idle.1 AsCaller root_row))
 
   -- ---- each part of the rule
@@ -350,20 +361,20 @@ module _ (law : ReferencesAreHandedOver) (layout : Layout) (words : List ℕ) (v
         ];
       }
 
-  pub given_out : Stands layout words hands
+  pub given_out : Stands plan words hands
   given_out = record {
     accounts = after;
     machine = machine;
     counts = counts;
     layout_is = old.layout_is;
     plain = old.plain;
+    lines = old.lines;
     length_is = old.length_is;
     reads = old.reads;
     acts = λ other z is. acts_after other z (whose other z is);
     told = λ other z is. told_after other z (whose other z is);
     lends_none = λ other z is. lends_after other z (whose other z is);
     named = old.named;
-    rooted = old.rooted;
     kinds_seen = λ other x word z is high seen. kinds_after other x word z (whose other z is) high seen;
     cells_seen = λ other x i word z is guards seen.
         cells_after other x i word z (whose other z is) guards seen;
@@ -383,12 +394,12 @@ module _ (law : ReferencesAreHandedOver) (layout : Layout) (words : List ℕ) (v
   same_slots x = refl
 
 -- What a table asks of main's seat that is cut in two.
-pub splits : {T : Type 0} → ReferencesAreHandedOver → (layout : Layout) (id : ℕ) (v : View) (t : ℕ) → MayGive v t
-    → Splits (λ (s : State (Option T) View). TableStands layout s.words s.homes s.views) id v (giving v t)
+pub splits : {T : Type 0} → ReferencesAreHandedOver → (plan : Plan) (id : ℕ) (v : View) (t : ℕ) → MayGive v t
+    → Splits (λ (s : State (Option T) View). TableStands plan s.words s.homes s.views) id v (giving v t)
     (worker_view v.layout t)
-splits law layout id v t may = λ s holds here.
+splits law plan id v t may = λ s holds here.
     let old = holds.stands in
-    let now = given_out law layout s.words s.views id v t may old here in
+    let now = given_out law plan s.words s.views id v t may old here in
     let mains =
     slots_kept old.machine old.machine s.homes s.views id v (giving v t) holds.slots here refl
     (record { taken = refl; in_slot = λ x locks. refl; locked = refl; used = λ x uses. uses }) (λ x which. refl) in
@@ -396,5 +407,5 @@ splits law layout id v t may = λ s holds here.
       stands = now;
       slots =
           slots_longer old.machine now.machine s.homes (set s.views id (giving v t)) (worker_view v.layout t) mains refl
-          refl (now.layout_is ∙ sym old.layout_is) (same_slots law layout s.words s.views id v t may old here);
+          refl (now.layout_is ∙ sym old.layout_is) (same_slots law plan s.words s.views id v t may old here);
     }

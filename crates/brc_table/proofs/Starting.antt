@@ -1,6 +1,6 @@
 -- Main starts a worker: it stores that the worker's thread runs. The machine stays as it is, since a thread that isn't
 -- started counts as running.
-use Rattle.std.proofs.Common.{◌≡◌, ◌≢◌, ℕ, ◌<◌, ◌≤◌, Bool, true, false, cond, Option, List, [], ◌∷◌, length, set, None, inl, inr, refl, sym, ap, ◌∙◌, subst, arith}
+use Rattle.std.proofs.Common.{◌≡◌, ◌≢◌, ℕ, ◌+◌, ◌<◌, ◌≤◌, Bool, true, false, cond, Option, List, [], ◌∷◌, length, set, None, inl, inr, refl, sym, ap, ◌∙◌, subst, arith}
 use Rattle.std.specs.Prelude.{◌==◌, ◌&&◌, ◌||◌}
 use Rattle.std.proofs.lemmas.Bool.{cases_Bool, eq-eqb, ne_eqb}
 use Rattle.std.proofs.lemmas.Bool.Decides.{eqb_tells}
@@ -16,6 +16,7 @@ use Rattle.brc_model.specs.Machine.{Machine, same_address, written}
 use Rattle.brc_model.specs.CountingLaws.{AccountsAreThere, ChainsAreThere}
 use Rattle.brc_table.specs.declared.view.View.{View}
 use Rattle.brc_model.specs.declared.event.WordEvent.{WordEvent}
+use Rattle.brc_table.specs.Plan.{Plan}
 use Rattle.brc_table.specs.Places.{HasWord}
 use Rattle.brc_table.specs.Views.{RowsAreThere}
 use Rattle.brc_table.specs.KnownWords.{shows_kind, cell_known, starts, has_started, started_word, shows_gone}
@@ -27,6 +28,7 @@ use Rattle.brc_table.specs.Giving.{MayStart, starting, StoresRunning}
 use Rattle.brc_table.proofs.RowsThere.{rows_there}
 use Rattle.brc_table.proofs.Changing.{Changes, passes}
 use Rattle.brc_table.proofs.SlotsKept.{slots_kept}
+use Rattle.brc_table.proofs.FewRows.{few_first}
 use Rattle.brc_table.proofs.Lists.{set_view, set_itself}
 use Rattle.brc_table.proofs.Stepping.{same_is, written_reads}
 use Rattle.brc_table.proofs.ThreadsKept.{KeepsThreads, threads_kept, any_same, any_still, any_more}
@@ -67,7 +69,7 @@ seen_after v t =
           ∙ ap (λ (b : Bool). b && true) zero_found)
     ]
 
-module _ (accounts : AccountsAreThere) (chains : ChainsAreThere) (layout : Layout) (v : View) (t : ℕ)
+module _ (accounts : AccountsAreThere) (chains : ChainsAreThere) (plan : Plan) (v : View) (t : ℕ)
     (may : MayStart v t) where
   abbrev after : View
   after = starting v t
@@ -75,7 +77,7 @@ module _ (accounts : AccountsAreThere) (chains : ChainsAreThere) (layout : Layou
   abbrev event : WordEvent
   event = record { address = ThreadWord t; found = started_word t v; left = 1 }
 
-  module _ (words : List ℕ) (views : List View) (id : ℕ) (s : Stands layout words views)
+  module _ (words : List ℕ) (views : List View) (id : ℕ) (s : Stands plan words views)
       (here : get_elem? views id ≡ some v) where
     abbrev m : Machine
     m = s.machine
@@ -128,7 +130,7 @@ module _ (accounts : AccountsAreThere) (chains : ChainsAreThere) (layout : Layou
           inl (sym (any_same (shows_gone k) v.trace event (none_gone (t == k))) ∙ seen);
     }
 
-    changes : Changes layout words views v after s (set words t 1)
+    changes : Changes plan words views v after s (set words t 1)
     changes = record {
       accounts = s.accounts;
       machine = m;
@@ -137,8 +139,8 @@ module _ (accounts : AccountsAreThere) (chains : ChainsAreThere) (layout : Layou
       length_is = length-set words t 1;
       reads = λ b there_b.
           sym (unwritten m.memory (ThreadWord t) b 1 runs)
-          ∙ written_reads m.layout words m.memory (ThreadWord t) 1 1 s.plain s.length_is refl has s.reads b
-          there_b;
+          ∙ written_reads m.layout words m.memory (ThreadWord t) 1 1 s.plain
+          (few_first s.accounts (1 + m.layout.workers) m s.counts) s.length_is refl has s.reads b there_b;
       actors = sym (set_itself m.actors v.thread v.actor (s.acts id v here));
       thread_same = refl;
       told_same = refl;
@@ -156,30 +158,30 @@ module _ (accounts : AccountsAreThere) (chains : ChainsAreThere) (layout : Layou
       cells_here = λ x i word guards seen.
           s.cells_seen id x i word v here guards (sym (fold-append (cell_known x i) None v.trace (event ∷ [])) ∙ seen);
       threads = λ k there_k.
-          threads_kept layout words (set words t 1) views k v after s there_k keeps_threads;
+          threads_kept plan words (set words t 1) views k v after s there_k keeps_threads;
     }
 
-    pub passes_started : Passes layout (set words t 1) (set views id after) v.taken
+    pub passes_started : Passes plan (set words t 1) (set views id after) v.taken
         v.actor.locked m
     unfolding changes
     passes_started =
-        passes layout words views id v after s here (set words t 1) changes v.taken v.actor.locked
+        passes plan words views id v after s here (set words t 1) changes v.taken v.actor.locked
         (λ x which. refl)
 
   -- The store is allowed.
   pub start_allowed : {T : Type 0} (slots id index : ℕ) (me : Me (Option T) View) → me.0 ≡ v → index ≡ t
-      → Allows (λ (s : State (Option T) View). TableStands layout s.words s.homes s.views) slots id me index
+      → Allows (λ (s : State (Option T) View). TableStands plan s.words s.homes s.views) slots id me index
       (λ found. 1)
       (λ found after. StoresRunning t me after)
   start_allowed slots id index me is_me at s holds homes here below =
       let mine : get_elem? s.views id ≡ some v = here ∙ ap some is_me in
       let w = starting v t in
       let before = holds.stands.machine in
-      let moved : Passes layout (set s.words index 1) (set s.views id w) v.taken v.actor.locked before =
-      subst (λ (k : ℕ). Passes layout (set s.words k 1) (set s.views id w) v.taken v.actor.locked before) (sym at)
+      let moved : Passes plan (set s.words index 1) (set s.views id w) v.taken v.actor.locked before =
+      subst (λ (k : ℕ). Passes plan (set s.words k 1) (set s.views id w) v.taken v.actor.locked before) (sym at)
       (passes_started s.words s.views id holds.stands mine) in
       let rows : RowsAreThere w =
-      rows_there accounts chains layout (set s.words index 1) (set s.views id w) id w moved.stands
+      rows_there accounts chains plan (set s.words index 1) (set s.views id w) id w moved.stands
       (set_view s.views id v w mine) in (
         w,
         keeps,

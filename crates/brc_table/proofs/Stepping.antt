@@ -17,11 +17,13 @@ use Rattle.brc_model.specs.Machine.{Machine, same_address, written, actor_by, ma
 use Rattle.brc_model.specs.Within.{IsThere}
 use Rattle.brc_model.specs.CountingLaws.{ComesNext, DutiesAreKept, DutyWithin, DutiesAreWithin}
 use Rattle.brc_model.specs.GuardLaws.{LeavesGuarded, GuardedCellsStay}
+use Rattle.brc_table.specs.Plan.{Plan}
 use Rattle.brc_table.specs.declared.view.View.{View}
-use Rattle.brc_table.specs.Places.{place, HasWord, IsObjectWord, IsTableWord, word_count}
+use Rattle.brc_table.specs.Places.{place, HasWord, IsObjectWord, IsTableWord, word_count, FewFirstRows}
 use Rattle.brc_table.specs.Views.{event_of, view_by}
 use Rattle.brc_table.specs.Rule.{reading, Guards, Stands}
 use Rattle.brc_table.specs.Begins.{Passes}
+use Rattle.brc_table.proofs.FewRows.{few_first}
 use Rattle.brc_table.proofs.Lists.{and_first, and_second}
 use Rattle.brc_table.proofs.Places.{place_apart, place_within}
 use Rattle.brc_table.proofs.Changing.{Changes, passes}
@@ -91,22 +93,23 @@ lends_none layout t head _ lent found table none = none
 
 -- Writing a word in the table is writing in the machine what it says.
 pub written_reads : (layout : Layout) (words : List ℕ) (memory : Address → ℕ) (a : Address) (left word : ℕ)
-    → IsPlainLayout layout → length words ≡ word_count layout → reading a left ≡ word → HasWord layout a
+    → IsPlainLayout layout → FewFirstRows layout → length words ≡ word_count layout → reading a left ≡ word
+    → HasWord layout a
     → ((b : Address) → HasWord layout b → memory b ≡ reading b (slice_index words (place layout b)))
     → (b : Address) → HasWord layout b
     → written memory a word b ≡ reading b (slice_index (set words (place layout a) left) (place layout b))
-written_reads layout words memory a left word plain long says has reads b there =
+written_reads layout words memory a left word plain few long says has reads b there =
     elim (cases_Bool (same_address a b)) [
       | inl one ↦
           let here : slice_index (set words (place layout a) left) (place layout a) ≡ left =
-          get_or-set_same words (place layout a) left 0 (omega (arith, long, place_within layout a plain has)) in
+          get_or-set_same words (place layout a) left 0 (omega (arith, long, place_within layout a plain few has)) in
           let found : written memory a word b ≡ word = ap (λ (e : Bool). cond e word (memory b)) one in
           let there' : reading b (slice_index (set words (place layout a) left) (place layout b)) ≡ word =
           subst (λ (c : Address). reading c (slice_index (set words (place layout a) left) (place layout c)) ≡ word)
           (same_is a b one) (ap (reading a) here ∙ says) in
           found ∙ sym there'
       | inr other ↦
-          let apart : place layout b ≢ place layout a = λ e. place_apart layout a b plain has there other (sym e) in
+          let apart : place layout b ≢ place layout a = λ e. place_apart layout a b plain few has there other (sym e) in
           let same : slice_index (set words (place layout a) left) (place layout b)
           ≡ slice_index words (place layout b) =
           get_or-set_other words (place layout a) (place layout b) left 0 apart in
@@ -116,9 +119,9 @@ written_reads layout words memory a left word plain long says has reads b there 
 -- ---- the step
 
 -- What is known of a hand that does its first duty.
-pub record Does (layout : Layout) (words : List ℕ) (views : List View) (id : ℕ) (v : View) (d : Duty) (rest : List Duty)
+pub record Does (plan : Plan) (words : List ℕ) (views : List View) (id : ℕ) (v : View) (d : Duty) (rest : List Duty)
     : Type 0 where
-  pub stands : Stands layout words views
+  pub stands : Stands plan words views
   pub here : get_elem? views id ≡ some v
   pub agenda : v.actor.agenda ≡ d ∷ rest
   pub alive : v.actor.status ≢ Gone
@@ -132,9 +135,9 @@ place_of v d = place v.layout (address_of v.layout v.thread v.actor.head d)
 abbrev pub read_of : View → Duty → ℕ → ℕ
 read_of v d word = reading (address_of v.layout v.thread v.actor.head d) word
 
-module _ (kept : DutiesAreKept) (within : DutiesAreWithin) (stay : GuardedCellsStay) (layout : Layout) (words : List ℕ)
+module _ (kept : DutiesAreKept) (within : DutiesAreWithin) (stay : GuardedCellsStay) (plan : Plan) (words : List ℕ)
     (views : List View) (id : ℕ)
-    (v : View) (d : Duty) (rest : List Duty) (does : Does layout words views id v d rest) where
+    (v : View) (d : Duty) (rest : List Duty) (does : Does plan words views id v d rest) where
   abbrev m : Machine
   m = does.stands.machine
 
@@ -177,7 +180,7 @@ module _ (kept : DutiesAreKept) (within : DutiesAreWithin) (stay : GuardedCellsS
         (ap (locked_by v.actor.locked d) seen ∙ locked))
     guarded_before x apart seen (inr chained) = inr (stays.own x apart chained)
 
-    changes : Changes layout words views v (view_by v (d ∷ rest) found) does.stands (set words (place_of v d) left)
+    changes : Changes plan words views v (view_by v (d ∷ rest) found) does.stands (set words (place_of v d) left)
     changes =
         let old = does.stands in
         let t = v.thread in let a = v.actor in
@@ -202,7 +205,8 @@ module _ (kept : DutiesAreKept) (within : DutiesAreWithin) (stay : GuardedCellsS
               subst (λ (l : Layout). written m.memory at (new_word v.layout t v.actor.head d found) b
               ≡ reading b (slice_index (set words (place l at) left) (place m.layout b))) (sym told)
               (written_reads m.layout words m.memory at left (new_word v.layout t v.actor.head d found)
-              old.plain old.length_is leaves has old.reads b there) in
+              old.plain (few_first old.accounts (1 + m.layout.workers) m old.counts) old.length_is leaves has
+              old.reads b there) in
               subst (λ (k : ℕ). written m.memory (address_of m.layout t a.head d) (new_word m.layout t a.head d k) b
               ≡ reading b (slice_index (set words (place_of v d) left) (place m.layout b))) (sym seen)
               (subst (λ (l : Layout). written m.memory (address_of l t v.actor.head d)
@@ -235,7 +239,7 @@ module _ (kept : DutiesAreKept) (within : DutiesAreWithin) (stay : GuardedCellsS
               (λ apart now. guarded_before x apart seen now)
               (λ before known. old.cells_seen id x i word v does.here before known) guards shown;
           threads = λ i there.
-              threads_kept layout words (set words (place_of v d) left) views i v (view_by v (d ∷ rest) found) old there
+              threads_kept plan words (set words (place_of v d) left) views i v (view_by v (d ∷ rest) found) old there
               keeps;
         }
 
@@ -252,11 +256,11 @@ module _ (kept : DutiesAreKept) (within : DutiesAreWithin) (stay : GuardedCellsS
     no_slot (ThreadWord t) word x table = refl
 
     -- The rule holds after the step, which changes no slot.
-    pub passes_after : Passes layout (set words (place_of v d) left) (set views id (view_by v (d ∷ rest) found)) []
+    pub passes_after : Passes plan (set words (place_of v d) left) (set views id (view_by v (d ∷ rest) found)) []
         None m
     unfolding changes
     passes_after =
-        passes layout words views id v (view_by v (d ∷ rest) found) does.stands does.here
+        passes plan words views id v (view_by v (d ∷ rest) found) does.stands does.here
         (set words (place_of v d) left)
         changes [] None (λ x which.
         let a = v.actor in

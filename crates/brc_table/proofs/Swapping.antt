@@ -26,6 +26,7 @@ use Rattle.brc_model.specs.Counting.{with_account}
 use Rattle.brc_model.specs.CountingLaws.{WorkIsPutAside, ImmortalsAreFree, AccountsAreThere, ChainsAreThere}
 use Rattle.brc_model.specs.CellLaws as law
 use Rattle.brc_model.specs.CellLaws.{cell_swapped, HasRoomFor, CellsAreSwapped, ItemsAreThere}
+use Rattle.brc_table.specs.Plan.{Plan}
 use Rattle.brc_table.specs.declared.view.View.{View}
 use Rattle.brc_table.specs.Places.{HasWord, cell_place}
 use Rattle.brc_table.specs.Views.{holds, RowsAreThere, without_reference, rested}
@@ -38,10 +39,11 @@ use Rattle.brc_table.proofs.Accounts.{with_account_same, with_account_other, cou
 use Rattle.brc_table.proofs.CellGuards.{change_there, change_by, change_guards, guards_apart}
 use Rattle.brc_table.proofs.RowsThere.{rows_there}
 use Rattle.brc_table.proofs.Passing.{waiting_uses}
-use Rattle.brc_table.proofs.AtHand.{is_ready, alone, has_one}
+use Rattle.brc_table.proofs.AtHand.{is_ready, alone, can_give_up}
 use Rattle.brc_table.proofs.Becoming.{rested_becomes}
 use Rattle.brc_table.proofs.Changing.{Changes, passes}
 use Rattle.brc_table.proofs.SlotsKept.{slots_kept}
+use Rattle.brc_table.proofs.FewRows.{few_first}
 use Rattle.brc_table.proofs.Lists.{set_view, set_itself}
 use Rattle.brc_table.proofs.Locking.{kind_some, known_low}
 use Rattle.brc_table.proofs.Stepping.{written_reads}
@@ -100,15 +102,15 @@ lists_account layout account rows (suc z) (suc w) y counted same has =
 -- ---- the step
 
 module _ (put : WorkIsPutAside) (free : ImmortalsAreFree) (there : AccountsAreThere) (chains : ChainsAreThere)
-    (items : ItemsAreThere) (swap : CellsAreSwapped) (layout : Layout) (v : View) (x i word : ℕ)
+    (items : ItemsAreThere) (swap : CellsAreSwapped) (plan : Plan) (v : View) (x i word : ℕ)
     (may : MaySwap v x i word) where
   -- The rule holds with accounts from which the thread may put the item.
   pub record Puts (words : List ℕ) (views : List View) (before : Machine) : Type 0 where
-    pub stands : Stands layout words views
+    pub stands : Stands plan words views
     pub slots : (y : ℕ) → stands.machine.memory (Slot y) ≡ before.memory (Slot y)
     pub may_put : law.MayPut (stands.accounts v.thread) (rested v).actor word
 
-  has_item : (words : List ℕ) (views : List View) (id w : ℕ) → (stands : Stands layout words views)
+  has_item : (words : List ℕ) (views : List View) (id w : ℕ) → (stands : Stands plan words views)
       → get_elem? views id ≡ some (rested v) → word ≡ w → MayPut v w → Puts words views stands.machine
   has_item words views id zero stands here is puts = record {
     stands = stands;
@@ -116,27 +118,24 @@ module _ (put : WorkIsPutAside) (free : ImmortalsAreFree) (there : AccountsAreTh
     may_put = subst (law.MayPut (stands.accounts v.thread) (rested v).actor) (sym is) tt;
   }
   has_item words views id (suc y) stands here is puts =
-      let one =
-      has_one free layout words views id v y
-      (record { stands = stands; here = here; running = may.running.0; free = puts.1 }) puts.0 in
-      let s = one.stands in
+      let spare =
+      can_give_up free plan words views id v y
+      (record { stands = stands; here = here; running = may.running.0; free = puts.1 }) puts.0 puts.2 in
+      let s = spare.stands in
       record {
         stands = s;
-        slots = one.slots;
+        slots = spare.slots;
         may_put =
             subst (law.MayPut (s.accounts v.thread) (rested v).actor) (sym is) (
               alone v y puts.1,
-              one.more,
-              λ e.
-                  let lock =
-                  (s.counts.kept.core.each v.thread (rested v).actor (s.acts id (rested v) here)).0.locks y e in
-                  omega (arith, s.holding id (rested v) y here lock.counted, puts.2 e),
+              spare.more,
+              spare.keeps,
             );
       }
 
   module _ (words : List ℕ) (views : List View) (id : ℕ) (before : Machine) (puts : Puts words views before)
       (here : get_elem? views id ≡ some (rested v)) where
-    abbrev s : Stands layout words views
+    abbrev s : Stands plan words views
     s = puts.stands
 
     abbrev m : Machine
@@ -155,7 +154,7 @@ module _ (put : WorkIsPutAside) (free : ImmortalsAreFree) (there : AccountsAreTh
     told = s.told id (rested v) here
 
     rows : RowsAreThere (rested v)
-    rows = rows_there there chains layout words views id (rested v) s here
+    rows = rows_there there chains plan words views id (rested v) s here
 
     cell_has : HasWord m.layout (Cell x i)
     cell_has = (
@@ -223,30 +222,30 @@ module _ (put : WorkIsPutAside) (free : ImmortalsAreFree) (there : AccountsAreTh
 
     -- No other hand changes the list's cells.
     guards : Guards m (rested v) x
-    guards = change_guards chains layout words views id (rested v) x s here may.changes
+    guards = change_guards chains plan words views id (rested v) x s here may.changes
 
     -- The cells that another hand guards are another list's.
     other_list : (other y : ℕ) (w : View) → w.thread ≢ v.thread → get_elem? views other ≡ some w → Guards m w y
         → (x == y) ≡ false
     other_list other y w apart is theirs =
         ne_eqb x y (λ same.
-        guards_apart layout words views other id w (rested v) x s is here apart
+        guards_apart plan words views other id w (rested v) x s is here apart
         (subst (λ (z : ℕ). Guards m w z) (sym same) theirs) guards)
 
-    changes : Changes layout words views (rested v) after s (set words (cell_place m.layout x i) word)
+    changes : Changes plan words views (rested v) after s (set words (cell_place m.layout x i) word)
     changes = record {
       accounts = with_account s.accounts v.thread account;
       machine = cell_swapped m v.thread x i word;
       counts =
           swap s.accounts (1 + m.layout.workers) m v.thread (rested v).actor x i word s.counts
-          (is_ready layout words views id v s here may.running.0) (change_by v x may.changes) may.retains low
+          (is_ready plan words views id v s here may.running.0) (change_by v x may.changes) may.retains low
           puts.may_put
           (room (m.memory (Cell x i)));
       layout_same = refl;
       length_is = length-set words (cell_place m.layout x i) word;
       reads =
-          written_reads m.layout words m.memory (Cell x i) word word s.plain s.length_is refl cell_has
-          s.reads;
+          written_reads m.layout words m.memory (Cell x i) word word s.plain
+          (few_first s.accounts (1 + m.layout.workers) m s.counts) s.length_is refl cell_has s.reads;
       actors = sym (set_itself m.actors v.thread (rested v).actor (s.acts id (rested v) here));
       thread_same = refl;
       told_same = refl;
@@ -282,9 +281,9 @@ module _ (put : WorkIsPutAside) (free : ImmortalsAreFree) (there : AccountsAreTh
           (Guards m (rested v) y) (λ off now. now)
           (λ before known. s.cells_seen id y j w (rested v) here before known) own shown;
       threads = λ k there_k.
-          threads_kept layout words (set words (cell_place m.layout x i) word) views k (rested v) after s there_k
+          threads_kept plan words (set words (cell_place m.layout x i) word) views k (rested v) after s there_k
           (object_step m.layout words (rested v) after (record { address = Cell x i; found = found; left = word }) word
-          s.plain
+          s.plain (few_first s.accounts (1 + m.layout.workers) m s.counts)
           (omega (
             arith,
             slice_get_within m.actors v.thread (rested v).actor (s.acts id (rested v) here),
@@ -294,12 +293,12 @@ module _ (put : WorkIsPutAside) (free : ImmortalsAreFree) (there : AccountsAreTh
     }
 
     -- The rule holds after the swap.
-    pub passes_swapped : Passes layout (set words (cell_place m.layout x i) word) (set views id after) v.taken
+    pub passes_swapped : Passes plan (set words (cell_place m.layout x i) word) (set views id after) v.taken
         v.actor.locked
         s.machine
     unfolding changes
     passes_swapped =
-        passes layout words views id (rested v) after s here (set words (cell_place m.layout x i) word) changes v.taken
+        passes plan words views id (rested v) after s here (set words (cell_place m.layout x i) word) changes v.taken
         v.actor.locked
         (λ y which. refl)
 
@@ -319,14 +318,14 @@ module _ (put : WorkIsPutAside) (free : ImmortalsAreFree) (there : AccountsAreTh
 
   -- The swap is allowed.
   pub swap_allowed : {T : Type 0} (slots id index : ℕ) (me : Me (Option T) View) → me.0 ≡ v
-      → index ≡ cell_place layout x i
-      → Allows (λ (s : State (Option T) View). TableStands layout s.words s.homes s.views) slots id me index
+      → index ≡ cell_place plan.layout x i
+      → Allows (λ (s : State (Option T) View). TableStands plan s.words s.homes s.views) slots id me index
       (λ found. word)
       (λ found after. Swaps x i word me found after)
   swap_allowed slots id index me is_me at s holds homes here below =
       let mine : get_elem? s.views id ≡ some v = here ∙ ap some is_me in
       let resting = set s.views id (rested v) in
-      let rest = rested_becomes put layout v may.running.1 in
+      let rest = rested_becomes put plan v may.running.1 in
       let first = rest.passes s.words s.views id holds.stands mine in
       let stands = first.stands in
       let there_now : get_elem? resting id ≡ some (rested v) = set_view s.views id v (rested v) mine in
@@ -338,13 +337,13 @@ module _ (put : WorkIsPutAside) (free : ImmortalsAreFree) (there : AccountsAreTh
       ap (slice_index s.words) (sym at_now) in
       let w = swapped v x i word found in
       let after = passes_swapped s.words resting id stands.machine puts there_now in
-      let moved : Passes layout (set s.words index word) (set s.views id w) v.taken v.actor.locked puts.stands.machine =
-      subst (λ (l : List View). Passes layout (set s.words index word) l v.taken v.actor.locked puts.stands.machine)
+      let moved : Passes plan (set s.words index word) (set s.views id w) v.taken v.actor.locked puts.stands.machine =
+      subst (λ (l : List View). Passes plan (set s.words index word) l v.taken v.actor.locked puts.stands.machine)
       (set-set s.views id (rested v) w)
-      (subst (λ (k : ℕ). Passes layout (set s.words index word) (set resting id (swapped v x i word k)) v.taken
+      (subst (λ (k : ℕ). Passes plan (set s.words index word) (set resting id (swapped v x i word k)) v.taken
       v.actor.locked
       puts.stands.machine) same
-      (subst (λ (j : ℕ). Passes layout (set s.words j word)
+      (subst (λ (j : ℕ). Passes plan (set s.words j word)
       (set resting id (swapped v x i word (slice_index s.words (cell_place puts.stands.machine.layout x i)))) v.taken
       v.actor.locked puts.stands.machine)
       (sym at_now) after)) in
@@ -360,7 +359,7 @@ module _ (put : WorkIsPutAside) (free : ImmortalsAreFree) (there : AccountsAreTh
       })
       (λ y which. moved.slots y which ∙ (puts.slots y ∙ first.slots y which)) in
       let rows_now : RowsAreThere w =
-      rows_there there chains layout (set s.words index word) (set s.views id w) id w now
+      rows_there there chains plan (set s.words index word) (set s.views id w) id w now
       (set_view s.views id v w mine) in
       let low : found ≤ row_count v.layout =
       subst (λ (k : ℕ). k ≤ row_count v.layout) same (found_there s.words resting id stands.machine puts there_now) in

@@ -5,10 +5,10 @@ use Rattle.std.proofs.lemmas.Bool.Decides.{eqb_tells}
 use Rattle.std.proofs.lemmas.Option.{slice_get_within}
 use mathlib.Core.Option.{some, some-injective, some-ne-none}
 use lib.ListN.{get_elem?}
-use Rattle.brc_model.specs.declared.layout.Layout.{Layout}
 use Rattle.brc_model.specs.declared.actor.Actor.{Actor}
 use Rattle.brc_model.specs.Machine.{idle_actor}
 use Rattle.brc_model.proofs.Basics.Lists.{some_is}
+use Rattle.brc_table.specs.Plan.{Plan}
 use Rattle.brc_table.specs.declared.view.View.{View}
 use Rattle.brc_table.specs.Rule.{Stands}
 
@@ -39,10 +39,10 @@ hand_of (v ∷ views) t = elim (eqb_tells v.thread t) [
 ]
 
 -- A thread of the machine is its hand's, or it has done nothing.
-pub thread_is : (layout : Layout) (words : List ℕ) (views : List View) (s : Stands layout words views) (t : ℕ)
+pub thread_is : (plan : Plan) (words : List ℕ) (views : List View) (s : Stands plan words views) (t : ℕ)
     (a : Actor) → slice_get s.machine.actors t ≡ Some a
     → ((h : HandOf views t) × (a ≡ h.view.actor)) ⊎ (a ≡ idle_actor 0)
-thread_is layout words views s t a found = elim (hand_of views t) [
+thread_is plan words views s t a found = elim (hand_of views t) [
   | inl h ↦
       inl (
         h,

@@ -12,6 +12,7 @@ use Rattle.brc_model.specs.Knowledge.{status_word}
 use Rattle.brc_model.specs.declared.address.Address.{Address}
 use Rattle.brc_model.specs.declared.layout.Layout.{Layout}
 use Rattle.brc_model.specs.Duties.{address_of, new_word}
+use Rattle.brc_table.specs.Plan.{Plan}
 use Rattle.brc_table.specs.ModelLaws.{ModelLaws}
 use Rattle.brc_table.specs.declared.view.View.{View}
 use Rattle.brc_table.specs.Views.{event_of, view_by}
@@ -19,6 +20,7 @@ use Rattle.brc_table.specs.Rule.{thread_reading, reading}
 use Rattle.brc_table.specs.Threads.{thread_word}
 use Rattle.brc_table.specs.Begins.{Becomes}
 use Rattle.brc_table.specs.Places.{place}
+use Rattle.brc_table.proofs.FewRows.{few_first}
 use Rattle.brc_table.proofs.Places.{place_within}
 use Rattle.brc_table.proofs.ThreadsKept.{KeepsThreads, reading_some, says_three, thread_step}
 use Rattle.brc_table.proofs.Stepping.{Does, place_of, read_of, has}
@@ -39,8 +41,8 @@ pub record IsOnThread (layout : Layout) (t head : ℕ) (d : Duty) : Type 0 where
   pub kind : ((found : ℕ) → new_word layout t head d found ≡ found)
       ⊎ ((thread ≡ t) × ((found : ℕ) → 0 < new_word layout t head d found))
 
-module _ (laws : ModelLaws) (layout : Layout) (v u : View)
-    (d : Duty) (rest : List Duty) (index : ℕ) (becomes : Becomes layout v u) (next : IsNextAt u d rest index)
+module _ (laws : ModelLaws) (plan : Plan) (v u : View)
+    (d : Duty) (rest : List Duty) (index : ℕ) (becomes : Becomes plan v u) (next : IsNextAt u d rest index)
     (on : IsOnThread u.layout u.thread u.actor.head d) (f : ℕ → ℕ)
     (leaves : (found : ℕ) → found < 2 ^ 64 → f found ≡ new_word u.layout u.thread u.actor.head d found) where
   thread_says : (k : ℕ) → read_of u d k ≡ thread_reading k
@@ -54,7 +56,7 @@ module _ (laws : ModelLaws) (layout : Layout) (v u : View)
       ∙ (on.says found ∙ ap (new_word u.layout u.thread u.actor.head d) (sym (thread_says found))))
 
   -- The word of a thread that isn't gone doesn't say so.
-  not_gone : (words : List ℕ) (views : List View) (i : ℕ) → Does layout words views i u d rest → on.thread ≡ u.thread
+  not_gone : (words : List ℕ) (views : List View) (i : ℕ) → Does plan words views i u d rest → on.thread ≡ u.thread
       → thread_word words on.thread ≡ 3 → ⊥
   not_gone words views i does own is =
       let s = does.stands in
@@ -71,7 +73,7 @@ module _ (laws : ModelLaws) (layout : Layout) (v u : View)
       alive_word u.actor.status does.alive (says ∙ ap thread_reading three)
 
   -- The step keeps what the words of threads say.
-  keeps_from : (words : List ℕ) (views : List View) (i : ℕ) (does : Does layout words views i u d rest)
+  keeps_from : (words : List ℕ) (views : List View) (i : ℕ) (does : Does plan words views i u d rest)
       → slice_index words (place_of u d) < 2 ^ 64
       → (on.thread ≡ u.thread) ⊎ (f (thread_word words on.thread) ≡ thread_word words on.thread)
       → (0 < thread_word words on.thread → 0 < f (thread_word words on.thread))
@@ -90,7 +92,9 @@ module _ (laws : ModelLaws) (layout : Layout) (v u : View)
         arith,
         place_within does.stands.machine.layout (address_of u.layout u.thread u.actor.head d)
             does.stands.plain
-            (has laws.kept laws.within laws.guarded layout words views i u d rest does),
+            (few_first does.stands.accounts (1 + does.stands.machine.layout.workers) does.stands.machine
+            does.stands.counts)
+            (has laws.kept laws.within laws.guarded plan words views i u d rest does),
         ap (λ (l : Layout). place l (address_of u.layout u.thread u.actor.head d)) (does.stands.told i u does.here),
         does.stands.length_is,
       )) in
@@ -112,7 +116,7 @@ module _ (laws : ModelLaws) (layout : Layout) (v u : View)
         stays_gone = λ is. ap f same ∙ stays_gone is;
       }))
 
-  thread_keeps : (words : List ℕ) (views : List View) (i : ℕ) (does : Does layout words views i u d rest)
+  thread_keeps : (words : List ℕ) (views : List View) (i : ℕ) (does : Does plan words views i u d rest)
       → slice_index words (place_of u d) < 2 ^ 64
       → KeepsThreads does.stands.machine.layout words
       (set words (place_of u d) (f (slice_index words (place_of u d)))) u
@@ -130,5 +134,5 @@ module _ (laws : ModelLaws) (layout : Layout) (v u : View)
             (λ is. absurd (not_gone words views i does own is))
       ]
 
-  pub thread_leaves : LeavesWord laws layout v u d rest index becomes next f
+  pub thread_leaves : LeavesWord laws plan v u d rest index becomes next f
   thread_leaves = ((λ found small known. left_says found small), thread_keeps)

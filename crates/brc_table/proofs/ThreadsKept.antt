@@ -17,7 +17,8 @@ use Rattle.brc_model.specs.Machine.{same_address}
 use Rattle.brc_model.specs.Counting.{IsPlainLayout}
 use Rattle.brc_table.specs.declared.view.View.{View}
 use Rattle.brc_model.specs.declared.event.WordEvent.{WordEvent}
-use Rattle.brc_table.specs.Places.{place, HasWord, IsObjectWord}
+use Rattle.brc_table.specs.Plan.{Plan}
+use Rattle.brc_table.specs.Places.{place, HasWord, IsObjectWord, FewFirstRows}
 use Rattle.brc_table.specs.Views.{is_given}
 use Rattle.brc_table.specs.KnownWords.{starts, has_started, started_word, shows_gone, knows_gone}
 use Rattle.brc_table.specs.Rule.{thread_reading, Stands}
@@ -51,8 +52,8 @@ pub record KeepsThreads (layout : Layout) (words after : List ℕ) (v u : View) 
   pub gone : (t : ℕ) → t ≤ layout.workers → knows_gone t u ≡ true
       → (knows_gone t v ≡ true) ⊎ (thread_word after t ≡ 3)
 
-module _ (layout : Layout) (words after : List ℕ) (views : List View) (id : ℕ) (v u : View)
-    (old : Stands layout words views) (here : get_elem? views id ≡ some v)
+module _ (plan : Plan) (words after : List ℕ) (views : List View) (id : ℕ) (v u : View)
+    (old : Stands plan words views) (here : get_elem? views id ≡ some v)
     (keeps : KeepsThreads old.machine.layout words after v u) where
   abbrev workers : ℕ
   workers = old.machine.layout.workers
@@ -170,11 +171,11 @@ module _ (layout : Layout) (words after : List ℕ) (views : List View) (id : �
 -- ---- no word changes
 
 -- The hand turns to other work.
-pub threads_same : (layout : Layout) (words : List ℕ) (views : List View) (id : ℕ) (v u : View)
-    → (old : Stands layout words views) → get_elem? views id ≡ some v → u.thread ≡ v.thread → u.given ≡ v.given
+pub threads_same : (plan : Plan) (words : List ℕ) (views : List View) (id : ℕ) (v u : View)
+    → (old : Stands plan words views) → get_elem? views id ≡ some v → u.thread ≡ v.thread → u.given ≡ v.given
     → u.trace ≡ v.trace → ThreadsStand old.machine.layout words (set views id u)
-threads_same layout words views id v u old here thread given trace =
-    threads_kept layout words words views id v u old here (record {
+threads_same plan words views id v u old here thread given trace =
+    threads_kept plan words words views id v u old here (record {
       thread = thread;
       given = λ t. ap (list_any (λ k. k == t)) given;
       still_started = λ t is. ap (list_any (starts t)) trace ∙ is;
@@ -224,14 +225,14 @@ pub record Steps (v u : View) (e : WordEvent) : Type 0 where
 
 -- A step on an object's word leaves the words of threads.
 pub object_step : (layout : Layout) (words : List ℕ) (v u : View) (e : WordEvent) (left : ℕ)
-    → IsPlainLayout layout → v.thread ≤ layout.workers → Steps v u e → IsObjectWord e.address
+    → IsPlainLayout layout → FewFirstRows layout → v.thread ≤ layout.workers → Steps v u e → IsObjectWord e.address
     → HasWord layout e.address → KeepsThreads layout words (set words (place layout e.address) left) v u
-object_step layout words v u e left plain known steps object has =
+object_step layout words v u e left plain few known steps object has =
     let stays : (t : ℕ) → t ≤ layout.workers
     → thread_word (set words (place layout e.address) left) t ≡ thread_word words t =
     λ t low.
     get_or-set_other words (place layout e.address) t left 0
-    (λ same. place_apart layout e.address (ThreadWord t) plain has (omega (arith, low))
+    (λ same. place_apart layout e.address (ThreadWord t) plain few has (omega (arith, low))
     (object_apart e.address t object) (sym same)) in
     record {
       thread = steps.thread;

@@ -1,5 +1,5 @@
 -- Which duties each kind of step does.
-use Rattle.std.specs.Prelude.{◌≡◌, ◌≢◌, ℕ, List, [], ◌∷◌}
+use Rattle.std.specs.Prelude.{◌≡◌, ◌≢◌, ℕ, None, List, [], ◌∷◌}
 use Rattle.brc_model.specs.declared.duty.Duty.{Duty}
 use Rattle.brc_model.specs.declared.duty.Duty.TheVariants.{Settle, TakeSlot, SettleEnd, BirthSlot, BirthLocal}
 use Rattle.brc_model.specs.declared.actor.Status.TheVariants.{Running, Gone}
@@ -41,8 +41,9 @@ pub record IsFree (v : View) : Type 0 where
   pub agenda : v.actor.agenda ≡ []
   pub aside : v.actor.aside ≡ []
 
--- The hand may leave: besides, it holds no reference, and its chain is empty.
+-- The hand may leave: besides, it holds no reference, has locked nothing, and its chain is empty.
 pub record MayLeave (v : View) : Type 0 where
   pub free : IsFree v
   pub holds_none : v.references ≡ []
+  pub unlocked : v.actor.locked ≡ None
   pub settled : v.actor.head ≡ 0

@@ -7,7 +7,7 @@ use Rattle.brc_model.specs.SlotLaws.{SlotUse, Gives}
 use Rattle.brc_model.specs.Stores.{Overwrites}
 use Rattle.brc_table.specs.declared.view.View.{View}
 use Rattle.brc_table.specs.Rule.{reading}
-use Rattle.brc_table.specs.Plays.{SuitsFirst, FirstFindsOwner, FindsKnown, overwritten}
+use Rattle.brc_table.specs.Plays.{SuitsFirst, FirstFindsOwner, FindsKnown, FindsFirst, overwritten}
 use Rattle.brc_table.specs.Uses.{FirstSlot, IsDue, Uses}
 
 -- The slot that a step gives back is the one that the hand took last, and holds what is due.
@@ -25,19 +25,22 @@ abbrev pub said : View → List Duty → ℕ → ℕ
 said v [] word = word
 said v (d ∷ rest) word = reading (address_of v.layout v.thread v.actor.head d) word
 
--- The hand first becomes `begins` of what it was, and then does its first duty.
-abbrev pub Steps : {T : Type 0} → (View → View) → Me (Option T) View → ℕ → Me (Option T) View → Type 0
-Steps begins me found after =
+-- The hand first becomes `begins` of what it was, and then does its first duty, in a table with these lines of immortal
+-- lists.
+abbrev pub Steps : {T : Type 0} → List (List ℕ) → (View → View) → Me (Option T) View → ℕ → Me (Option T) View → Type 0
+Steps lines begins me found after =
     Uses begins me found after
     × SuitsFirst (begins me.0) (begins me.0).actor.agenda found
     × FirstFindsOwner (begins me.0) (begins me.0).actor.agenda found
     × FindsKnown (begins me.0) (begins me.0).actor.agenda found
     × OverwritesFirst (begins me.0).thread (begins me.0).actor.agenda found
+    × FindsFirst lines (begins me.0) (begins me.0).actor.agenda found
 
 -- The same of a step that finds this word, and goes on with what the word says.
-abbrev pub StepsBy : {T : Type 0} → (View → View) → Me (Option T) View → ℕ → Me (Option T) View → Type 0
-StepsBy begins me word after = Steps begins me (said (begins me.0) (begins me.0).actor.agenda word) after
+abbrev pub StepsBy : {T : Type 0} → List (List ℕ) → (View → View) → Me (Option T) View → ℕ → Me (Option T) View
+    → Type 0
+StepsBy lines begins me word after = Steps lines begins me (said (begins me.0) (begins me.0).actor.agenda word) after
 
 -- The same of a store, which knows the value that it overwrites.
-abbrev pub StepsStored : {T : Type 0} → (View → View) → Me (Option T) View → Me (Option T) View → Type 0
-StepsStored begins me after = Steps begins me (overwritten (begins me.0)) after
+abbrev pub StepsStored : {T : Type 0} → List (List ℕ) → (View → View) → Me (Option T) View → Me (Option T) View → Type 0
+StepsStored lines begins me after = Steps lines begins me (overwritten (begins me.0)) after

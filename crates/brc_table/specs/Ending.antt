@@ -9,6 +9,8 @@ use Rattle.brc_model.specs.declared.layout.Layout.{Layout}
 use Rattle.brc_model.specs.Duties.{resources_of}
 use Rattle.brc_model.specs.Layout.{row_count, IsCounted}
 use Rattle.brc_model.specs.SlotLaws.{UsesSlot}
+use Rattle.brc_model.specs.FirstRows.{first_kind_word}
+use Rattle.brc_table.specs.Plan.{Plan}
 use Rattle.brc_table.specs.declared.view.View.{View}
 use Rattle.brc_table.specs.Homes.{resources, times_taken, IsHome}
 use Rattle.brc_table.specs.Places.{gate_line, kind_line, in_tile, cell_place}
@@ -17,11 +19,12 @@ use Rattle.brc_table.specs.KnownWords.{knows_gone}
 use Rattle.brc_table.specs.Threads.{thread_word}
 use Rattle.brc_table.specs.Peeks.{NeverStarted}
 
--- A closed table, as contracts see it: which one it was, its size, its last words, and how many resources each row's
--- slot holds.
+-- A closed table, as contracts see it: which one it was, its size, the lines of its immortal lists, its last words, and
+-- how many resources each row's slot holds.
 pub record EndState : Type 0 where
   pub table : TableId
   pub layout : Layout
+  pub lines : List (List ℕ)
   pub words : List ℕ
   pub slots : List ℕ
 
@@ -33,12 +36,16 @@ resources_in slots = map resources slots
 abbrev pub slot_at : List ℕ → ℕ → ℕ
 slot_at slots x = slice_index slots x
 
+-- what the closed table was told when it was made
+abbrev pub plan_at : EndState → Plan
+plan_at end = record { layout = end.layout; lines = end.lines }
+
 -- The table was closed with this hand: its last words meet the rule, beside this view and those of the other hands.
 pub record EndsWith (v : View) (end : EndState) : Type 0 where
   pub views : List View
   pub id : ℕ
   pub here : get_elem? views id ≡ some v
-  pub stands : Stands end.layout end.words views
+  pub stands : Stands (plan_at end) end.words views
   -- a slot that no hand has taken holds as many resources as the counting machine says
   pub homes : (x : ℕ) → x < row_count end.layout → IsHome views x
       → slot_at end.slots x ≡ stands.machine.memory (Slot x)
@@ -95,10 +102,15 @@ pub record RowEnds (layout : Layout) (words : List ℕ) (x : ℕ) : Type 0 where
       → cell_at layout words y i ≢ x + 1
   pub closed_empty : gate_at words x ≡ closed_word → (i : ℕ) → i < layout.cells → cell_at layout words x i ≡ 0
 
+-- The kind word of a row that was there from the start is the row's first one.
+abbrev pub FirstKindsStay : Type 0
+FirstKindsStay = (v : View) (end : EndState) (x : ℕ) → EndsWith v end → 0 < first_kind_word end.lines end.layout x
+    → x < row_count end.layout → kind_at end.words x ≡ first_kind_word end.lines end.layout x
+
 -- Once each thread is gone or was never started, this holds of each counted row.
 abbrev pub RowsEnd : Type 0
-RowsEnd = (layout : Layout) (words : List ℕ) (views : List View) (x : ℕ) → Stands layout words views
-    → HaveEnded layout words → IsCounted layout x → x < row_count layout → RowEnds layout words x
+RowsEnd = (plan : Plan) (words : List ℕ) (views : List View) (x : ℕ) → Stands plan words views
+    → HaveEnded plan.layout words → IsCounted plan.layout x → x < row_count plan.layout → RowEnds plan.layout words x
 
 -- ---- slots
 

@@ -20,6 +20,7 @@ use Rattle.brc_model.specs.Duties.{address_of, new_word}
 use Rattle.brc_model.specs.OpenWork.{is_finalising}
 use Rattle.brc_model.specs.Watched.{looks_at, scans_over}
 use Rattle.brc_model.specs.SlotLaws.{UsesSlot}
+use Rattle.brc_table.specs.Plan.{Plan}
 use Rattle.brc_table.specs.declared.view.View.{View}
 use Rattle.brc_table.specs.Places.{place, HasWord}
 use Rattle.brc_table.specs.Views.{holds, open_work}
@@ -47,22 +48,22 @@ pub data IsWatched (layout : Layout) (words : List ℕ) (views : List View) (x :
 
 -- Each mark that is set is watched.
 abbrev pub SetMarksAreWatched : Type 0
-SetMarksAreWatched = (layout : Layout) (words : List ℕ) (views : List View) (x : ℕ) → Stands layout words views
-    → x < row_count layout → row_mark layout words x ≢ UNSET → IsWatched layout words views x
+SetMarksAreWatched = (plan : Plan) (words : List ℕ) (views : List View) (x : ℕ) → Stands plan words views
+    → x < row_count plan.layout → row_mark plan.layout words x ≢ UNSET → IsWatched plan.layout words views x
 
 -- The hand's first duty is about the word at the address, which the table has, and changes it.
-pub record ChangesWord (layout : Layout) (words : List ℕ) (views : List View) (v : View) (d : Duty) (a : Address)
+pub record ChangesWord (plan : Plan) (words : List ℕ) (views : List View) (v : View) (d : Duty) (a : Address)
     : Type 0 where
-  pub stands : Stands layout words views
+  pub stands : Stands plan words views
   pub id : ℕ
   pub here : get_elem? views id ≡ some v
   pub rest : List Duty
   pub agenda : v.actor.agenda ≡ d ∷ rest
   pub alive : v.actor.status ≢ Gone
-  pub there : HasWord layout a
-  pub at : address_of layout v.thread v.actor.head d ≡ a
-  pub other : new_word layout v.thread v.actor.head d (slice_index words (place layout a))
-      ≢ slice_index words (place layout a)
+  pub there : HasWord plan.layout a
+  pub at : address_of plan.layout v.thread v.actor.head d ≡ a
+  pub other : new_word plan.layout v.thread v.actor.head d (slice_index words (place plan.layout a))
+      ≢ slice_index words (place plan.layout a)
 
 -- The hand has locked the row's object, and the object's gate names the hand's thread.
 abbrev pub HoldsGate : List ℕ → View → ℕ → Type 0
@@ -70,21 +71,21 @@ HoldsGate words v x = (v.actor.locked ≡ Some x) × (gate_at words x ≡ locked
 
 -- A duty that changes a cell is of the hand that has locked the list, or it is a step of the list's deallocation.
 abbrev pub OnlyHoldersChangeCells : Type 0
-OnlyHoldersChangeCells = (layout : Layout) (words : List ℕ) (views : List View) (v : View) (d : Duty) (x i : ℕ)
-    → ChangesWord layout words views v d (Cell x i) → HoldsGate words v x ⊎ (is_finalising d x ≡ true)
+OnlyHoldersChangeCells = (plan : Plan) (words : List ℕ) (views : List View) (v : View) (d : Duty) (x i : ℕ)
+    → ChangesWord plan words views v d (Cell x i) → HoldsGate words v x ⊎ (is_finalising d x ≡ true)
 
 -- A hand that may swap a cell, which is a step of no duty, holds the list's gate, or deallocates the list: the list is
 -- the first object of the hand's dying chain.
 abbrev pub OnlyHoldersSwapCells : Type 0
-OnlyHoldersSwapCells = (layout : Layout) (words : List ℕ) (views : List View) (id : ℕ) (v : View) (x i word : ℕ)
-    → Stands layout words views → get_elem? views id ≡ some v → MaySwap v x i word
+OnlyHoldersSwapCells = (plan : Plan) (words : List ℕ) (views : List View) (id : ℕ) (v : View) (x i word : ℕ)
+    → Stands plan words views → get_elem? views id ≡ some v → MaySwap v x i word
     → HoldsGate words v x ⊎ IsFirst v x
 
 -- While the thread of a row's block runs, a step that changes the row's local word is of that thread's hand.
 abbrev pub OnlyRunningOwnersCount : Type 0
-OnlyRunningOwnersCount = (layout : Layout) (words : List ℕ) (views : List View) (v : View) (d : Duty) (x : ℕ)
-    → ChangesWord layout words views v d (Local x) → thread_says words (block_of layout x) ≡ 1
-    → v.thread ≡ block_of layout x
+OnlyRunningOwnersCount = (plan : Plan) (words : List ℕ) (views : List View) (v : View) (d : Duty) (x : ℕ)
+    → ChangesWord plan words views v d (Local x) → thread_says words (block_of plan.layout x) ≡ 1
+    → v.thread ≡ block_of plan.layout x
 
 -- The hand has nothing to do, holds no reference to a counted object and no lock, has taken no row's slot, and its
 -- chain is empty.
@@ -107,31 +108,32 @@ pub record HasGoneHand (views : List View) (t : ℕ) : Type 0 where
 -- A hand whose thread is gone holds nothing. `T` is the type of the table's resources.
 abbrev pub GoneHandsHoldNothing : Type 0 → Type 0
 GoneHandsHoldNothing T =
-    (layout : Layout) (words : List ℕ) (homes : List (home.Option (Option T))) (views : List View) (id : ℕ) (v : View)
-    → TableStands layout words homes views → get_elem? views id ≡ some v → v.actor.status ≡ Gone → HoldsNothing layout v
+    (plan : Plan) (words : List ℕ) (homes : List (home.Option (Option T))) (views : List View) (id : ℕ) (v : View)
+    → TableStands plan words homes views → get_elem? views id ≡ some v → v.actor.status ≡ Gone
+    → HoldsNothing plan.layout v
 
 -- A thread's word is 3 exactly where the thread has a hand and is gone.
 pub record GoneWordsTell : Type 0 where
-  pub told : (layout : Layout) (words : List ℕ) (views : List View) (id : ℕ) (v : View) → Stands layout words views
+  pub told : (plan : Plan) (words : List ℕ) (views : List View) (id : ℕ) (v : View) → Stands plan words views
       → get_elem? views id ≡ some v → v.actor.status ≡ Gone → thread_word words v.thread ≡ 3
-  pub gone : (layout : Layout) (words : List ℕ) (views : List View) (t : ℕ) → Stands layout words views
-      → t ≤ layout.workers → thread_word words t ≡ 3 → HasGoneHand views t
+  pub gone : (plan : Plan) (words : List ℕ) (views : List View) (t : ℕ) → Stands plan words views
+      → t ≤ plan.layout.workers → thread_word words t ≡ 3 → HasGoneHand views t
 
 -- A thread that has a hand is started.
 abbrev pub HandsAreStarted : Type 0
-HandsAreStarted = (layout : Layout) (words : List ℕ) (views : List View) (id : ℕ) (v : View)
-    → Stands layout words views → get_elem? views id ≡ some v → 0 < thread_word words v.thread
+HandsAreStarted = (plan : Plan) (words : List ℕ) (views : List View) (id : ℕ) (v : View)
+    → Stands plan words views → get_elem? views id ≡ some v → 0 < thread_word words v.thread
 
 -- ---- sizes and slots
 
 -- Each hand's view has the table's number of workers and rows, so it is the same in all views.
 abbrev pub ViewsKeepTheLayout : Type 0
-ViewsKeepTheLayout = (layout : Layout) (words : List ℕ) (views : List View) (id : ℕ) (v : View)
-    → Stands layout words views → get_elem? views id ≡ some v → v.layout ≡ layout
+ViewsKeepTheLayout = (plan : Plan) (words : List ℕ) (views : List View) (id : ℕ) (v : View)
+    → Stands plan words views → get_elem? views id ≡ some v → v.layout ≡ plan.layout
 
 -- The root is a list of eight cells.
 abbrev pub RootIsAList : Type 0
-RootIsAList = (layout : Layout) (words : List ℕ) (views : List View) → Stands layout words views
+RootIsAList = (plan : Plan) (words : List ℕ) (views : List View) → Stands plan words views
     → kind_at words root_row ≡ list_word root_cells
 
 -- One hand has taken the row's slot, once, and uses it; no other hand has taken it.
@@ -146,6 +148,6 @@ pub record IsTakenAlone (views : List View) (x : ℕ) : Type 0 where
 -- While a row's slot isn't at home in the table, one hand has taken it. `T` is the type of the table's resources.
 abbrev pub TakenSlotsAreAlone : Type 0 → Type 0
 TakenSlotsAreAlone T =
-    (layout : Layout) (words : List ℕ) (homes : List (home.Option (Option T))) (views : List View) (x : ℕ)
-    → TableStands layout words homes views → x < row_count layout → get_elem? homes x ≡ some home.none
+    (plan : Plan) (words : List ℕ) (homes : List (home.Option (Option T))) (views : List View) (x : ℕ)
+    → TableStands plan words homes views → x < row_count plan.layout → get_elem? homes x ≡ some home.none
     → IsTakenAlone views x

@@ -6,15 +6,21 @@ use Rattle.brc_model.specs.declared.duty.Duty.{Duty}
 use Rattle.brc_model.specs.declared.layout.Layout.{Layout}
 use Rattle.brc_model.specs.Layout.{row_count, block_of, index_of, is_immortal_row}
 use Rattle.brc_model.specs.OpenWork.{may_wait}
+use Rattle.brc_table.specs.Plan.{Plan}
 use Rattle.brc_table.specs.declared.view.View.{View}
 use Rattle.brc_model.specs.Knowledge.{is_retain}
 use Rattle.brc_table.specs.Views.{holds, work_about, open_work}
 use Rattle.brc_table.specs.KnownWords.{known_cell}
 
--- A table, as contracts see it: which one it is, and its size.
+-- A table, as contracts see it: which one it is, its size, and the lines of its immortal lists.
 pub record TableState : Type 0 where
   pub table : TableId
   pub layout : Layout
+  pub lines : List (List ℕ)
+
+-- what the table was told when it was made
+abbrev pub plan_of : TableState → Plan
+plan_of words = record { layout = words.layout; lines = words.lines }
 
 -- A hand, as contracts see it: whose table it is of, and what it knows.
 pub record HandState : Type 0 where
@@ -85,9 +91,10 @@ MayChange v x = (v.actor.locked ≡ Some x) ⊎ IsFirst v x
 abbrev pub MayLoad : View → ℕ → Type 0
 MayLoad v x = ((v.actor.locked ≡ Some x) × HoldsOne v x) ⊎ IsFirst v x
 
--- The hand keeps a reference to the object if it has locked it: it holds a second one.
+-- The hand keeps a reference to the object if it has locked it: it holds a second one. Every hand counts as holding
+-- immortal objects.
 abbrev pub KeepsLock : View → ℕ → Type 0
-KeepsLock v x = v.actor.locked ≡ Some x → 2 ≤ holds v x
+KeepsLock v x = v.actor.locked ≡ Some x → (is_immortal_row v.layout x ≡ true) ⊎ (2 ≤ holds v x)
 
 -- The hand has nothing to do about the row.
 abbrev pub HasNoWork : View → ℕ → Type 0

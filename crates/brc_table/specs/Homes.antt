@@ -4,10 +4,10 @@ use Rattle.std.specs.Prelude.{◌≡◌, ℕ, ◌<◌, ◌≤◌, ◌==◌, Opti
 use mathlib.Core.Option as home
 use lib.ListN.{get_elem?}
 use Rattle.brc_model.specs.declared.address.Address.TheVariants.{Slot}
-use Rattle.brc_model.specs.declared.layout.Layout.{Layout}
 use Rattle.brc_model.specs.Layout.{row_count}
 use Rattle.brc_model.specs.Machine.{Machine}
 use Rattle.brc_model.specs.SlotLaws.{UsesSlot}
+use Rattle.brc_table.specs.Plan.{Plan}
 use Rattle.brc_table.specs.declared.view.View.{View}
 use Rattle.brc_table.specs.Rule.{Stands}
 
@@ -63,8 +63,8 @@ pub record SlotsStand {T : Type 0} (m : Machine) (homes : List (home.Option (Opt
       → (1 ≤ times_taken x v) × (m.memory (Slot x) ≡ v.in_slot)
 
 -- The whole rule: what holds of words and views, and what holds of slots.
-pub record TableStands {T : Type 0} (layout : Layout) (words : List ℕ) (homes : List (home.Option (Option T)))
+pub record TableStands {T : Type 0} (plan : Plan) (words : List ℕ) (homes : List (home.Option (Option T)))
     (views : List View)
     : Type 0 where
-  pub stands : Stands layout words views
+  pub stands : Stands plan words views
   pub slots : SlotsStand stands.machine homes views

@@ -4,6 +4,7 @@ use mathlib.Core.Option.{some}
 use lib.ListN.{get_elem?}
 use Rattle.brc_model.specs.declared.layout.Layout.{Layout}
 use Rattle.brc_model.specs.Layout.{row_count, block_of, block_size, index_of}
+use Rattle.brc_table.specs.Plan.{Plan}
 use Rattle.brc_table.specs.declared.view.View.{View}
 use Rattle.brc_table.specs.declared.view.Joined.{Joined}
 use Rattle.brc_table.specs.Rule.{Stands}
@@ -24,7 +25,7 @@ pub record RowsAreUsed (layout : Layout) (words : List ℕ) (hand : Joined) : Ty
 
 -- The word of each thread whose hand was joined says that the thread is gone, and its rows are used.
 pub record JoinedHandsAreGone : Type 0 where
-  pub gone : (layout : Layout) (words : List ℕ) (views : List View) (id : ℕ) (v : View) → Stands layout words views
+  pub gone : (plan : Plan) (words : List ℕ) (views : List View) (id : ℕ) (v : View) → Stands plan words views
       → get_elem? views id ≡ some v → All (λ hand. thread_word words hand.thread ≡ 3) v.joined
-  pub used : (layout : Layout) (words : List ℕ) (views : List View) (id : ℕ) (v : View) → Stands layout words views
-      → get_elem? views id ≡ some v → All (RowsAreUsed layout words) v.joined
+  pub used : (plan : Plan) (words : List ℕ) (views : List View) (id : ℕ) (v : View) → Stands plan words views
+      → get_elem? views id ≡ some v → All (RowsAreUsed plan.layout words) v.joined

@@ -1,3 +1,4 @@
+pub mod Plan
 pub mod Places
 pub mod Views
 pub mod KnownWords

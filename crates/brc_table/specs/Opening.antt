@@ -1,10 +1,21 @@
--- The first words of a table.
-use Rattle.std.specs.Prelude.{◌≡◌, ℕ, ◌+◌, ◌-◌, ◌*◌, ◌/◌, ◌%◌, ◌<◌, ◌≤◌, ◌==◌, if◌then◌else◌, nat_lt, List, length, slice_index}
+-- The first words of a table, in the order in which they are put in: first those of none and the root, then, line by
+-- line, those of the line's immortal list and of the numbers in its cells.
+use Rattle.std.specs.Prelude.{◌≡◌, ℕ, zero, suc, ◌+◌, ◌-◌, ◌*◌, ◌/◌, ◌%◌, ◌<◌, ◌≤◌, ◌==◌, if◌then◌else◌, nat_lt, List, length, get_or, slice_index}
+use Rattle.brc_word.specs.declared.values.TheConstants.{NONE, NUM, LIST}
 use Rattle.brc_word.specs.Words.{half, immortal_local, local_word, fresh_word, free_word}
+use Rattle.brc_model.specs.declared.address.Address.{Address}
+use Rattle.brc_model.specs.declared.address.Address.TheVariants.{Local, Shared, Gate, KindOf, Marks, Cell, Slot, Resource, ThreadWord}
 use Rattle.brc_model.specs.declared.layout.Layout.{Layout}
-use Rattle.brc_model.specs.Layout.{none_row, root_row}
-use Rattle.brc_model.specs.Limits.{text_cells, root_cells}
-use Rattle.brc_table.specs.Places.{line, local_line, shared_line, gate_line, kind_line, front, tile, in_tile, cells_front, word_count}
+use Rattle.brc_model.specs.FirstRows.{line_at, start}
+use Rattle.brc_model.specs.Layout.{none_row, root_row, by_row, first_immortal_list, first_number}
+use Rattle.brc_model.specs.Limits.{root_cells}
+use Rattle.brc_model.specs.Machine.{written}
+use Rattle.brc_model.specs.StepMachine.{rooted_memory}
+use Rattle.brc_table.specs.Places.{line, local_line, shared_line, gate_line, kind_line, front, tile, in_tile, cells_front, word_count, place, HasWord}
+use Rattle.brc_table.specs.Rule.{reading}
+use Rattle.brc_table.specs.Threads.{thread_word}
+
+-- ---- without immortal lists
 
 -- the first value of each word in the line of a tile: a row has a shared count of 0, and its gate is free
 abbrev pub blank_line : ℕ → ℕ
@@ -26,13 +37,67 @@ first_word index =
     else if index == in_tile kind_line root_row then 3 * half + root_cells
     else blank_word index
 
--- The words are the first words of a table with this layout.
-pub record AreFirst (layout : Layout) (words : List ℕ) : Type 0 where
+-- The words are the first words of a table with this layout, but for those of immortal lists and of their numbers.
+pub record ArePlain (layout : Layout) (words : List ℕ) : Type 0 where
   pub length_is : length words ≡ word_count layout
   pub each : (index : ℕ) → index < cells_front layout → slice_index words index ≡ first_word index
   -- all cells are empty
   pub cells : (index : ℕ) → cells_front layout ≤ index → index < word_count layout → slice_index words index ≡ 0
 
--- the layout of a table: a worker's lists have up to eight cells, and no list is immortal
-abbrev pub plain_layout : ℕ → ℕ → Layout
-plain_layout workers rows = record { workers = workers; rows = rows; cells = text_cells; immortal_lists = 0 }
+-- the same by address: main runs, the workers aren't started, no row but none's and the root's is born, and all cells
+-- are empty
+abbrev pub plain_memory : Address → ℕ
+plain_memory (Local x) = by_row (local_word 0 immortal_local) (local_word 0 1) 0 x
+plain_memory (Shared x) = fresh_word
+plain_memory (Gate x) = free_word
+plain_memory (KindOf x) = by_row (NONE * half) (LIST * half + root_cells) 0 x
+plain_memory (Marks t w) = 0
+plain_memory (Cell x i) = 0
+plain_memory (Slot x) = 0
+plain_memory (Resource x) = 0
+plain_memory (ThreadWord t) = if t == 0 then 1 else 0
+
+-- ---- with immortal lists
+
+-- The words of a table with this layout are those of the memory.
+abbrev pub AreWordsOf : Layout → List ℕ → (Address → ℕ) → Type 0
+AreWordsOf layout words memory = (a : Address) → HasWord layout a → slice_index words (place layout a) ≡ memory a
+
+-- the memory once the row is a number of this value, which main owns and the list's cell names
+abbrev pub with_number : (Address → ℕ) → ℕ → ℕ → ℕ → ℕ → Address → ℕ
+with_number memory list cell row value =
+    written (written (written memory (Local row) (local_word 0 1)) (KindOf row) (NUM * half + value)) (Cell list cell)
+    (row + 1)
+
+-- the memory once this many of the list's cells name numbers with these values, of which the first has this row
+abbrev pub with_numbers : (Address → ℕ) → ℕ → ℕ → List ℕ → ℕ → Address → ℕ
+with_numbers memory list first values zero = memory
+with_numbers memory list first values (suc i) =
+    with_number (with_numbers memory list first values i) list i (first + i) (get_or values i 0)
+
+-- the memory once the row is an immortal list with this number of cells
+abbrev pub with_empty_list : (Address → ℕ) → ℕ → ℕ → Address → ℕ
+with_empty_list memory list cells =
+    written (written memory (Local list) (local_word 0 immortal_local)) (KindOf list) (LIST * half + cells)
+
+-- the memory once the row is an immortal list whose cells name numbers with the line's values, of which the first has
+-- this row
+abbrev pub with_list : (Address → ℕ) → ℕ → ℕ → List ℕ → Address → ℕ
+with_list memory list first values =
+    with_numbers (with_empty_list memory list (length values)) list first values (length values)
+
+-- the memory once this many of the lines are immortal lists
+abbrev pub with_lists : (Address → ℕ) → List (List ℕ) → Layout → ℕ → Address → ℕ
+with_lists memory lines layout zero = memory
+with_lists memory lines layout (suc s) =
+    with_list (with_lists memory lines layout s) (first_immortal_list layout + s) (first_number layout + start lines s)
+    (line_at lines s)
+
+-- The words are the first words of a table with this layout and these lines. Main runs, and holds the only reference to
+-- the root. The workers aren't started.
+pub record AreFirst (lines : List (List ℕ)) (layout : Layout) (words : List ℕ) : Type 0 where
+  pub length_is : length words ≡ word_count layout
+  pub each : (a : Address) → HasWord layout a
+      → reading a (slice_index words (place layout a)) ≡ rooted_memory lines layout 1 a
+  pub main_runs : thread_word words 0 ≡ 1
+  pub workers_wait : (t : ℕ) → 0 < t → t ≤ layout.workers → thread_word words t ≡ 0

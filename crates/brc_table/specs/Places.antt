@@ -3,12 +3,12 @@
 -- Eight rows share a tile, and in a tile a cache line of eight words has their local words, the next one their shared
 -- words, and so on, so that an owner and another thread don't write to one line. Behind the tiles are the cells of each
 -- row, as many as the layout says.
-use Rattle.std.specs.Prelude.{ℕ, ◌+◌, ◌-◌, ◌*◌, ◌/◌, ◌%◌, ◌<◌}
+use Rattle.std.specs.Prelude.{ℕ, ◌+◌, ◌-◌, ◌*◌, ◌/◌, ◌%◌, ◌<◌, ◌≤◌}
 use Rattle.brc_model.specs.declared.address.Address.{Address}
 use Rattle.brc_model.specs.declared.address.Address.TheVariants.{Local, Shared, Gate, KindOf, Marks, Cell, Slot, Resource, ThreadWord}
 use Rattle.brc_model.specs.declared.layout.Layout.{Layout}
-use Rattle.brc_model.specs.Layout.{row_count, mark_words_of}
-use Rattle.brc_model.specs.Limits.{thread_limit}
+use Rattle.brc_model.specs.Layout.{rear_rows, row_count, mark_words_of}
+use Rattle.brc_model.specs.Limits.{thread_limit, immortal_limit, number_limit}
 
 -- the words of a cache line
 abbrev pub line : ℕ
@@ -102,3 +102,7 @@ IsTableWord _ = Unit {0}
 -- the number of words of the table
 abbrev pub word_count : Layout → ℕ
 word_count layout = cells_front layout + layout.cells * row_count layout
+
+-- The immortal lists, and the numbers in them, are few. So the mark words of main's block have room too.
+abbrev pub FewFirstRows : Layout → Type 0
+FewFirstRows layout = rear_rows layout ≤ immortal_limit + number_limit

@@ -4,10 +4,11 @@ use Rattle.brc_model.specs.declared.duty.Reason.TheVariants.{Handed}
 use Rattle.brc_model.specs.declared.duty.Duty.{Duty}
 use Rattle.brc_model.specs.declared.duty.Duty.TheVariants.{MergeExchange, KindLoad, CellLoad}
 use Rattle.brc_model.specs.Duties.{resources_of}
-use Rattle.brc_model.specs.Layout.{none_row, row_count}
+use Rattle.brc_model.specs.FirstRows.{first_kind_word}
+use Rattle.brc_model.specs.Layout.{row_count}
 use Rattle.brc_model.specs.Machine.{is_running}
 use Rattle.brc_model.specs.Within.{Suits, FindsOwner}
-use Rattle.brc_word.specs.Words.{half, merged_word, dead_word}
+use Rattle.brc_word.specs.Words.{merged_word, dead_word}
 use Rattle.brc_effect.specs.Accesses.{known_before}
 use Rattle.brc_table.specs.declared.view.View.{View}
 use Rattle.brc_table.specs.KnownWords.{knows_kind, known_cell}
@@ -24,18 +25,23 @@ FirstFindsOwner v [] found = Unit {0}
 FirstFindsOwner v (d ∷ rest) found = FindsOwner v.layout d found
 
 -- What a hand knows of what its first duty finds. A load of a kind word finds what the hand has seen there. If the hand
--- has locked the object, the kind word says how many resources the object's slot had when the hand took it; and none's
--- kind word says that it is none. A load of a cell that no other hand changes finds what the hand has seen there. A
--- merge for a handed reference that wins leaves that reference counted.
+-- has locked the object, the kind word says how many resources the object's slot had when the hand took it. A load of
+-- a cell that no other hand changes finds what the hand has seen there. A merge for a handed reference that wins leaves
+-- that reference counted.
 abbrev pub FindsKnown : View → List Duty → ℕ → Type 0
 FindsKnown v (KindLoad x ∷ rest) found =
     ((word : ℕ) → 0 < word → knows_kind x word v ≡ true → found ≡ word)
     × (v.actor.locked ≡ Some x → v.in_slot ≡ resources_of found)
-    × (x ≡ none_row → found ≡ half)
 FindsKnown v (CellLoad x i ∷ rest) found =
     (word : ℕ) → MayChange v x → known_cell x i v ≡ Some word → found ≡ word
 FindsKnown v (MergeExchange x c w Handed ∷ rest) found = found ≡ w → merged_word w c ≢ dead_word
 FindsKnown v _ found = Unit {0}
+
+-- A load of the kind word of a row that was there from the start finds the row's first kind word.
+abbrev pub FindsFirst : List (List ℕ) → View → List Duty → ℕ → Type 0
+FindsFirst lines v (KindLoad x ∷ rest) found =
+    0 < first_kind_word lines v.layout x → found ≡ first_kind_word lines v.layout x
+FindsFirst lines v _ found = Unit {0}
 
 -- the value that the thread's first duty overwrites, if it is a store
 abbrev pub overwritten_by : ℕ → List Duty → ℕ

@@ -6,16 +6,14 @@ use Rattle.brc_model.specs.declared.duty.Holding.TheVariants.{ByVariable, AsCall
 use Rattle.brc_model.specs.declared.actor.Status.TheVariants.{Gone}
 use Rattle.brc_model.specs.declared.address.Address.{Address}
 use Rattle.brc_model.specs.declared.address.Address.TheVariants.{KindOf, Cell, ThreadWord}
-use Rattle.brc_model.specs.declared.layout.Layout.{Layout}
-use Rattle.brc_word.specs.Words.{half}
-use Rattle.brc_model.specs.Layout.{none_row, root_row, IsCounted}
-use Rattle.brc_model.specs.Limits.{root_cells}
-use Rattle.brc_model.specs.Actions.{list_word}
+use Rattle.brc_model.specs.Layout.{IsCounted}
+use Rattle.brc_model.specs.FirstRows.{HasLines, first_kind_word}
 use Rattle.brc_model.specs.declared.actor.Actor.{Actor}
 use Rattle.brc_model.specs.Machine.{Machine, idle_actor}
 use Rattle.brc_model.specs.Accounts.{Accounts, HoldsNone}
 use Rattle.brc_model.specs.Knowledge.{GuardsCells}
 use Rattle.brc_model.specs.Counting.{Counts, IsPlainLayout}
+use Rattle.brc_table.specs.Plan.{Plan}
 use Rattle.brc_table.specs.declared.view.View.{View}
 use Rattle.brc_table.specs.declared.view.Joined.{Joined}
 use Rattle.brc_table.specs.Places.{place, HasWord, word_count}
@@ -44,12 +42,13 @@ pub record IsGone (actors : List Actor) (hand : Joined) : Type 0 where
   pub used : actor.used ≡ hand.used
 
 -- There is a counting machine with the invariant whose words, threads and accounts are those of the table.
-pub record Stands (layout : Layout) (words : List ℕ) (views : List View) : Type 0 where
+pub record Stands (plan : Plan) (words : List ℕ) (views : List View) : Type 0 where
   pub accounts : Accounts
   pub machine : Machine
   pub counts : Counts accounts (1 + machine.layout.workers) machine
-  pub layout_is : machine.layout ≡ layout
+  pub layout_is : machine.layout ≡ plan.layout
   pub plain : IsPlainLayout machine.layout
+  pub lines : HasLines plan.lines plan.layout
   pub length_is : length words ≡ word_count machine.layout
   pub reads : (a : Address) → HasWord machine.layout a
       → machine.memory a ≡ reading a (slice_index words (place machine.layout a))
@@ -62,10 +61,9 @@ pub record Stands (layout : Layout) (words : List ℕ) (views : List View) : Typ
   -- the references to counted objects are those that the view lists
   pub holding : (id : ℕ) (v : View) (x : ℕ) → get_elem? views id ≡ some v → IsCounted machine.layout x
       → accounts v.thread AsCaller x ≡ holds v x
-  -- none's kind word is the one that it has from the start
-  pub named : machine.memory (KindOf none_row) ≡ half
-  -- and the root's is that of a list of eight cells
-  pub rooted : machine.memory (KindOf root_row) ≡ list_word root_cells
+  -- the kind word of a row that was there from the start is the row's first one
+  pub named : (x : ℕ) → 0 < first_kind_word plan.lines plan.layout x
+      → machine.memory (KindOf x) ≡ first_kind_word plan.lines plan.layout x
   -- a kind word that a hand has seen is still there
   pub kinds_seen : (id x word : ℕ) (v : View) → get_elem? views id ≡ some v → 0 < word
       → knows_kind x word v ≡ true → machine.memory (KindOf x) ≡ word

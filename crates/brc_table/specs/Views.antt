@@ -5,7 +5,7 @@ use Rattle.brc_model.specs.declared.duty.Holding.TheVariants.{AsCaller}
 use Rattle.brc_model.specs.declared.duty.Duty.{Duty}
 use Rattle.brc_model.specs.declared.duty.Duty.TheVariants.{RetainLoad, ReleaseLoad, BirthKind, BirthSlot, BirthLocal, KindLoad, LockGate, UnlockGate, CellLoad, Settle, TakeSlot, SettleEnd, ClaimMark, MarksLoad, Leave}
 use Rattle.brc_model.specs.declared.layout.Layout.{Layout}
-use Rattle.brc_model.specs.Layout.{row_count, block_size, front_rows, root_row, row_at, is_immortal_row}
+use Rattle.brc_model.specs.Layout.{row_count, block_size, root_row, row_at, is_immortal_row}
 use Rattle.brc_model.specs.Duties.{address_of, new_word, cells_of}
 use Rattle.brc_model.specs.Machine.{actor_by, idle_actor}
 use Rattle.brc_model.specs.OpenWork.{is_about}
@@ -16,6 +16,7 @@ use Rattle.brc_model.specs.Ranges.{cells_named}
 use Rattle.brc_table.specs.declared.view.View.{View}
 use Rattle.brc_model.specs.declared.event.WordEvent.{WordEvent}
 use Rattle.brc_table.specs.declared.view.Joined.{Joined}
+use Rattle.brc_table.specs.Places.{FewFirstRows}
 use Rattle.brc_table.specs.Spares.{is_spent_for}
 use Rattle.brc_table.specs.KnownWords.{knows_kind}
 
@@ -93,8 +94,9 @@ NamesFewCells layout (d ∷ rest) = cells_named d ≤ layout.cells
 
 -- The hand's thread is main or a worker, and the objects to which the hand holds references, those of its duties, the
 -- one that it has locked and the first one of its chain have rows. The hand doesn't deallocate the object that it has
--- locked. No kind word that it has seen names more cells than a list may have.
+-- locked. No kind word that it has seen names more cells than a list may have. Main's rows are few.
 pub record RowsAreThere (v : View) : Type 0 where
+  pub few : FewFirstRows v.layout
   pub thread : v.thread ≤ v.layout.workers
   pub used : v.actor.used ≤ block_size v.layout v.thread
   pub main : v.thread ≡ 0 → v.actor.used ≡ block_size v.layout v.thread
@@ -245,7 +247,7 @@ fresh_view layout thread used = record {
 
 -- main's hand
 abbrev pub main_view : Layout → View
-main_view layout = fresh_view layout 0 front_rows
+main_view layout = fresh_view layout 0 (block_size layout 0)
 
 -- main's hand after it has given out the thread's, with one of its references to the root
 abbrev pub giving : View → ℕ → View

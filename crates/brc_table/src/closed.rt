@@ -3,9 +3,11 @@
 ghost use Rattle.std.specs.Prelude.{◌≡◌, ◌<◌, ◌≤◌};
 ghost use Rattle.brc_model.specs.Layout.{row_count};
 ghost use Rattle.brc_model.specs.Counting.{IsPlainLayout};
+ghost use Rattle.brc_model.specs.FirstRows.{HasLines};
 ghost use Rattle.brc_table.specs.Hands.{IsOf};
 ghost use Rattle.brc_table.specs.Ending.{EndsWith, kind_at, gate_at, cell_at, slot_at};
 ghost use Rattle.brc_table.specs.Homes.{resources};
+ghost use Rattle.brc_table.specs.Places.{FewFirstRows};
 
 use crate::hand::Hand;
 use crate::place::{Cells, GATE, KIND, in_line};
@@ -30,6 +32,7 @@ impl<T: Drop> Model for Closed<T> {
     ghost use Rattle.std.specs.Prelude.{◌≡◌};
     ghost use Rattle.std.specs.Slots.{slots_items, slots_len, IsFull};
     ghost use Rattle.brc_model.specs.Counting.{IsPlainLayout};
+    ghost use Rattle.brc_model.specs.FirstRows.{HasLines};
     ghost use Rattle.brc_model.specs.Layout.{row_count};
     ghost use Rattle.brc_table.specs.Places.{word_count};
     ghost use Rattle.brc_table.specs.Ending.{EndState, CellsNameRows, resources_in};
@@ -39,6 +42,7 @@ impl<T: Drop> Model for Closed<T> {
     ghost view = { λ c. record {
       table = c.of.value.table;
       layout = c.layout;
+      lines = c.of.value.lines;
       words = slots_items c.table.words;
       slots = resources_in (slots_items c.table.slots);
     } };
@@ -46,7 +50,8 @@ impl<T: Drop> Model for Closed<T> {
     ghost invariant = { λ c. IsFull c.table.words × IsFull c.table.slots
         × (slots_len c.table.words ≡ word_count c.layout) × IsPlainLayout c.layout
         × CellsNameRows c.layout (slots_items c.table.words)
-        × (slots_len c.table.slots ≡ row_count c.layout) × (c.cells ≡ c.layout) };
+        × (slots_len c.table.slots ≡ row_count c.layout) × (c.cells ≡ c.layout)
+        × HasLines c.of.value.lines c.layout };
 }
 
 impl<T: Drop> Words<T> {
@@ -55,6 +60,7 @@ impl<T: Drop> Words<T> {
         requires table { IsOf self hand }
         ensures table { result.table ≡ self.table }
         ensures layout { result.layout ≡ self.layout }
+        ensures lines { result.lines ≡ self.lines }
         ensures ends { EndsWith hand.view result }
     {
         items_are_there();
@@ -85,6 +91,13 @@ impl<T: Drop> Words<T> {
 }
 
 impl<T: Drop> Closed<T> {
+    /// Returns the table's size.
+    pub fn layout(&self) -> Layout
+        ensures { result ≡ self.now.layout }
+    {
+        self.layout
+    }
+
     /// Returns the number of rows.
     pub fn rows(&self) -> u32
         ensures { result ≡ row_count self.now.layout }
@@ -97,6 +110,21 @@ impl<T: Drop> Closed<T> {
         ensures { IsPlainLayout self.now.layout }
     {
         let _opened = self.layout;
+    }
+
+    /// States that the table has the rows of its immortal lists and of the numbers in their cells.
+    pub fn lines_are_there(&self)
+        ensures { HasLines self.now.lines self.now.layout }
+    {
+        let _opened = self.layout;
+    }
+
+    /// States that the rows that are there from the start are few: at most 16 immortal lists of at most 64 numbers.
+    pub fn first_rows_are_few(&self)
+        ensures { FewFirstRows self.now.layout }
+    {
+        self.layout_is_plain();
+        self.lines_are_there();
     }
 
     /// Returns the kind word of a row: 0 if no object was born there.

@@ -18,10 +18,10 @@ pub(crate) trait Ended {
 }
 
 impl Ended for Brand {
-    ghost use Rattle.brc_table.specs.Opening.{plain_layout};
+    ghost use Rattle.brc_model.specs.Limits.{root_cells};
     ghost use Rattle.brc_table.specs.Views.{main_view};
 
-    ghost view = { main_view (plain_layout 1 1) };
+    ghost view = { main_view (record { workers = 1; rows = 1; cells = root_cells; immortal_lists = 0; numbers = 0 }) };
 }
 
 /// How a hand joins another one: of this the table keeps the view, and no hand has it any more.

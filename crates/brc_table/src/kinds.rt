@@ -3,8 +3,7 @@
 
 ghost use Rattle.std.specs.Prelude.{◌≡◌, ◌<◌, ℕ, true, Some};
 ghost use Rattle.brc_model.specs.Duties.{resources_of};
-ghost use Rattle.brc_word.specs.Words.{half};
-ghost use Rattle.brc_model.specs.Layout.{none_row};
+ghost use Rattle.brc_model.specs.FirstRows.{first_kind_word};
 ghost use Rattle.brc_table.specs.Views.{view_after, asking};
 ghost use Rattle.brc_table.specs.KnownWords.{knows_kind};
 ghost use Rattle.brc_table.specs.Hands.{IsOf, IsRunning, MayRead, HasNoWork, KeepsButView};
@@ -18,7 +17,7 @@ impl<T: Drop> Words<T> {
     /// Asks for the kind of an object that the hand holds, borrows from the list that it has locked, or is to finalise
     /// as the first of its dying chain: loads its kind word, which its birth stored. The word is the one that the hand
     /// has seen there before, if it has. If the hand has locked the object, the kind says whether the object's slot has
-    /// a resource.
+    /// a resource. Of an object that was there from the start it is the first one.
     #[inline(always)]
     pub fn kind_load(&self, hand: &mut Hand<T>, row: u32) -> u64
         requires table { IsOf self.now hand.old }
@@ -29,7 +28,8 @@ impl<T: Drop> Words<T> {
         ensures view { hand.new.view ≡ view_after (asking hand.old.view row) result }
         ensures stays { (word : ℕ) → 0 < word → knows_kind row word hand.old.view ≡ true → result ≡ word }
         ensures slot { hand.old.view.actor.locked ≡ Some row → hand.old.view.in_slot ≡ resources_of result }
-        ensures named { row ≡ none_row → result ≡ half }
+        ensures first { 0 < first_kind_word self.now.lines self.now.layout row
+            → result ≡ first_kind_word self.now.lines self.now.layout row }
     {
         work_is_put_aside();
         kinds_are_asked();

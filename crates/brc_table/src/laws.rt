@@ -1,12 +1,12 @@
 //! What holds of a table between any two steps of its threads.
 
 ghost use Rattle.std.specs.Prelude.{ℕ, ◌<◌, List};
-ghost use Rattle.brc_model.specs.declared.layout.Layout.{Layout};
 ghost use Rattle.brc_model.specs.Layout.{row_count, IsCounted};
+ghost use Rattle.brc_table.specs.Plan.{Plan};
 ghost use Rattle.brc_table.specs.declared.view.View.{View};
 ghost use Rattle.brc_table.specs.Rule.{Stands};
 ghost use Rattle.brc_table.specs.Agreeing.{AgreesInTable};
-ghost use Rattle.brc_table.specs.Ending.{RowsEnd, SeenEndsAreSo, SlotsEnd};
+ghost use Rattle.brc_table.specs.Ending.{FirstKindsStay, RowsEnd, SeenEndsAreSo, SlotsEnd};
 ghost use Rattle.brc_table.specs.Joining.{JoinedHandsAreGone};
 ghost use Rattle.brc_table.specs.Guarding.{SetMarksAreWatched, OnlyHoldersChangeCells, OnlyHoldersSwapCells, OnlyRunningOwnersCount, GoneHandsHoldNothing, GoneWordsTell, HandsAreStarted, ViewsKeepTheLayout, RootIsAList, TakenSlotsAreAlone};
 
@@ -19,8 +19,8 @@ use brc_model::{
 /// references that the hands and the cells of lists hold and the decrements that are pending, and what each state of
 /// the object implies.
 pub fn counts_agree_in_every_table()
-    ensures { (layout : Layout) (words : List ℕ) (views : List View) (x : ℕ) → Stands layout words views
-        → IsCounted layout x → x < row_count layout → AgreesInTable layout words views x }
+    ensures { (plan : Plan) (words : List ℕ) (views : List View) (x : ℕ) → Stands plan words views
+        → IsCounted plan.layout x → x < row_count plan.layout → AgreesInTable plan.layout words views x }
 {
     counts_agree();
     cells_hold();
@@ -84,6 +84,11 @@ pub fn views_keep_the_layout()
 /// States that the root is a list of eight cells.
 pub fn root_is_a_list()
     ensures { RootIsAList }
+{}
+
+/// States that when a table is closed, the kind word of each row that was there from the start is its first one.
+pub fn first_kinds_stay()
+    ensures { FirstKindsStay }
 {}
 
 /// States that while a row's slot is out of the table, one hand has taken it, and uses it, and no other has.

@@ -18,6 +18,7 @@ mod locks;
 mod model_laws;
 mod peeks;
 mod place;
+mod plan;
 mod references;
 mod rule;
 mod size;
@@ -31,11 +32,12 @@ mod work;
 pub use closed::Closed;
 pub use hand::Hand;
 pub use laws::{
-    counts_agree_in_every_table, gone_hands_hold_nothing, gone_words_tell, hands_are_started,
-    joined_hands_are_gone, only_holders_change_cells, only_running_owners_count, root_is_a_list,
-    rows_end_in_every_table, seen_ends_are_so, set_marks_are_watched, slots_end_in_every_table,
-    taken_slots_are_alone, views_keep_the_layout,
+    counts_agree_in_every_table, first_kinds_stay, gone_hands_hold_nothing, gone_words_tell,
+    hands_are_started, joined_hands_are_gone, only_holders_change_cells, only_running_owners_count,
+    root_is_a_list, rows_end_in_every_table, seen_ends_are_so, set_marks_are_watched,
+    slots_end_in_every_table, taken_slots_are_alone, views_keep_the_layout,
 };
+pub use plan::Plan;
 pub use rule::Counting;
 pub use view::{Joined, View};
 pub use words::Words;

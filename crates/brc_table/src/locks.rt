@@ -4,7 +4,7 @@
 ghost use Rattle.std.specs.Prelude.{◌≡◌, ◌<◌, ◌==◌, ℕ, true, None, Some, ◌∷◌, if◌then◌else◌};
 ghost use Rattle.brc_word.specs.Words.{free_word, locked_word};
 ghost use Rattle.brc_model.specs.Duties.{resources_of};
-ghost use Rattle.brc_model.specs.Layout.{IsCounted, row_count};
+ghost use Rattle.brc_model.specs.Layout.{row_count};
 ghost use Rattle.brc_table.specs.Views.{view_after, locking, unlocking};
 ghost use Rattle.brc_table.specs.KnownWords.{knows_kind};
 ghost use Rattle.brc_table.specs.Plays.{overwritten};
@@ -28,7 +28,6 @@ impl<T: Drop> Words<T> {
     pub fn gate_lock(&self, hand: &mut Hand<T>, row: u32) -> u64
         requires table { IsOf self.now hand.old }
         requires running { IsRunning hand.old.view }
-        requires counted { IsCounted hand.old.view.layout row }
         requires held { HoldsOne hand.old.view row }
         requires idle { HasNoWork hand.old.view row }
         requires unlocked { hand.old.view.actor.locked ≡ None }
@@ -78,7 +77,6 @@ impl<T: Drop> Words<T> {
         requires row { row ≡ R.target }
         requires table { IsOf self.now hand.old }
         requires running { IsRunning hand.old.view }
-        requires counted { IsCounted hand.old.view.layout row }
         requires held { HoldsOne hand.old.view row }
         requires idle { HasNoWork hand.old.view row }
         requires unlocked { hand.old.view.actor.locked ≡ None }

@@ -1,33 +1,37 @@
 //! The table's rule, and what each step makes of the hand that takes it.
 
-ghost use Rattle.std.specs.Prelude.{ℕ};
+ghost use Rattle.std.specs.Prelude.{ℕ, List, []};
 ghost use Rattle.brc_table.specs.declared.view.View.{View};
 
+use crate::plan::Plan;
 use crate::view::View;
 use atomic_table::{Play, TableRule};
-use brc_model::Layout;
 use std::marker::{Brand, PhantomData};
 
 /// The rule of biased reference counting: words and views are those of a counting machine with the invariant, and a
 /// row's slot is with the one hand that uses it, or at home with the resource of the row's object.
 pub struct Counting;
 
-impl<T> TableRule<Option<T>, View, Layout> for Counting {
+impl<T> TableRule<Option<T>, View, Plan> for Counting {
     ghost use Rattle.brc_table.specs.Homes.{TableStands};
     ghost use Rattle.brc_table.specs.Views.{main_view};
 
-    ghost holds = { λ layout s. TableStands layout s.words s.homes s.views };
+    ghost holds = { λ plan s. TableStands plan s.words s.homes s.views };
 
-    ghost first = { main_view };
+    ghost first = { λ plan. main_view plan.layout };
 }
 
-/// What the hand begins with, before it does its first duty.
+/// What the hand begins with, before it does its first duty, and the lines of the table's immortal lists.
 pub(crate) trait Begins {
     ghost begins: { View → View };
+
+    ghost lines: { List (List ℕ) };
 }
 
 impl Begins for Brand {
     ghost begins = { λ v. v };
+
+    ghost lines = { [] };
 }
 
 /// Which cell a swap is of, and which word it stores.
@@ -66,7 +70,7 @@ pub(crate) struct Stepped<B> {
 impl<T, B: Begins> Play<Option<T>, View> for Stepped<B> {
     ghost use Rattle.brc_table.specs.DutySteps.{StepsBy};
 
-    ghost then = { λ s me found after. StepsBy B.begins me found after };
+    ghost then = { λ s me found after. StepsBy B.lines B.begins me found after };
 }
 
 /// A step of any duty that is a store.
@@ -77,7 +81,7 @@ pub(crate) struct SteppedStored<B> {
 impl<T, B: Begins> Play<Option<T>, View> for SteppedStored<B> {
     ghost use Rattle.brc_table.specs.DutySteps.{StepsStored};
 
-    ghost then = { λ s me stored after. StepsStored B.begins me after };
+    ghost then = { λ s me stored after. StepsStored B.lines B.begins me after };
 }
 
 /// Which row a hand tries to lock.

@@ -11,7 +11,7 @@ ghost use Rattle.brc_model.specs.Stores.{Overwrites};
 ghost use Rattle.brc_table.specs.declared.view.View.{View};
 ghost use Rattle.brc_table.specs.Views.{view_after};
 ghost use Rattle.brc_table.specs.Homes.{TableStands};
-ghost use Rattle.brc_table.specs.Plays.{SuitsFirst, FirstFindsOwner, FindsKnown, overwritten};
+ghost use Rattle.brc_table.specs.Plays.{SuitsFirst, FirstFindsOwner, FindsKnown, FindsFirst, overwritten};
 ghost use Rattle.brc_table.specs.Uses.{first_due, held_after};
 ghost use Rattle.brc_table.specs.Turns.{MayGoOn, turned_to};
 ghost use Rattle.brc_table.specs.DutySteps.{DueSlot, OverwritesFirst, StepsBy, said};
@@ -19,7 +19,7 @@ ghost use Rattle.brc_effect.specs.Accesses.{IfStored, left_by};
 ghost use Rattle.brc_effect.specs.Effects.{IsIndexed};
 ghost use Rattle.brc_table.specs.Accesses.{HasAccess, HasCell, HasChain, HasUsedRow, IsNext, row_of};
 ghost use Rattle.brc_table.specs.Begins.{Becomes};
-ghost use Rattle.brc_table.specs.Hands.{IsOf};
+ghost use Rattle.brc_table.specs.Hands.{IsOf, plan_of};
 
 use crate::after::{head_after, runs_after, said_by, used_after};
 use crate::hand::Hand;
@@ -98,7 +98,8 @@ impl<T: Drop> Words<T> {
     #[inline(always)]
     fn step_of<B: Begins>(&self, hand: &mut Hand<T>, _work: Work, duty: &Duty) -> u64
         requires table { IsOf self.now hand.old }
-        requires begins { Becomes self.now.layout hand.old.view (B.begins hand.old.view) }
+        requires begins { Becomes (plan_of self.now) hand.old.view (B.begins hand.old.view) }
+        requires lines { B.lines ≡ self.now.lines }
         requires alive { (B.begins hand.old.view).actor.status ≢ Gone }
         requires known { HasAccess duty.now }
         requires there { HasWord self.now.layout
@@ -116,6 +117,8 @@ impl<T: Drop> Words<T> {
         ensures suits { SuitsFirst (B.begins hand.old.view) (B.begins hand.old.view).actor.agenda result }
         ensures owner { FirstFindsOwner (B.begins hand.old.view) (B.begins hand.old.view).actor.agenda result }
         ensures finds { FindsKnown (B.begins hand.old.view) (B.begins hand.old.view).actor.agenda result }
+        ensures first { FindsFirst self.now.lines (B.begins hand.old.view) (B.begins hand.old.view).actor.agenda
+            result }
     {
         self.step_from::<B>(hand, duty)
     }
@@ -124,7 +127,8 @@ impl<T: Drop> Words<T> {
     #[inline(always)]
     pub(crate) fn step_from<B: Begins>(&self, hand: &mut Hand<T>, duty: &Duty) -> u64
         requires table { IsOf self.now hand.old }
-        requires begins { Becomes self.now.layout hand.old.view (B.begins hand.old.view) }
+        requires begins { Becomes (plan_of self.now) hand.old.view (B.begins hand.old.view) }
+        requires lines { B.lines ≡ self.now.lines }
         requires alive { (B.begins hand.old.view).actor.status ≢ Gone }
         requires known { HasAccess duty.now }
         requires there { HasWord self.now.layout
@@ -142,6 +146,8 @@ impl<T: Drop> Words<T> {
         ensures suits { SuitsFirst (B.begins hand.old.view) (B.begins hand.old.view).actor.agenda result }
         ensures owner { FirstFindsOwner (B.begins hand.old.view) (B.begins hand.old.view).actor.agenda result }
         ensures finds { FindsKnown (B.begins hand.old.view) (B.begins hand.old.view).actor.agenda result }
+        ensures first { FindsFirst self.now.lines (B.begins hand.old.view) (B.begins hand.old.view).actor.agenda
+            result }
     {
         model_laws();
         self.layout_is_plain();
@@ -173,8 +179,8 @@ impl<T: Drop> Words<T> {
         requires table { seat.old.table_id ≡ self.now.table }
         requires there { index < self.now.table.words }
         requires allowed { Allows
-            (λ (s : State (Option T) View). TableStands self.now.layout s.words s.homes s.views)
-            self.now.table.slots seat.old.id seat.old.me index (left_by access) (StepsBy B.begins seat.old.me) }
+            (λ (s : State (Option T) View). TableStands (plan_of self.now) s.words s.homes s.views)
+            self.now.table.slots seat.old.id seat.old.me index (left_by access) (StepsBy B.lines B.begins seat.old.me) }
         requires before { IfStored access (λ before. before ≡ overwritten (B.begins seat.old.me.0)) }
         requires says { IfStored access (λ before. said (B.begins seat.old.me.0) (B.begins seat.old.me.0).actor.agenda
             before
@@ -183,7 +189,7 @@ impl<T: Drop> Words<T> {
             → OverwritesFirst (B.begins seat.old.me.0).thread (B.begins seat.old.me.0).actor.agenda found
             → found ≡ before) }
         ensures table { seat.new.table_id ≡ seat.old.table_id }
-        ensures step { StepsBy B.begins seat.old.me result seat.new.me }
+        ensures step { StepsBy B.lines B.begins seat.old.me result seat.new.me }
     {
         match access {
             Access::Load => self.table.shared.load::<Stepped<B>>(seat, index),

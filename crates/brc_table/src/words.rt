@@ -1,34 +1,36 @@
 //! The words of all objects.
 
-ghost use Rattle.std.specs.Prelude.{◌≡◌, ◌<◌, ◌≤◌, [], IfOk};
+ghost use Rattle.std.specs.Prelude.{◌≡◌, [], IfOk};
 ghost use Rattle.brc_word.specs.Words.{mark_at};
 ghost use Rattle.brc_model.specs.Layout.{block_size, mark_bit, mark_words};
-ghost use Rattle.brc_model.specs.Limits.{worker_limit, row_limit};
 ghost use Rattle.brc_model.specs.Counting.{IsPlainLayout};
+ghost use Rattle.brc_model.specs.FirstRows.{HasLines};
 ghost use Rattle.brc_table.specs.Views.{main_view};
 ghost use Rattle.brc_table.specs.Hands.{IsOf, CarriesNothing};
-ghost use Rattle.brc_table.specs.Opening.{plain_layout};
-ghost use Rattle.brc_table.specs.Places.{word_count};
+ghost use Rattle.brc_table.specs.Places.{word_count, FewFirstRows};
 
 use crate::carried::{nothing_carried, spares_of};
 use crate::first_words::first_words;
 use crate::hand::Hand;
 use crate::place::Cells;
+use crate::plan::Plan;
 use crate::rule::Counting;
 use crate::size::mark_words_of;
 use crate::view::View;
 use atomic_table::Table;
 use brc_effect::Blocks;
-use brc_effect::rows::{FRONT_ROWS, TEXT_CELLS, block_size, row_count};
+use brc_effect::rows::{block_size, row_count};
+use brc_lang::Sequence;
 use brc_model::{Layout, hands_begin};
 use brc_word::mark_at;
 use std::alloc::{AllocError, Global};
 use std::marker::Model;
+use std::snapshot::Snapshot;
 
 /// The words of all objects, in one table that threads share.
 #[derive(Drop)]
 pub struct Words<T: Drop> {
-    pub(crate) table: Table<Option<T>, View, Layout, Counting, Global>,
+    pub(crate) table: Table<Option<T>, View, Plan, Counting, Global>,
     pub(crate) blocks: Blocks,
     pub(crate) cells: Cells,
 }
@@ -36,48 +38,57 @@ pub struct Words<T: Drop> {
 impl<T: Drop> Model for Words<T> {
     ghost use Rattle.std.specs.Prelude.{◌≡◌};
     ghost use Rattle.brc_model.specs.Counting.{IsPlainLayout};
+    ghost use Rattle.brc_model.specs.FirstRows.{HasLines};
     ghost use Rattle.brc_table.specs.Hands.{TableState};
     ghost use Rattle.brc_table.specs.Places.{word_count};
 
     ghost Value = { TableState };
 
-    ghost view = { λ w. record { table = w.table.shared.table_id; layout = w.table.shared.key } };
+    ghost view = { λ w. record {
+      table = w.table.shared.table_id;
+      layout = w.table.shared.key.layout;
+      lines = w.table.shared.key.lines;
+    } };
 
-    ghost invariant = { λ w. (w.blocks ≡ w.table.shared.key)
-        × (w.table.shared.table_id.words ≡ word_count w.table.shared.key)
-        × IsPlainLayout w.table.shared.key × (w.cells ≡ w.table.shared.key) };
+    ghost invariant = { λ w. (w.blocks ≡ w.table.shared.key.layout)
+        × (w.table.shared.table_id.words ≡ word_count w.table.shared.key.layout)
+        × IsPlainLayout w.table.shared.key.layout × (w.cells ≡ w.table.shared.key.layout)
+        × HasLines w.table.shared.key.lines w.table.shared.key.layout };
 }
 
 impl<T: Drop> Words<T> {
-    /// Returns the words of a table with this many workers and this many rows for each of them, and main's hand, or
+    /// Returns the words of a table with this layout, whose immortal lists have these lines, and main's hand, or
     /// `AllocError` if memory is refused. Main holds the only reference to the root.
-    pub fn new(alloc: Global, workers: u8, rows: u16) -> Result<(Words<T>, Hand<T>), AllocError>
-        requires workers { (0 < workers) × (workers ≤ worker_limit) }
-        requires rows { (0 < rows) × (rows ≤ row_limit) }
-        ensures layout { IfOk result (λ made. made.0.layout ≡ plain_layout workers rows) }
+    pub fn new(
+        alloc: Global,
+        layout: Layout,
+        lines: &Sequence<Sequence<u32>>,
+    ) -> Result<(Words<T>, Hand<T>), AllocError>
+        requires plain { IsPlainLayout layout }
+        requires lines { HasLines lines.now layout }
+        ensures layout { IfOk result (λ made. made.0.layout ≡ layout) }
+        ensures lines { IfOk result (λ made. made.0.lines ≡ lines.now) }
         ensures table { IfOk result (λ made. IsOf made.0 made.1) }
-        ensures view { IfOk result (λ made. made.1.view ≡ main_view (plain_layout workers rows)) }
+        ensures view { IfOk result (λ made. made.1.view ≡ main_view layout) }
         ensures none { IfOk result (λ made. CarriesNothing made.1) }
         ensures no_slot { IfOk result (λ made. made.1.slots ≡ []) }
     {
         hands_begin();
-        let layout = Layout {
-            workers,
-            rows,
-            cells: TEXT_CELLS,
-            immortal_lists: 0,
-        };
-        let words = first_words(alloc, layout)?;
-        let spares = spares_of(alloc, workers)?;
+        let words = first_words(alloc, layout, lines.as_slice())?;
+        let spares = spares_of(alloc, layout.workers)?;
         let carried = nothing_carried(alloc)?;
         let slots = row_count(layout);
-        let (table, seat) = Table::vacant(alloc, words.as_slice(), slots, &layout)?;
+        let plan = Plan {
+            layout,
+            lines: Snapshot::of(lines),
+        };
+        let (table, seat) = Table::vacant(alloc, words.as_slice(), slots, &plan)?;
         let main = Hand {
             seat,
             thread: 0,
             running: true,
             head: 0,
-            used: FRONT_ROWS,
+            used: block_size(layout, 0),
             spares,
             carried,
         };
@@ -89,7 +100,7 @@ impl<T: Drop> Words<T> {
         Ok((words, main))
     }
 
-    /// Returns how many rows the thread's block has: 2 for main, else as many as each worker has.
+    /// Returns how many rows the thread's block has. Main's are those that are there from the start.
     pub fn block_size(&self, thread: u8) -> u32
         ensures { result ≡ block_size self.now.layout thread }
     {
@@ -128,6 +139,21 @@ impl<T: Drop> Words<T> {
         ensures { IsPlainLayout self.now.layout }
     {
         let _opened = self.blocks;
+    }
+
+    /// States that the table has the rows of its immortal lists and of the numbers in their cells.
+    pub fn lines_are_there(&self)
+        ensures { HasLines self.now.lines self.now.layout }
+    {
+        let _opened = self.blocks;
+    }
+
+    /// States that the rows that are there from the start are few: at most 16 immortal lists of at most 64 numbers.
+    pub fn first_rows_are_few(&self)
+        ensures { FewFirstRows self.now.layout }
+    {
+        self.layout_is_plain();
+        self.lines_are_there();
     }
 
     /// States that the table has as many words as its size asks for.

@@ -1,7 +1,6 @@
 -- A variable's kind becomes known.
 use Rattle.std.proofs.Common.{◌≡◌, ℕ, zero, suc, ◌+◌, ◌<◌, ◌≤◌, Bool, true, false, List, [], ◌∷◌, Option, None, Some, inl, inr, length, refl, sym, ap, ◌∙◌, subst, arith, set, get_or}
 use Rattle.std.specs.Prelude.{if◌then◌else◌}
-use Rattle.std.proofs.lemmas.Bool.{cases_Bool}
 use Rattle.std.proofs.lemmas.Bool.Decides.{eqb_tells}
 use Rattle.std.proofs.lemmas.List.{length-set}
 use Rattle.brc_lang.specs.declared.kind.Kind.{Kind}
@@ -11,31 +10,25 @@ use Rattle.brc_model.specs.declared.state.VarState.TheVariants.{Empty, Owned, Ca
 use Rattle.brc_model.specs.declared.state.State.{State}
 use Rattle.brc_model.specs.Items.{borrows_item}
 use Rattle.brc_model.specs.Kinds.{kind_of_word}
-use Rattle.brc_model.specs.Layout.{is_immortal_row}
 use Rattle.brc_model.specs.VarStates.{var_of, kind_of, is_empty, is_one_of, with_resource, with_kind, put}
 use Rattle.brc_model.specs.Threads.{row_of}
-use Rattle.brc_model.proofs.Basics.Blocks.{only_none}
 use Rattle.brc_model.proofs.Basics.Lists.{some_is}
 use Rattle.brc_model.proofs.Dispatch.Grounded.{var_of-put_same, var_of-put_other}
 use Rattle.brc_model.proofs.Dispatch.TakingHost.{resource_word}
 use Rattle.brc_table.specs.declared.view.View.{View}
-use Rattle.brc_table.specs.Hands.{HandState}
+use Rattle.brc_table.specs.Hands.{TableState, HandState}
+use Rattle.brc_table.specs.KnownWords.{knows_kind}
 use Rattle.brc_heap.specs.Calls.{SeesKind}
 use Rattle.brc_work.specs.Acts.{ActsElsewhere}
-use Rattle.brc_work.specs.Fits.{Base, KnowsKind, Unknown, OfNone, HasSeen, SlotFits, owns, lists, over_variables, LockFits, LocksAs, Fits}
+use Rattle.brc_work.specs.Fits.{Base, KnowsKind, Unknown, HasSeen, SlotFits, owns, lists, over_variables, LockFits, LocksAs, Fits}
 use Rattle.brc_work.proofs.Fitting.{same_fits, says_same}
 use Rattle.brc_work.proofs.Holding.{fits_with_kind}
 
 -- What the hand has seen says what the object is.
-pub seen_knows : (v u : View) (x word : ℕ) (kind : Kind) → u.layout.immortal_lists ≡ 0 → SeesKind x word v u
-    → kind_of_word word ≡ kind → KnowsKind u kind x
-seen_knows v u x zero kind plain sees is = Unknown (sym is)
-seen_knows v u x (suc word) kind plain sees is = elim (cases_Bool (is_immortal_row u.layout x)) [
-  | inl immortal ↦
-      let this = only_none u.layout x plain immortal in
-      OfNone this (sym is ∙ ap kind_of_word (sees.named this))
-  | inr counted ↦ HasSeen (suc word) counted (omega arith) sees.seen is
-]
+pub seen_knows : (u : View) (x word : ℕ) (kind : Kind) → knows_kind x word u ≡ true → kind_of_word word ≡ kind
+    → KnowsKind u kind x
+seen_knows u x zero kind seen is = Unknown (sym is)
+seen_knows u x (suc word) kind seen is = HasSeen (suc word) (omega arith) seen is
 
 owns_kind : (y : ℕ) (slot : VarState) (kind : Kind) (row : Option ℕ) → owns y (with_kind slot kind) row
     ≡ owns y slot row
@@ -88,10 +81,11 @@ used_low [] i used = let wrong : true ≡ false = used in absurd cc
 used_low (s ∷ slots) zero used = omega arith
 used_low (s ∷ slots) (suc i) used = let rest = used_low slots i used in omega (arith, rest)
 
-module _ (base : Base) (s : State) (rows : List (Option ℕ)) (hand after : HandState) (from x word : ℕ) (kind : Kind)
+module _ {heap : TableState} (base : Base) (s : State) (rows : List (Option ℕ)) (hand after : HandState)
+    (from x word : ℕ) (kind : Kind)
     (fits : Fits base s rows hand) (did : ActsElsewhere hand after)
     (same : after.view.references ≡ hand.view.references) (used : is_empty (var_of s from) ≡ false)
-    (names : row_of rows from ≡ Some x) (sees : SeesKind x word hand.view after.view)
+    (names : row_of rows from ≡ Some x) (sees : SeesKind heap x word hand.view after.view)
     (is : kind_of_word word ≡ kind) where
   abbrev next : State
   next = put s from (with_kind (var_of s from) kind)
@@ -102,8 +96,7 @@ module _ (base : Base) (s : State) (rows : List (Option ℕ)) (hand after : Hand
   knows : (y : ℕ) → row_of rows from ≡ Some y → KnowsKind after.view kind y
   knows y this =
       subst (KnowsKind after.view kind) (some_is x y (sym names ∙ this))
-      (seen_knows hand.view after.view x word kind
-      (subst (λ (l : Layout). l.immortal_lists ≡ 0) (sym later.follows.layout) fits.plain) sees is)
+      (seen_knows after.view x word kind sees.seen is)
 
   low : from < length s.vars → var_of next from ≡ with_kind (var_of s from) kind
   low there = var_of-put_same s from (with_kind (var_of s from) kind) there
@@ -121,7 +114,6 @@ module _ (base : Base) (s : State) (rows : List (Option ℕ)) (hand after : Hand
         record {
           object = lock.object;
           names = lock.names;
-          counted = lock.counted;
           lasting =
               ap borrows_item slot_is ∙ (kind_lasting (var_of s from) kind
               ∙ (ap (λ (k : ℕ). borrows_item (var_of s k)) (sym this.1) ∙ lock.lasting));
@@ -142,7 +134,6 @@ module _ (base : Base) (s : State) (rows : List (Option ℕ)) (hand after : Hand
         record {
           object = lock.object;
           names = lock.names;
-          counted = lock.counted;
           lasting = says.lasting lock.lasting;
           used = says.used lock.lasting lock.used;
           locked = lock.locked;
@@ -161,7 +152,6 @@ module _ (base : Base) (s : State) (rows : List (Option ℕ)) (hand after : Hand
   kind_fits = record {
     ready = fits.ready;
     room = fits.room;
-    plain = fits.plain;
     follows = later.follows;
     rests = later.rests;
     some_vars = length-set s.vars from (with_kind (var_of s from) kind) ∙ fits.some_vars;

@@ -68,7 +68,6 @@ lock_fits : (first : List (ℕ × ℕ)) (s next : State) (rows after_rows : List
 lock_fits first s next rows after_rows hand after i acts row says lock = record {
   object = lock.object;
   names = row ∙ lock.names;
-  counted = subst (λ (l : Layout). IsCounted l lock.object) (sym acts.follows.layout) lock.counted;
   lasting = says.lasting lock.lasting;
   used = says.used lock.lasting lock.used;
   locked = acts.locked ∙ lock.locked;
@@ -121,7 +120,6 @@ refits base s rows hand after to slot row fits low unlocked did says trades =
     record {
       ready = fits.ready;
       room = fits.room;
-      plain = fits.plain;
       follows = follows_on base.first hand after fits.follows did.acts.follows;
       rests = did.acts.rests;
       some_vars = length-set s.vars to slot ∙ fits.some_vars;
@@ -154,7 +152,6 @@ pub same_fits : (base : Base) (s : State) (rows : List (Option ℕ)) (hand after
 same_fits base s rows hand after fits did same = record {
   ready = fits.ready;
   room = fits.room;
-  plain = fits.plain;
   follows = follows_on base.first hand after fits.follows did.acts.follows;
   rests = did.acts.rests;
   some_vars = fits.some_vars;
@@ -175,7 +172,6 @@ pub bare_fits : (base : Base) (s : State) (rows : List (Option ℕ)) (hand after
 bare_fits base s rows hand after fits did same = record {
   ready = fits.ready;
   room = fits.room;
-  plain = fits.plain;
   follows = follows_on base.first hand after fits.follows did.follows;
   rests = did.rests;
   some_vars = length-map s.vars without_item ∙ fits.some_vars;

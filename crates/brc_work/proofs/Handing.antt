@@ -184,7 +184,6 @@ module _ (base : Base) (s : State) (rows : List (Option ℕ)) (hand : HandState)
     entry_fits = record {
       ready = is.fits.ready;
       room = omega (arith, less_room);
-      plain = is.fits.plain;
       follows = is.fits.follows;
       rests = is.fits.rests;
       some_vars = entry_length parameters;
@@ -259,7 +258,6 @@ module _ (base : Base) (s : State) (rows : List (Option ℕ)) (hand : HandState)
   goes_on_without after returned more = record {
     ready = is.fits.ready;
     room = is.fits.room;
-    plain = is.fits.plain;
     follows = returned.follows;
     rests = returned.rests;
     some_vars = left_sixteen.vars;
@@ -305,7 +303,6 @@ module _ (base : Base) (s : State) (rows : List (Option ℕ)) (hand : HandState)
       (record {
         ready = is.fits.ready;
         room = is.fits.room;
-        plain = is.fits.plain;
         follows = returned.follows;
         rests = returned.rests;
         some_vars = length-set left.vars to slot ∙ left_sixteen.vars;

@@ -10,10 +10,9 @@ use Rattle.brc_model.specs.declared.state.VarState.TheVariants.{Empty, Owned, Ca
 use Rattle.brc_model.specs.declared.state.State.{State}
 use Rattle.brc_model.specs.Items.{borrows_item}
 use Rattle.brc_model.specs.Layout.{is_immortal_row, IsCounted}
-use Rattle.brc_model.specs.VarStates.{var_of, kind_of, is_empty, is_owned, is_one_of, lockable, with_resource, with_kind, names}
+use Rattle.brc_model.specs.VarStates.{var_of, kind_of, is_empty, is_owned, is_one_of, with_resource, with_kind, names}
 use Rattle.brc_model.specs.Duties.{resources_of}
 use Rattle.brc_model.specs.Threads.{row_of}
-use Rattle.brc_model.proofs.Basics.Blocks.{root_counted}
 use Rattle.brc_model.proofs.Basics.Lists.{some_is, none_some}
 use Rattle.brc_model.proofs.Dispatch.TakingHost.{resource_word}
 use Rattle.brc_model.proofs.Dispatch.Grounded.{owned_low}
@@ -22,7 +21,7 @@ use Rattle.brc_table.specs.Views.{holds}
 use Rattle.brc_table.specs.KnownWords.{knows_kind}
 use Rattle.brc_table.specs.Hands.{HandState, HoldsOne, KeepsLock, Borrows, MayUse, most_references}
 use Rattle.brc_work.specs.Changes.{CanGive}
-use Rattle.brc_work.specs.Fits.{Base, KnowsKind, Unknown, OfNone, OfRoot, HasSeen, SlotFits, owns, LockFits, LocksAs, Fits}
+use Rattle.brc_work.specs.Fits.{Base, KnowsKind, Unknown, OfNone, OfRoot, OfImmortalList, HasSeen, SlotFits, owns, LockFits, LocksAs, Fits}
 use Rattle.brc_work.proofs.Owning.{sum_at, sum_both, sum_lists}
 
 -- ---- what a slot says of its row
@@ -158,8 +157,11 @@ module _ (base : Base) (s : State) (rows : List (Option ℕ)) (hand : HandState)
       let same : lock.object ≡ x = some_is lock.object x (sym lock.locked ∙ locked) in
       let apart : i ≢ from = λ e.
       false≢true (sym can.unlocked ∙ (ap (λ (l : Option ℕ). names l from) is ∙ eq-eqb from i (sym e))) in
-      locked_slot i from x (var_of s i) refl lock apart (lock.names ∙ ap Some same) can.owned row
-      (subst (IsCounted hand.view.layout) same lock.counted)
+      elim (cases_Bool (is_immortal_row hand.view.layout x)) [
+        | inl immortal ↦ inl immortal
+        | inr counted ↦ inr
+            (locked_slot i from x (var_of s i) refl lock apart (lock.names ∙ ap Some same) can.owned row counted)
+      ]
 
   pub keeps_lock : (from x : ℕ) → CanGive s from → row_of rows from ≡ Some x → KeepsLock hand.view x
   keeps_lock from x can row = gives_up from x s.locked refl fits.lock can row
@@ -167,12 +169,6 @@ module _ (base : Base) (s : State) (rows : List (Option ℕ)) (hand : HandState)
   -- The locked object is one that the hand holds.
   pub lock_of : (i : ℕ) → s.locked ≡ Some i → LockFits base.first.slots s rows hand i
   lock_of i is = subst (λ (l : Option ℕ). LocksAs l base.first.slots s rows hand) is fits.lock
-
-  pub locked_held : (i : ℕ) (lock : LockFits base.first.slots s rows hand i) → 1 ≤ holds hand.view lock.object
-  locked_held i lock = elim (lasting_one i lock.object lock.used lock.lasting lock.names) [
-    | inl immortal ↦ absurd (false≢true (sym lock.counted ∙ immortal))
-    | inr more ↦ more
-  ]
 
   -- ---- how many references
 
@@ -188,16 +184,6 @@ module _ (base : Base) (s : State) (rows : List (Option ℕ)) (hand : HandState)
       omega (arith, fits.few, fits.room, most, fits.some_vars)
 
 -- ---- kinds
-
--- Only a counted object can be locked.
-pub lockable_counted : (v : View) (kind : Kind) (x : ℕ) → KnowsKind v kind x → is_one_of kind lockable ≡ true
-    → IsCounted v.layout x
-lockable_counted v kind x (Unknown any) can =
-    let wrong : false ≡ true = sym (ap (λ (k : Kind). is_one_of k lockable) any) ∙ can in absurd cc
-lockable_counted v kind x (OfNone this is) can =
-    let wrong : false ≡ true = sym (ap (λ (k : Kind). is_one_of k lockable) is) ∙ can in absurd cc
-lockable_counted v kind x (OfRoot this is) can = subst (IsCounted v.layout) (sym this) (root_counted v.layout)
-lockable_counted v kind x (HasSeen word counted some seen is) can = counted
 
 -- The hand has seen that the object has a resource.
 pub record SeesResource (v : View) (x : ℕ) : Type 0 where
@@ -215,7 +201,9 @@ sees_resource v kind x (OfNone this is) can =
     let wrong : false ≡ true = sym (ap (λ (k : Kind). is_one_of k with_resource) is) ∙ can in absurd cc
 sees_resource v kind x (OfRoot this is) can =
     let wrong : false ≡ true = sym (ap (λ (k : Kind). is_one_of k with_resource) is) ∙ can in absurd cc
-sees_resource v kind x (HasSeen word counted some seen is) can = record {
+sees_resource v kind x (OfImmortalList from below is) can =
+    let wrong : false ≡ true = sym (ap (λ (k : Kind). is_one_of k with_resource) is) ∙ can in absurd cc
+sees_resource v kind x (HasSeen word some seen is) can = record {
   word = word;
   some = some;
   seen = seen;

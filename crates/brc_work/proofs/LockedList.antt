@@ -1,8 +1,8 @@
 -- What a worker may do with the list that it has locked, and what that leaves.
-use Rattle.std.proofs.Common.{◌≡◌, ℕ, zero, suc, ◌+◌, ◌≤◌, Bool, true, cond, List, ◌∷◌, Option, None, Some, inl, inr, refl, sym, ap, ◌∙◌, subst, arith}
+use Rattle.std.proofs.Common.{◌≡◌, ◌⊎◌, ℕ, zero, suc, ◌+◌, ◌≤◌, Bool, true, cond, List, ◌∷◌, Option, None, Some, inl, inr, refl, sym, ap, ◌∙◌, subst, arith}
 use Rattle.std.specs.Prelude.{◌==◌, count_by}
 use Rattle.std.specs.List.{filter}
-use Rattle.std.proofs.lemmas.Bool.{cases_Bool, eq-eqb}
+use Rattle.std.proofs.lemmas.Bool.{cases_Bool, eq-eqb, false≢true}
 use Rattle.std.proofs.lemmas.Bool.Decides.{eqb_tells}
 use Rattle.brc_model.specs.References.{one_if}
 use Rattle.brc_model.specs.declared.layout.Layout.{Layout}
@@ -24,7 +24,7 @@ use Rattle.brc_work.specs.Fits.{Base, Rests, Fits}
 use Rattle.brc_work.proofs.CallsBelow.{no_work, kept_acts, asked_cells, with_references, beside_acts, acts_then}
 use Rattle.brc_work.proofs.Conditions.{locked_is}
 use Rattle.brc_work.proofs.Fitting.{same_fits}
-use Rattle.brc_work.proofs.Holding.{lasting_one, lock_of, locked_held}
+use Rattle.brc_work.proofs.Holding.{lasting_one, lock_of}
 use Rattle.brc_work.proofs.Trading.{less_held}
 
 -- ---- the list
@@ -32,9 +32,7 @@ use Rattle.brc_work.proofs.Trading.{less_held}
 -- The variable names the list that the hand has locked.
 pub record OnList (hand : HandState) (row : ℕ) : Type 0 where
   pub one : HoldsOne hand.view row
-  pub held : 1 ≤ holds hand.view row
   pub locked : hand.view.actor.locked ≡ Some row
-  pub counted : IsCounted hand.view.layout row
 
 pub on_list : (base : Base) (s : State) (rows : List (Option ℕ)) (hand : HandState) (list row : ℕ)
     → Fits base s rows hand → names s.locked list ≡ true → row_of rows list ≡ Some row → OnList hand row
@@ -43,9 +41,7 @@ on_list base s rows hand list row fits is named =
     let same : lock.object ≡ row = some_is lock.object row (sym lock.names ∙ named) in
     record {
       one = lasting_one base s rows hand fits list row lock.used lock.lasting named;
-      held = subst (λ (x : ℕ). 1 ≤ holds hand.view x) same (locked_held base s rows hand fits list lock);
       locked = lock.locked ∙ ap Some same;
-      counted = subst (IsCounted hand.view.layout) same lock.counted;
     }
 
 -- ---- looks at the list
@@ -84,6 +80,21 @@ item_acts hand after x cell word rests kept table carried slots before locked se
 
 -- ---- swaps
 
+-- The object is immortal, or the hand holds two references to it.
+abbrev HoldsTwo : View → ℕ → Type 0
+HoldsTwo v x = (is_immortal_row v.layout x ≡ true) ⊎ (2 ≤ holds v x)
+
+-- To a counted object the hand holds a reference,
+one_held : (v : View) (x : ℕ) → IsCounted v.layout x → HoldsOne v x → 1 ≤ holds v x
+one_held v x counted (inl immortal) = absurd (false≢true (sym counted ∙ immortal))
+one_held v x counted (inr held) = held
+
+-- or two.
+two_held : (v : View) (x y : ℕ) → x ≡ y → IsCounted v.layout y → HoldsTwo v x → 2 ≤ holds v x
+two_held v x y same counted (inl immortal) =
+    absurd (false≢true (sym counted ∙ (ap (is_immortal_row v.layout) (sym same) ∙ immortal)))
+two_held v x y same counted (inr held) = held
+
 -- A reference more, and then one less to the same object, is none more.
 pub without_with : (layout : Layout) (x : ℕ) (rows : List ℕ)
     → without_reference layout x (with_reference layout x rows) ≡ rows
@@ -120,8 +131,8 @@ swapped_acts hand after x rests kept table carried slots before locked =
     acts_then hand mid after beside.acts
     (kept_acts mid after beside.acts.rests kept table carried slots (locked ∙ sym before))
 
-module _ (hand after : HandState) (row item old : ℕ) (counted : IsCounted hand.view.layout row)
-    (held : 1 ≤ holds hand.view row) (locked : hand.view.actor.locked ≡ Some row) (puts : MayPut hand.view (suc item))
+module _ (hand after : HandState) (row item old : ℕ) (held : HoldsOne hand.view row)
+    (locked : hand.view.actor.locked ≡ Some row) (puts : MayPut hand.view (suc item))
     (layout : after.view.layout ≡ hand.view.layout) (now : after.view.actor.locked ≡ Some row)
     (is : after.view.references
     ≡ with_reference hand.view.layout old (without_reference hand.view.layout item hand.view.references)) where
@@ -140,26 +151,29 @@ module _ (hand after : HandState) (row item old : ℕ) (counted : IsCounted hand
     | inr there ↦ inr (omega (arith, count_is old there, ap one_if (eq-eqb old old refl)))
   ]
 
-  left_held : 1 ≤ count_by (λ z. z == row) rest
-  left_held =
+  left_held : IsCounted hand.view.layout row → 1 ≤ count_by (λ z. z == row) rest
+  left_held counted =
       let less = less_held hand.view.layout item row hand.view.references counted puts.0 in
       elim (eqb_tells item row) [
         | inl same ↦ omega (
           arith,
           less,
-          puts.2 (locked ∙ ap Some (sym same.1)),
+          two_held hand.view item row same.1 counted (puts.2 (locked ∙ ap Some (sym same.1))),
           ap one_if same.0,
           ap (λ (z : ℕ). holds hand.view z) same.1,
         )
-        | inr apart ↦ omega (arith, less, held, ap one_if apart.0)
+        | inr apart ↦ omega (arith, less, one_held hand.view row counted held, ap one_if apart.0)
       ]
 
   -- and besides one reference to the list that it has locked.
   pub out_kept : KeepsLock after.view old
   out_kept says =
       let same : row ≡ old = some_is row old (sym now ∙ says) in
-      subst (λ (y : ℕ). 2 ≤ holds after.view y) same
-      (omega (arith, count_is row counted, left_held, ap one_if (eq-eqb old row (sym same))))
+      subst (HoldsTwo after.view) same (elim (cases_Bool (is_immortal_row hand.view.layout row)) [
+        | inl immortal ↦ inl (ap (λ (l : Layout). is_immortal_row l row) layout ∙ immortal)
+        | inr counted ↦ inr
+            (omega (arith, count_is row counted, left_held counted, ap one_if (eq-eqb old row (sym same))))
+      ])
 
 -- ---- around a swap
 
@@ -202,8 +216,11 @@ module _ (hand mid : HandState) (x item : ℕ) (on : OnList hand x) (rests : Res
       ap (λ (l : List ℕ). count_by (λ z. z == y) l) more
       ∙ count_with_reference hand.view.layout item y hand.view.references counted
 
-  pub still_held : 1 ≤ holds mid.view x
-  still_held = omega (arith, more_is x on.counted, on.held)
+  pub still_held : HoldsOne mid.view x
+  still_held = elim (cases_Bool (is_immortal_row hand.view.layout x)) [
+    | inl immortal ↦ inl (ap (λ (l : Layout). is_immortal_row l x) layout ∙ immortal)
+    | inr counted ↦ inr (omega (arith, more_is x counted, one_held hand.view x counted on.one))
+  ]
 
   pub may_put : MayPut mid.view (suc item)
   may_put = (
@@ -214,8 +231,15 @@ module _ (hand mid : HandState) (x item : ℕ) (on : OnList hand x) (rests : Res
     idle_about mid item rests,
     λ says.
         let same : x ≡ item = some_is x item (sym on.locked ∙ (sym locked ∙ says)) in
-        subst (λ (y : ℕ). 2 ≤ holds mid.view y) same
-        (omega (arith, more_is x on.counted, on.held, ap one_if (eq-eqb item x (sym same)))),
+        subst (HoldsTwo mid.view) same (elim (cases_Bool (is_immortal_row hand.view.layout x)) [
+          | inl immortal ↦ inl (ap (λ (l : Layout). is_immortal_row l x) layout ∙ immortal)
+          | inr counted ↦ inr (omega (
+            arith,
+            more_is x counted,
+            one_held hand.view x counted on.one,
+            ap one_if (eq-eqb item x (sym same)),
+          ))
+        ]),
   )
 
 out_of : (hand after : HandState) (item old : ℕ) (result : Option ℕ) → CameOut hand after item result → result

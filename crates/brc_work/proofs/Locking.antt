@@ -1,14 +1,12 @@
 -- Variables and hand fit the state after a lock, and after an unlock.
 use Rattle.std.proofs.Common.{◌≡◌, ℕ, ◌+◌, ◌<◌, ◌≤◌, true, false, List, ◌∷◌, length, map, Option, None, Some, refl, sym, ap, ◌∙◌, subst, arith}
 use Rattle.std.proofs.lemmas.List.{length-map}
-use Rattle.brc_model.specs.declared.layout.Layout.{Layout}
 use Rattle.brc_model.specs.declared.state.VarState.{VarState}
 use Rattle.brc_model.specs.declared.state.VarState.TheVariants.{Empty, Owned, Caller, Locked}
 use Rattle.brc_model.specs.declared.state.State.{State}
 use Rattle.brc_model.specs.Duties.{resources_of}
 use Rattle.brc_model.specs.Items.{borrows_item}
-use Rattle.brc_model.specs.Layout.{IsCounted}
-use Rattle.brc_model.specs.VarStates.{var_of, kind_of, is_empty, is_one_of, lockable, without_item, without_items, with_lock}
+use Rattle.brc_model.specs.VarStates.{var_of, kind_of, is_empty, without_item, without_items, with_lock}
 use Rattle.brc_model.specs.Threads.{row_of}
 use Rattle.brc_model.proofs.Basics.Lists.{none_some}
 use Rattle.brc_model.proofs.Dispatch.Grounded.{var_of-without}
@@ -22,7 +20,7 @@ use Rattle.brc_work.specs.Acts.{KnowsMore}
 use Rattle.brc_work.specs.Fits.{Base, SlotFits, owns, lists, over_variables, LockFits, LocksAs, Fits}
 use Rattle.brc_work.proofs.CallsBelow.{with_slot, slot_rests, kept_rests, kept_follows}
 use Rattle.brc_work.proofs.Fitting.{follows_on}
-use Rattle.brc_work.proofs.Holding.{knows_slot, lockable_counted, sees_resource}
+use Rattle.brc_work.proofs.Holding.{knows_slot, sees_resource}
 use Rattle.brc_work.proofs.Owning.{sum_without, owns_without, lists_without}
 use Rattle.brc_work.proofs.Staying.{names_more, slot_bare, lent_still}
 
@@ -67,7 +65,6 @@ module _ (base : Base) (s : State) (rows : List (Option ℕ)) (hand after : Hand
   tried_with next same lock = record {
     ready = fits.ready;
     room = fits.room;
-    plain = fits.plain;
     follows = follows_on base.first hand after fits.follows (record {
       table = table;
       layout = kept.layout;
@@ -104,18 +101,15 @@ module _ (base : Base) (s : State) (rows : List (Option ℕ)) (hand after : Hand
       (unlocked, slots ∙ (no_lock base s rows hand fits none).1))
 
   -- and one that wins.
-  pub lock_is : (i x : ℕ) → is_empty (var_of s i) ≡ false → is_one_of (kind_of (var_of s i)) lockable ≡ true
-      → row_of rows i ≡ Some x → after.view.actor.locked ≡ Some x → after.slots ≡ (x, after.view.in_slot) ∷ hand.slots
+  pub lock_is : (i x : ℕ) → is_empty (var_of s i) ≡ false → row_of rows i ≡ Some x
+      → after.view.actor.locked ≡ Some x → after.slots ≡ (x, after.view.in_slot) ∷ hand.slots
       → ((word : ℕ) → 0 < word → knows_kind x word hand.view ≡ true → after.view.in_slot ≡ resources_of word)
       → Fits base (with_lock s (Some i)) rows after
-  lock_is i x used can names locked slots kinds =
+  lock_is i x used names locked slots kinds =
       let knows = knows_slot base.held hand.view (var_of s i) (row_of rows i) x used (fits.each i) names in
       tried_with (with_lock s (Some i)) refl (record {
         object = x;
         names = names;
-        counted =
-            subst (λ (l : Layout). IsCounted l x) (sym kept.layout)
-            (lockable_counted hand.view (kind_of (var_of s i)) x knows can);
         lasting = borrows_none base.held hand.view (var_of s i) (row_of rows i)
             (no_lock base s rows hand fits none).0 (fits.each i);
         used = used;
@@ -135,7 +129,6 @@ pub unlocks : (base : Base) (s : State) (rows : List (Option ℕ)) (hand after :
 unlocks base s rows hand after i fits lock kept table carried slots unlocked = record {
   ready = fits.ready;
   room = fits.room;
-  plain = fits.plain;
   follows = follows_on base.first hand after fits.follows (kept_follows hand after kept table carried);
   rests = kept_rests hand after fits.rests kept;
   some_vars = length-map s.vars without_item ∙ fits.some_vars;

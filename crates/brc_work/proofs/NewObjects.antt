@@ -8,13 +8,13 @@ use Rattle.brc_table.specs.Views.{with_reference}
 use Rattle.brc_heap.specs.Calls.{IsBornWith, kind_word}
 
 -- The kind word of a new object isn't 0.
-pub born_some : (kind : Kind) (arg : ℕ) → IsBornWith kind arg → 0 < kind_word kind arg
-born_some kinds.Any arg born = absurd born
-born_some kinds.None arg born = absurd born
-born_some kinds.Num arg born = omega arith
-born_some kinds.List arg born = omega arith
-born_some kinds.File arg born = omega arith
-born_some kinds.Sock arg born = omega arith
+pub born_some : (cells : ℕ) (kind : Kind) (arg : ℕ) → IsBornWith cells kind arg → 0 < kind_word kind arg
+born_some cells kinds.Any arg born = absurd born
+born_some cells kinds.None arg born = absurd born
+born_some cells kinds.Num arg born = omega arith
+born_some cells kinds.List arg born = omega arith
+born_some cells kinds.File arg born = omega arith
+born_some cells kinds.Sock arg born = omega arith
 
 -- A new object's reference is a reference more.
 pub born_with : (layout : Layout) (x : ℕ) (rows new : List ℕ) → IsCounted layout x → new ≡ x ∷ rows

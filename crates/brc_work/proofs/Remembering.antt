@@ -8,7 +8,7 @@ use Rattle.brc_word.specs.Words.{free_word, argument_part}
 use Rattle.brc_host.specs.HostCalls.{HostCall}
 use Rattle.brc_host.specs.HostCalls as asked
 use Rattle.brc_lang.specs.declared.module.Instr.{Instr}
-use Rattle.brc_lang.specs.declared.module.Instr.TheVariants.{Num, List as ListObject, NoneObject, Newref, Move as MoveReference, Drop, Lock, Unlock, Borrow, Fetch, Set, Put, Goto, Again, Ret, Fail, As, Open, Connect, Read, Write, Call}
+use Rattle.brc_lang.specs.declared.module.Instr.TheVariants.{Num, List as ListObject, NoneObject, Take, Newref, Move as MoveReference, Drop, Lock, Unlock, Borrow, Fetch, Set, Put, Goto, Again, Ret, Fail, As, Open, Connect, Read, Write, Call}
 use Rattle.brc_model.specs.declared.actor.Context.{Context}
 use Rattle.brc_model.specs.declared.actor.OpenCall.{OpenCall}
 use Rattle.brc_model.specs.declared.actor.Place.{Place}
@@ -194,6 +194,7 @@ module _ (layout : Layout) (t : ℕ) (program : Program) (cs : List HostCall) (e
   instruction_leads context at variables (Some (ListObject to cells otherwise)) is here other clear =
       birth_leads context at variables to (list_word cells) otherwise other
   instruction_leads context at variables (Some (NoneObject to)) is here other clear = tt
+  instruction_leads context at variables (Some (Take to list)) is here other clear = tt
   instruction_leads context at variables (Some (Newref to from)) is here other clear =
       row_leads (row_of variables from) _ (λ row found. (Other refl, tt))
   instruction_leads context at variables (Some (MoveReference to from)) is here other clear =

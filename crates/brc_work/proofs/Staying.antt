@@ -1,15 +1,15 @@
 -- What a worker's call leaves of the knowledge that its variables stand on.
-use Rattle.std.proofs.Common.{◌≡◌, ℕ, suc, ◌<◌, Option, sym, ◌∙◌, subst}
+use Rattle.std.proofs.Common.{◌≡◌, ℕ, suc, ◌<◌, ◌≤◌, Option, sym, ◌∙◌, subst}
 use Rattle.brc_lang.specs.declared.kind.Kind.{Kind}
 use Rattle.brc_model.specs.declared.layout.Layout.{Layout}
 use Rattle.brc_model.specs.declared.state.VarState.{VarState}
 use Rattle.brc_model.specs.declared.state.VarState.TheVariants.{Empty, Owned, Caller, Locked}
-use Rattle.brc_model.specs.Layout.{row_count, IsCounted}
+use Rattle.brc_model.specs.Layout.{row_count, first_immortal_list, first_number, IsCounted}
 use Rattle.brc_model.specs.VarStates.{without_item}
 use Rattle.brc_table.specs.declared.view.View.{View}
 use Rattle.brc_table.specs.Hands.{Borrows}
 use Rattle.brc_work.specs.Acts.{KnowsMore, KeepsCells}
-use Rattle.brc_work.specs.Fits.{KnowsKind, Unknown, OfNone, OfRoot, HasSeen, Names, NamesLent, SlotFits}
+use Rattle.brc_work.specs.Fits.{KnowsKind, Unknown, OfNone, OfRoot, OfImmortalList, HasSeen, Names, NamesLent, SlotFits}
 
 -- A hand has locked what it had locked, and what it has seen in the locked list is still there.
 pub record Stays (v u : View) : Type 0 where
@@ -23,8 +23,10 @@ pub knows_more : (v u : View) (kind : Kind) (x : ℕ) → KnowsMore v u → Know
 knows_more v u kind x more (Unknown any) = Unknown any
 knows_more v u kind x more (OfNone this is) = OfNone this is
 knows_more v u kind x more (OfRoot this is) = OfRoot this is
-knows_more v u kind x more (HasSeen word counted some seen is) =
-    HasSeen word (subst (λ (l : Layout). IsCounted l x) (sym more.layout) counted) some (more.kinds x word seen) is
+knows_more v u kind x more (OfImmortalList from below is) =
+    OfImmortalList (subst (λ (l : Layout). first_immortal_list l ≤ x) (sym more.layout) from)
+    (subst (λ (l : Layout). x < first_number l) (sym more.layout) below) is
+knows_more v u kind x more (HasSeen word some seen is) = HasSeen word some (more.kinds x word seen) is
 
 pub names_more : (v u : View) (kind : Kind) (row : Option ℕ) → KnowsMore v u → Names v kind row → Names u kind row
 names_more v u kind row more names =

@@ -1,8 +1,9 @@
 -- A call goes from point to point as the checker's paths do.
 use Rattle.std.proofs.Common.{◌≡◌, ℕ, ◌+◌, ◌<◌, inl, inr, length, Bool, true, false, cond, List, [], ◌∷◌, ◌++◌, drop, Option, None, Some, refl, sym, ap, ◌∙◌, subst, arith}
 use Rattle.std.specs.Prelude.{find, slice_get, slice_set}
-use Rattle.std.specs.List.{list_any}
+use Rattle.std.specs.List.{AllByRecursion, list_any}
 use Rattle.std.proofs.lemmas.Option.{slice_get_cases}
+use Rattle.brc_lang.specs.Grammar.{IsModule, IsAllowed}
 use Rattle.brc_lang.specs.Limits.{function_limit}
 use Rattle.brc_lang.specs.declared.kind.Kind.TheVariants as kinds
 use Rattle.brc_lang.specs.declared.module.Function.{Function}
@@ -10,7 +11,7 @@ use Rattle.brc_lang.specs.declared.parameter.Argument.{Argument}
 use Rattle.brc_lang.specs.declared.parameter.Parameter.{Parameter}
 use Rattle.brc_lang.specs.declared.module.Instr.{Instr}
 use Rattle.brc_lang.specs.declared.module.Module.{Module}
-use Rattle.brc_lang.specs.declared.module.Instr.TheVariants.{Num, List as ListObject, NoneObject, Newref, Move, Drop, Lock, Unlock, Borrow, Fetch, Set, Put, Goto, Again, Ret, Fail, As, Open, Connect, Read, Write, Call}
+use Rattle.brc_lang.specs.declared.module.Instr.TheVariants.{Num, List as ListObject, NoneObject, Take, Newref, Move, Drop, Lock, Unlock, Borrow, Fetch, Set, Put, Goto, Again, Ret, Fail, As, Open, Connect, Read, Write, Call}
 use Rattle.brc_model.specs.declared.state.Exit.TheVariants.{Success, Fault as FaultExit}
 use Rattle.brc_lang.specs.declared.check_code.CheckCode.TheVariants.{EmptyUsed, WrongKind, NotOwned, StillOwns, LeftOwned, LeftLocked, SecondLock, NotLocked, LockedChanged}
 use Rattle.brc_model.specs.declared.state.State.{State}
@@ -22,13 +23,13 @@ use Rattle.brc_model.specs.declared.state.VarState.TheVariants.{Empty, Owned}
 use Rattle.brc_model.specs.VarStates.{var_of, is_owned, put, applies, rising, lowest, after, target, entry_of}
 use Rattle.brc_model.specs.Tables.{Reaches, AreTrueWhereReached}
 use Rattle.brc_model.specs.Threads.{function_of, function_at, row_of, entry_variables}
-use Rattle.brc_model.proofs.Basics.Lists.{some_is}
+use Rattle.brc_model.proofs.Basics.Lists.{some_is, all_of_found}
 use Rattle.brc_model.proofs.Dispatch.Calls.{passed_each}
 use Rattle.brc_model.proofs.Dispatch.Grounded.{owned_low, owned_var}
 use Rattle.brc_model.proofs.Dispatch.Passing.{AreMet, are_met, PassesOn, passes_on}
-use Rattle.brc_table.specs.Hands.{HandState}
+use Rattle.brc_table.specs.Hands.{TableState, HandState}
 use Rattle.brc_work.specs.Calls.{Begins, GoesTo, GoesOn, HasReturned, Returns, stays_in_call}
-use Rattle.brc_work.specs.Fits.{Base, outermost, owns, lists, over_variables, SlotFits, OfRoot, IsReady, Fits}
+use Rattle.brc_work.specs.Fits.{Base, outermost, owns, lists, over_variables, SlotFits, OfRoot, IsReady, IsHeapOf, LayoutAllows, Fits}
 use Rattle.brc_heap.proofs.Keeping.{keeps_first}
 use Rattle.brc_work.proofs.CallsBelow.{keeps_later}
 use Rattle.brc_work.proofs.Conditions.{kept, none_is}
@@ -137,12 +138,10 @@ first_slot hand ready i =
       lent = λ counted. ready.root;
     }) tt [] [] tt i
 
-begins_first : (hand : HandState) → IsReady hand → hand.view.layout.immortal_lists ≡ 0
-    → Fits (outermost hand) (entry_of []) entry_variables hand
-begins_first hand ready plain = record {
+begins_first : (hand : HandState) → IsReady hand → Fits (outermost hand) (entry_of []) entry_variables hand
+begins_first hand ready = record {
   ready = ready;
   room = omega (arith, ready.few);
-  plain = plain;
   follows = keeps_later (keeps_first hand.view) (omega arith) refl refl;
   rests = ready.rests;
   some_vars = refl;
@@ -154,11 +153,11 @@ begins_first hand ready plain = record {
 }
 
 -- An outermost call is of a function without parameters.
-pub begins : (hand : HandState) (f : Function) (number : ℕ) → IsReady hand → hand.view.layout.immortal_lists ≡ 0
-    → f.parameters ≡ [] → number < function_limit → Begins (outermost hand) f number entry_variables hand
-begins hand f number ready plain none low = record {
+pub begins : (hand : HandState) (f : Function) (number : ℕ) → IsReady hand → f.parameters ≡ []
+    → number < function_limit → Begins (outermost hand) f number entry_variables hand
+begins hand f number ready none low = record {
   fits = subst (λ (ps : List Parameter). Fits (outermost hand) (entry_of ps) entry_variables hand) (sym none)
-      (begins_first hand ready plain);
+      (begins_first hand ready);
   root = ready.root;
   room = omega (arith, ready.few, low);
 }
@@ -174,6 +173,7 @@ leads_on (Num to value otherwise) FaultExit at on = (otherwise, refl)
 leads_on (ListObject to cells otherwise) Success at on = (at + 1, refl)
 leads_on (ListObject to cells otherwise) FaultExit at on = (otherwise, refl)
 leads_on (NoneObject to) exit at on = (at + 1, refl)
+leads_on (Take to list) exit at on = (at + 1, refl)
 leads_on (Newref to from) exit at on = (at + 1, refl)
 leads_on (Move to from) exit at on = (at + 1, refl)
 leads_on (Drop from) exit at on = (at + 1, refl)
@@ -228,6 +228,29 @@ pub fails : (base : Base) (s : State) (rows : List (Option ℕ)) (hand : HandSta
 fails base s rows hand fits passes =
     let met = are_met Fail s passes in
     ends base s rows hand fits (kept _ met.none_left) (none_is s.locked (kept _ met.no_lock_left))
+
+-- ---- the heap's layout
+
+allowed_here : (m : Module) (heap : TableState) (i : Instr) → IsHeapOf m heap → IsAllowed m.version m.statics i
+    → LayoutAllows heap.layout i
+allowed_here m heap (ListObject to cells otherwise) is allowed = omega (arith, is.cells, allowed)
+allowed_here m heap (Take to list) is allowed = omega (arith, is.lists, allowed)
+allowed_here m heap _ is allowed = tt
+
+-- The layout of the module's heap allows each instruction of the module.
+pub layout_allows : (m : Module) (heap : TableState) (function at : ℕ) (i : Instr) → IsModule m → IsHeapOf m heap
+    → function < length m.functions → slice_get (function_at m.functions function).code at ≡ Some i
+    → LayoutAllows heap.layout i
+layout_allows m heap function at i fits is low found =
+    elim (slice_get_cases m.functions function).1 [
+      | inl there ↦
+          let code = ap (λ (o : Option Function). slice_get (function_of o).code at) (sym there.2) ∙ found in
+          allowed_here m heap i is
+          (all_of_found (IsAllowed m.version m.statics) there.0.code at i
+          (all_of_found (λ (f : Function). AllByRecursion (IsAllowed m.version m.statics) f.code) m.functions function
+          there.0 fits.allowed there.2) code)
+      | inr past ↦ absurd (omega (arith, past.0, low))
+    ]
 
 -- ---- the next point
 

@@ -19,7 +19,6 @@ use Rattle.brc_model.proofs.Dispatch.Calls.{ArgumentsLow, AreSixteen, put_sixtee
 use Rattle.brc_model.proofs.Dispatch.Grounded.{var_of-put_other, row_of-set_other}
 use Rattle.brc_model.proofs.Dispatch.Handing.{AreApart, apart_from}
 use Rattle.brc_work.specs.Fits.{owns, lists, over_variables}
-use Rattle.brc_work.proofs.Holding.{named}
 use Rattle.brc_work.proofs.Owning.{sum_set, owns_no, lists_no}
 
 -- call that waits goes on.

@@ -67,6 +67,11 @@ owned_kind (Locked k) owned = let wrong : false ≡ true = owned in absurd cc
 
 -- ---- trades
 
+-- A reference to an immortal object isn't listed.
+pub uncounted : (layout : Layout) (x : ℕ) (rows : List ℕ) → is_immortal_row layout x ≡ true
+    → with_reference layout x rows ≡ rows
+uncounted layout x rows immortal = ap (λ (b : Bool). cond b rows (x ∷ rows)) immortal
+
 -- The hand has a reference more, which the variable now owns.
 pub gains : (layout : Layout) (old : VarState) (before : Option ℕ) (kind : Kind) (x : ℕ) (hand after : HandState)
     → is_owned old ≡ false → after.view.references ≡ with_reference layout x hand.view.references

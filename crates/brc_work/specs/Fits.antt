@@ -3,7 +3,10 @@
 use Rattle.std.specs.Prelude.{◌≡◌, ℕ, ◌+◌, ◌^◌, ◌<◌, ◌≤◌, ◌==◌, true, false, if◌then◌else◌, List, [], ◌∷◌, Option, None, Some, length}
 use Rattle.brc_lang.specs.declared.kind.Kind.{Kind}
 use Rattle.brc_lang.specs.declared.kind.Kind.TheVariants as kinds
+use Rattle.brc_lang.specs.Grammar.{cells_in}
 use Rattle.brc_lang.specs.declared.module.Instr.{Instr}
+use Rattle.brc_lang.specs.declared.module.Instr.TheVariants.{List as ListObject, Take}
+use Rattle.brc_lang.specs.declared.module.Module.{Module}
 use Rattle.brc_model.specs.declared.actor.Status.TheVariants.{Running}
 use Rattle.brc_model.specs.declared.state.VarState.{VarState}
 use Rattle.brc_model.specs.declared.state.VarState.TheVariants.{Empty, Owned, Caller, Locked}
@@ -11,7 +14,7 @@ use Rattle.brc_model.specs.declared.state.State.{State}
 use Rattle.brc_model.specs.declared.state.Exit.{Exit}
 use Rattle.brc_model.specs.Kinds.{kind_of_word}
 use Rattle.brc_model.specs.declared.layout.Layout.{Layout}
-use Rattle.brc_model.specs.Layout.{none_row, root_row, is_immortal_row, IsCounted}
+use Rattle.brc_model.specs.Layout.{none_row, root_row, first_immortal_list, first_number, is_immortal_row, IsCounted}
 use Rattle.brc_model.specs.Items.{borrows_item}
 use Rattle.brc_model.specs.VarStates.{var_of, kind_of, is_empty, is_one_of, with_resource, lowest, after}
 use Rattle.brc_model.specs.Threads.{row_of}
@@ -22,14 +25,15 @@ use Rattle.brc_table.specs.Views.{holds}
 
 -- ---- what the variables name
 
--- The hand knows that the object is of the kind. `Any` says nothing, none and the root have their kinds from the start,
--- and of any other object the hand has seen the kind word.
+-- The hand knows that the object is of the kind. `Any` says nothing; none, the root and the immortal lists have their
+-- kinds from the start; and of any other object the hand has seen the kind word.
 pub data KnowsKind (v : View) (kind : Kind) (x : ℕ) : Type 0 where
   Unknown : kind ≡ kinds.Any → KnowsKind v kind x
   OfNone : x ≡ none_row → kind ≡ kinds.None → KnowsKind v kind x
   OfRoot : x ≡ root_row → kind ≡ kinds.List → KnowsKind v kind x
-  HasSeen : (word : ℕ) → IsCounted v.layout x → 0 < word → knows_kind x word v ≡ true → kind_of_word word ≡ kind
+  OfImmortalList : first_immortal_list v.layout ≤ x → x < first_number v.layout → kind ≡ kinds.List
       → KnowsKind v kind x
+  HasSeen : (word : ℕ) → 0 < word → knows_kind x word v ≡ true → kind_of_word word ≡ kind → KnowsKind v kind x
 
 -- The variable names an object of the kind.
 pub record Names (v : View) (kind : Kind) (row : Option ℕ) : Type 0 where
@@ -80,7 +84,6 @@ pub record LockFits (first : List (ℕ × ℕ)) (s : State) (rows : List (Option
     : Type 0 where
   pub object : ℕ
   pub names : row_of rows i ≡ Some object
-  pub counted : IsCounted hand.view.layout object
   pub lasting : borrows_item (var_of s i) ≡ false
   pub used : is_empty (var_of s i) ≡ false
   pub locked : hand.view.actor.locked ≡ Some object
@@ -138,7 +141,6 @@ outermost first = record { first = first; held = holds first.view; most = length
 pub record Fits (base : Base) (s : State) (rows : List (Option ℕ)) (hand : HandState) : Type 0 where
   pub ready : IsReady base.first
   pub room : base.most + 17 < most_references
-  pub plain : base.first.view.layout.immortal_lists ≡ 0
   pub follows : IsLater base.first hand
   pub rests : Rests hand
   pub some_vars : length s.vars ≡ 16
@@ -149,6 +151,20 @@ pub record Fits (base : Base) (s : State) (rows : List (Option ℕ)) (hand : Han
   pub few : length hand.view.references
       ≤ base.most + over_variables (lists base.first.view.layout) s.vars rows
   pub lock : LocksAs s.locked base.first.slots s rows hand
+
+-- ---- the module
+
+-- The heap has the module's static lists, and a list of it may have as many cells as the module's version allows.
+pub record IsHeapOf (m : Module) (heap : TableState) : Type 0 where
+  pub lines : heap.lines ≡ m.statics
+  pub lists : heap.layout.immortal_lists ≡ length m.statics
+  pub cells : heap.layout.cells ≡ cells_in m.version
+
+-- The layout has room for the cells of a list that the instruction makes, and has the static list that it takes.
+abbrev pub LayoutAllows : Layout → Instr → Type 0
+LayoutAllows layout (ListObject to cells otherwise) = cells ≤ layout.cells
+LayoutAllows layout (Take to list) = list < layout.immortal_lists
+LayoutAllows layout i = Unit {0}
 
 -- ---- instructions
 

@@ -11,6 +11,7 @@ use Rattle.brc_table.specs.Hands.{TableState, HandState, IsOf}
 use Rattle.brc_table.specs.Views.{worker_view}
 use Rattle.brc_table.specs.declared.view.View.{View}
 use Rattle.brc_queue.specs.Scans.{HasLeft}
+use Rattle.brc_work.specs.Fits.{IsHeapOf}
 use Rattle.brc_work.specs.Runs.{RanBy}
 use Rattle.brc_work.specs.Totals.{Asked, no_totals, totals_of, is_done}
 use Rattle.brc_work.specs.Traces.{Program, program_of}
@@ -94,6 +95,9 @@ Ends answers counts j hand ran called =
 
 pub called-prop : (m : Module) (function : ℕ) → IsProp (MayBeCalled m function)
 called-prop m function = Prim.hlevel props
+
+pub heap-prop : (m : Module) (heap : TableState) → IsProp (IsHeapOf m heap)
+heap-prop m heap = Prim.hlevel props
 
 pub fresh-prop : (heap : TableState) (thread : ℕ) (hand : HandState) → IsProp (IsFresh heap thread hand)
 fresh-prop heap thread hand = Prim.hlevel props

@@ -6,7 +6,6 @@ ghost use Rattle.brc_model.specs.declared.state.VarState.TheVariants.{Owned};
 ghost use Rattle.brc_model.specs.Duties.{resources_of};
 ghost use Rattle.brc_model.specs.Machine.{has_room};
 ghost use Rattle.brc_model.specs.VarStates.{put};
-ghost use Rattle.brc_model.specs.Limits.{text_cells};
 ghost use Rattle.std.specs.Prelude.{◌≤◌};
 ghost use Rattle.brc_table.specs.Hands.{IsOf};
 ghost use Rattle.brc_table.specs.Homes.{resources};
@@ -55,7 +54,7 @@ impl<'h, T: Drop> Worker<'h, T> {
         otherwise: u8,
     ) -> Exit
         requires may { MayDo self.now (instructions.List to cells otherwise) rows.old hand.old }
-        requires few { cells ≤ text_cells }
+        requires few { cells ≤ self.now.layout.cells }
         ensures of { IsOf self.now hand.new }
         ensures done { HasDone (instructions.List to cells otherwise) result rows.old hand.old rows.new hand.new }
         ensures made { Performs [] (instructions.List to cells otherwise) result rows.old hand.old.view rows.new
@@ -81,7 +80,7 @@ impl<'h, T: Drop> Worker<'h, T> {
     )
         requires fits { IsIn self.now (λ s. CanFill s to) rows.old hand.old }
         requires room { has_room hand.old.view.layout hand.old.view.thread hand.old.view.actor.used ≡ true }
-        requires kind { IsBornWith kind arg }
+        requires kind { IsBornWith hand.old.view.layout.cells kind arg }
         requires resource { resources resource ≡ resources_of (kind_word kind arg) }
         ensures of { IsOf self.now hand.new }
         ensures goes { ChangesTo (λ s. CanFill s to) (λ s. put s to (Owned kind)) rows.old hand.old rows.new hand.new }

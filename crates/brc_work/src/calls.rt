@@ -9,7 +9,7 @@ ghost use Rattle.brc_table.specs.Hands.{IsOf};
 ghost use Rattle.brc_model.specs.Tables.{Reaches};
 ghost use Rattle.brc_model.specs.declared.state.State.{State};
 ghost use Rattle.brc_work.specs.Calls.{IsChecked, IsReached, MayBegin, EndsAs, GoesOn, HasCalled, stays_in_call};
-ghost use Rattle.brc_work.specs.Fits.{MayDo, HasDone, IsReady};
+ghost use Rattle.brc_work.specs.Fits.{MayDo, HasDone, IsReady, IsHeapOf, LayoutAllows};
 ghost use Rattle.brc_work.specs.Performs.{PerformsAt, StepsTo};
 ghost use Rattle.brc_work.specs.Runs.{Runs, CallsOnce};
 ghost use Rattle.brc_work.specs.Totals.{Asked};
@@ -89,6 +89,7 @@ impl<'h, T: Drop> Worker<'h, T> {
     ) -> bool
         requires function { function < length checked.now.module.functions }
         requires parameters { (function_at checked.now.module.functions function).parameters ≡ [] }
+        requires heap { IsHeapOf checked.now.module self.now }
         requires some { 0 < left.old }
         requires of { IsOf self.now hand.old }
         requires ready { IsReady hand.old }
@@ -99,7 +100,6 @@ impl<'h, T: Drop> Worker<'h, T> {
             hand.new.view) }
     {
         checked.states_are_true();
-        self.heap.words().layout_is_plain();
         let mut rows: Variables = [None; Variable::COUNT];
         name(&mut rows, Variable::new(0), Some(ROOT));
         match self.call(rt, checked, function, left, &rows, hand, host, totals) {
@@ -135,6 +135,7 @@ impl<'h, T: Drop> Worker<'h, T> {
         totals: &mut Totals,
     ) -> End
         requires function { function < length checked.now.module.functions }
+        requires heap { IsHeapOf checked.now.module self.now }
         requires may { MayBegin self.now (function_at checked.now.module.functions function) function entry.now
             hand.old }
         ensures of { IsOf self.now hand.new }
@@ -204,6 +205,7 @@ impl<'h, T: Drop> Worker<'h, T> {
     ) -> usize
         requires may { MayDo self.now instr.now rows.old hand.old }
         requires form { IsInstruction instr.now }
+        requires allowed { LayoutAllows self.now.layout instr.now }
         requires stays { stays_in_call instr.now ≡ true }
         requires low { at < 256 }
         ensures of { IsOf self.now hand.new }
@@ -233,6 +235,7 @@ impl<'h, T: Drop> Worker<'h, T> {
     ) -> Exit
         requires may { MayDo self.now instr rows.old hand.old }
         requires form { IsInstruction instr }
+        requires allowed { LayoutAllows self.now.layout instr }
         requires stays { stays_in_call instr ≡ true }
         ensures of { IsOf self.now hand.new }
         ensures done { HasDone instr result rows.old hand.old rows.new hand.new }
@@ -253,6 +256,10 @@ impl<'h, T: Drop> Worker<'h, T> {
             } => self.list(rows, hand, to, cells, otherwise),
             Instr::NoneObject { to } => {
                 self.none(rows, hand, to);
+                Exit::Success
+            }
+            Instr::Take { to, list } => {
+                self.take(rows, hand, to, list);
                 Exit::Success
             }
             Instr::Newref { to, from } => {

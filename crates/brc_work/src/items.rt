@@ -1,12 +1,10 @@
 //! `borrow`, `fetch`, `set` and `put`, which use a cell of the list that the worker has locked.
 
-ghost use Rattle.std.specs.Prelude.{◌≡◌, ◌<◌, ◌≤◌, suc, Some, length, []};
+ghost use Rattle.std.specs.Prelude.{◌≡◌, ◌<◌, suc, Some, length, []};
 ghost use Rattle.brc_lang.specs.declared.module.Instr.TheVariants as instructions;
-ghost use Rattle.brc_model.specs.Layout.{IsCounted};
-ghost use Rattle.brc_table.specs.Hands.{IsOf, most_references};
+ghost use Rattle.brc_table.specs.Hands.{IsOf, HoldsOne, most_references};
 ghost use Rattle.brc_table.specs.KnownWords.{KnowsCell};
 ghost use Rattle.brc_table.specs.Swaps.{MayPut};
-ghost use Rattle.brc_table.specs.Views.{holds};
 ghost use Rattle.brc_work.specs.Acts.{Acts, HasLess};
 ghost use Rattle.brc_work.specs.Fits.{Rests, MayDo, HasDone};
 ghost use Rattle.brc_work.specs.Performs.{Performs, MakesSwap};
@@ -176,8 +174,7 @@ impl<'h, T: Drop> Worker<'h, T> {
     )
         requires of { IsOf self.now hand.old }
         requires rests { Rests hand.old }
-        requires counted { IsCounted hand.old.view.layout row }
-        requires held { 1 ≤ holds hand.old.view row }
+        requires held { HoldsOne hand.old.view row }
         requires locked { hand.old.view.actor.locked ≡ Some row }
         requires knows { KnowsCell hand.old.view row cell }
         requires puts { MayPut hand.old.view (suc item) }

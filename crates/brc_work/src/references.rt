@@ -1,7 +1,8 @@
-//! `none`, `newref`, `move` and `drop`, which make references, hand them on and give them up.
+//! `none`, `take`, `newref`, `move` and `drop`, which make references, hand them on and give them up.
 
-ghost use Rattle.std.specs.Prelude.{◌≡◌, []};
+ghost use Rattle.std.specs.Prelude.{◌≡◌, ◌+◌, ◌<◌, []};
 ghost use Rattle.brc_lang.specs.declared.module.Instr.TheVariants as instructions;
+ghost use Rattle.brc_model.specs.Layout.{first_immortal_list};
 ghost use Rattle.brc_model.specs.declared.state.Exit.TheVariants.{Success};
 ghost use Rattle.brc_model.specs.declared.state.VarState.TheVariants.{Empty};
 ghost use Rattle.brc_model.specs.VarStates.{put};
@@ -24,6 +25,9 @@ use std::sync::Wait;
 /// The row of none.
 const NONE: u32 = 0;
 
+/// The rows in front of the workers': none's and the root's.
+const FRONT_ROWS: u32 = 2;
+
 impl<'h, T: Drop> Worker<'h, T> {
     /// `none`: owns a reference to none.
     pub(crate) fn none(&self, rows: &mut Variables, hand: &Hand<T>, to: Variable)
@@ -32,6 +36,26 @@ impl<'h, T: Drop> Worker<'h, T> {
         ensures made { Performs [] (instructions.NoneObject to) Success rows.old hand.now.view rows.new hand.now.view }
     {
         name(rows, to, Some(NONE));
+    }
+
+    /// `take`: owns a reference to a static list, which is immortal: nothing is counted.
+    pub(crate) fn take(&self, rows: &mut Variables, hand: &Hand<T>, to: Variable, list: u8)
+        requires may { MayDo self.now (instructions.Take to list) rows.old hand.now }
+        requires there { list < self.now.layout.immortal_lists }
+        ensures done { HasDone (instructions.Take to list) Success rows.old hand.now rows.new hand.now }
+        ensures made { Performs [] (instructions.Take to list) Success rows.old hand.now.view rows.new hand.now.view }
+    {
+        let row = self.static_list(list);
+        name(rows, to, Some(row));
+    }
+
+    /// Returns the row of the static list with this number.
+    fn static_list(&self, list: u8) -> u32
+        ensures { result ≡ first_immortal_list self.now.layout + list }
+    {
+        let words = self.heap.words();
+        words.layout_is_plain();
+        FRONT_ROWS + u32::from(words.workers()) * words.block_size(1) + u32::from(list)
     }
 
     /// `newref`: makes a reference to an object that a variable owns or borrows.

@@ -5,7 +5,7 @@ ghost use Rattle.brc_model.specs.Bounded.{call_limit};
 ghost use Rattle.brc_model.specs.Threads.{function_at};
 ghost use Rattle.brc_table.specs.Hands.{IsOf};
 ghost use Rattle.brc_work.specs.Calls.{HasCalled};
-ghost use Rattle.brc_work.specs.Fits.{IsReady};
+ghost use Rattle.brc_work.specs.Fits.{IsReady, IsHeapOf};
 ghost use Rattle.brc_work.specs.Runs.{RanBy, LooksAndCalls};
 ghost use Rattle.brc_work.specs.Totals.{Asked, no_totals, totals_of, is_done};
 ghost use Rattle.brc_work.specs.Traces.{program_of};
@@ -48,6 +48,7 @@ impl<'h, T: Drop> Worker<'h, T> {
         requires ready { IsReady hand.old }
         requires function { function < length checked.now.module.functions }
         requires parameters { (function_at checked.now.module.functions function).parameters ≡ [] }
+        requires heap { IsHeapOf checked.now.module self.now }
         ensures of { IsOf self.now hand.new }
         ensures called { HasCalled hand.old hand.new }
         ensures created { (totals_of result).created + hand.old.view.actor.used ≡ hand.new.view.actor.used }
@@ -96,6 +97,7 @@ impl<'h, T: Drop> Worker<'h, T> {
         requires ready { IsReady hand.old }
         requires function { function < length checked.now.module.functions }
         requires parameters { (function_at checked.now.module.functions function).parameters ≡ [] }
+        requires heap { IsHeapOf checked.now.module self.now }
         ensures of { IsOf self.now hand.new }
         ensures called { HasCalled hand.old hand.new }
         ensures asked { Asked H.answers H.counts host.old host.new totals.old totals.new
@@ -130,6 +132,7 @@ impl<'h, T: Drop> Worker<'h, T> {
     ) -> bool
         requires function { function < length checked.now.module.functions }
         requires parameters { (function_at checked.now.module.functions function).parameters ≡ [] }
+        requires heap { IsHeapOf checked.now.module self.now }
         requires some { 0 < left.old }
         requires of { IsOf self.now hand.old }
         requires ready { IsReady hand.old }

@@ -6,7 +6,8 @@ ghost use Rattle.brc_model.specs.declared.actor.Status.TheVariants.{Gone};
 ghost use Rattle.brc_model.specs.Threads.{function_at};
 ghost use Rattle.brc_work.specs.Totals.{Asked, no_totals};
 ghost use Rattle.brc_table.specs.Hands.{IsOf};
-ghost use Rattle.brc_work.specs.Workers.{IsFresh, MayBeCalled, HasGone, Ends, job, fresh-prop, called-prop};
+ghost use Rattle.brc_work.specs.Workers.{IsFresh, MayBeCalled, HasGone, Ends, job, fresh-prop, called-prop, heap-prop};
+ghost use Rattle.brc_work.specs.Fits.{IsHeapOf};
 
 use crate::gate::Gate;
 use crate::ran::Ran;
@@ -35,6 +36,7 @@ pub(crate) struct Task<'a, T: Drop, H, G> {
     pub(crate) host: &'a mut H,
     pub(crate) gate: &'a G,
     ghost known: { MayBeCalled checked.now.module function } by { called-prop checked.now.module function },
+    ghost statics: { IsHeapOf checked.now.module heap.now } by { heap-prop checked.now.module heap.now },
     ghost fresh: { IsFresh heap.now thread hand } by { fresh-prop heap.now thread hand },
 }
 
@@ -119,6 +121,7 @@ fn calls_and_leaves<R: Wait, T: Drop, H: Host<Res = T>, G: Gate>(
     requires fresh { IsFresh heap.now hand.old.view.thread hand.old }
     requires function { function < length checked.now.module.functions }
     requires parameters { (function_at checked.now.module.functions function).parameters ≡ [] }
+    requires heap { IsHeapOf checked.now.module heap.now }
     ensures gone { HasGone H.answers H.counts
         (job heap.now checked.now.module function times steps hand.old.view.thread) hand.new result }
 {

@@ -4,6 +4,7 @@ ghost use Rattle.std.specs.Prelude.{◌≡◌, ℕ, ◌+◌, ◌<◌, ◌≤◌,
 ghost use Rattle.brc_model.specs.Threads.{function_at};
 ghost use Rattle.brc_table.specs.Hands.{IsOf};
 ghost use Rattle.brc_table.specs.Views.{is_given};
+ghost use Rattle.brc_work.specs.Fits.{IsHeapOf};
 ghost use Rattle.brc_work.specs.Mains.{MayFanOut, KeepsMain};
 ghost use Rattle.brc_work.specs.Workers.{job};
 
@@ -31,6 +32,7 @@ pub(crate) fn tasks_of<'w, T: Drop, H: Host<Res = T>, G: Gate>(
     requires enough { length hosts.old ≤ heap.now.layout.workers }
     requires function { function < length checked.now.module.functions }
     requires parameters { (function_at checked.now.module.functions function).parameters ≡ [] }
+    requires heap { IsHeapOf checked.now.module heap.now }
     requires none { tasks.items ≡ [] }
     requires room { length hosts.old ≤ vec_capacity tasks }
     ensures of { IsOf heap.now main.new }

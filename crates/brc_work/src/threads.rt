@@ -3,6 +3,7 @@
 ghost use Rattle.std.specs.Prelude.{◌≡◌, ℕ, ◌+◌, ◌<◌, ◌≤◌, [], length, vec_len, vec_capacity, slice_index_or, IfOk, IfErr, OnErr};
 ghost use Rattle.brc_model.specs.Threads.{function_at};
 ghost use Rattle.brc_table.specs.Hands.{IsOf};
+ghost use Rattle.brc_work.specs.Fits.{IsHeapOf};
 ghost use Rattle.brc_work.specs.Mains.{MayFanOut, KeepsMain, HasJoinedAll};
 ghost use Rattle.brc_work.specs.Workers.{HasGone, Ends, Job, job};
 
@@ -63,6 +64,7 @@ pub fn fan_out<
     requires enough { length hosts.old ≤ heap.now.layout.workers }
     requires function { function < length checked.now.module.functions }
     requires parameters { (function_at checked.now.module.functions function).parameters ≡ [] }
+    requires heap { IsHeapOf checked.now.module heap.now }
     ensures of { IsOf heap.now main.new }
     ensures kept { KeepsMain main.old.view main.new.view }
     ensures carried { main.new.carried ≡ main.old.carried }

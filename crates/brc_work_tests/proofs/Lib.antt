@@ -1,2 +1,3 @@
 mod Callable
 mod Holding
+pub mod Opening

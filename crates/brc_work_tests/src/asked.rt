@@ -115,7 +115,7 @@ fn noted<R: Wait>(rt: &R, alloc: Global, text: &[u8], asked: Asked<'_>) -> Resul
             others: 0,
         },
     };
-    let (heap, mut main) = opened(alloc, MOST_ROWS)?;
+    let (heap, mut main) = opened(alloc, &checked, MOST_ROWS)?;
     let mut hand = worker_hand(&heap, &mut main)?;
     makes_calls(
         rt,

@@ -4,6 +4,7 @@ ghost use Rattle.std.specs.Prelude.{◌≡◌, ◌<◌, ◌≤◌, true, [], len
 ghost use Rattle.brc_model.specs.Limits.{row_limit};
 ghost use Rattle.brc_model.specs.Threads.{function_at};
 ghost use Rattle.brc_table.specs.Hands.{IsOf};
+ghost use Rattle.brc_work.specs.Fits.{IsHeapOf};
 ghost use Rattle.brc_work_tests.specs.Ready.{HoldsRoot};
 
 use crate::hearing::{Hearing, WORKER};
@@ -53,13 +54,19 @@ pub fn last_function(checked: &Checked) -> Result<usize, Fail>
     }
 }
 
-/// Returns a heap for one worker that has `rows` rows, and main's hand.
-pub fn opened(alloc: Global, rows: u16) -> Result<(Heap<FakeResource>, Hand<FakeResource>), Fail>
+/// Returns a heap of the module for one worker that has `rows` rows, and main's hand.
+#[tactic(auto, using(crate::proofs::Opening::lists_have_rows, crate::proofs::Opening::is_heap_of))]
+pub fn opened(
+    alloc: Global,
+    checked: &Checked,
+    rows: u16,
+) -> Result<(Heap<FakeResource>, Hand<FakeResource>), Fail>
     requires rows { (0 < rows) × (rows ≤ row_limit) }
+    ensures heap { IfOk result (λ made. IsHeapOf checked.now.module made.0) }
     ensures main { IfOk result (λ made. HoldsRoot made.0 made.1) }
     ensures thread { IfOk result (λ made. made.1.view.thread ≡ 0) }
 {
-    Ok(Heap::new(alloc, 1, rows)?)
+    Ok(Heap::new(alloc, 1, rows, checked.module())?)
 }
 
 /// Gives out the worker's hand.
@@ -90,6 +97,7 @@ pub fn makes_calls<R: Wait, H: Host<Res = FakeResource>>(
 ) -> Ran
     requires function { function < length checked.now.module.functions }
     requires parameters { (function_at checked.now.module.functions function).parameters ≡ [] }
+    requires heap { IsHeapOf checked.now.module heap.now }
     requires holds { HoldsRoot heap.now hand.old }
     ensures holds { HoldsRoot heap.now hand.new }
 {

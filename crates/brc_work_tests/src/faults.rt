@@ -83,7 +83,7 @@ const CASES: &[Case] = &[
 #[test]
 fn the_hosts_faults_are_counted(rt: HostRuntime) -> Result<(), Fail> {
     for (name, text, plan, want) in CASES {
-        expect(&rt, rt.alloc(), name, text, (MOST_ROWS, 1, plan), *want)?;
+        expect(&rt, rt.alloc(), name, text, (MOST_ROWS, 1, plan), 0, *want)?;
     }
     Ok(())
 }
@@ -118,7 +118,7 @@ fn without_room_the_host_is_not_asked(rt: HostRuntime) -> Result<(), Fail> {
         ("copy with three rows", 3, [4, 4, 0, 0, 0]),
     ];
     for (name, rows, want) in want {
-        expect(&rt, rt.alloc(), name, COPY, (rows, 1, &[]), want)?;
+        expect(&rt, rt.alloc(), name, COPY, (rows, 1, &[]), 0, want)?;
     }
     Ok(())
 }

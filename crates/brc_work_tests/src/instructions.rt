@@ -153,7 +153,7 @@ const CASES: &[Case] = &[
 #[test]
 fn each_instruction_makes_and_gives_up_what_it_says(rt: HostRuntime) -> Result<(), Fail> {
     for (name, text, plan, want) in CASES {
-        expect(&rt, rt.alloc(), name, text, (MOST_ROWS, 1, plan), *want)?;
+        expect(&rt, rt.alloc(), name, text, (MOST_ROWS, 1, plan), 0, *want)?;
     }
     Ok(())
 }

@@ -3,6 +3,7 @@
 ghost use Rattle.std.specs.Prelude.{◌≡◌, []};
 ghost use Rattle.brc_model.specs.Threads.{function_at};
 ghost use Rattle.brc_table.specs.Hands.{IsOf};
+ghost use Rattle.brc_work.specs.Fits.{IsHeapOf};
 ghost use Rattle.brc_work_tests.specs.Ready.{HoldsRoot};
 
 use crate::calls::{accepted, ended, is_callable, leaves, opened, worker_hand};
@@ -35,6 +36,7 @@ fn works<R: Wait, G: Gate>(
     stop: &AtomicBool,
 ) -> u32
     requires parameters { (function_at checked.now.module.functions 0).parameters ≡ [] }
+    requires heap { IsHeapOf checked.now.module heap.now }
     requires holds { HoldsRoot heap.now hand.old }
     ensures table { IsOf heap.now hand.new }
 {
@@ -88,7 +90,7 @@ fn in_rounds<R: Wait>(rt: &R, alloc: Global, text: &[u8]) -> Result<(u32, [u64; 
         begun: AtomicU32::new(0),
         stop: AtomicBool::new(false),
     };
-    let (heap, mut main) = opened(alloc, MOST_ROWS)?;
+    let (heap, mut main) = opened(alloc, &checked, MOST_ROWS)?;
     let mut hand = worker_hand(&heap, &mut main)?;
     let stopped = works(rt, &heap, &checked, &mut hand, &mut host, &gate, &gate.stop);
     leaves(rt, &heap, &mut main, &mut host);

@@ -22,7 +22,8 @@ use std::thread::Threads;
 pub const MOST_ROWS: u16 = 1024;
 
 /// What a run leads to, as in a report: how many objects were created, closed and are alive, how many calls of the
-/// host failed, and how many closes. The root counts as an object, none doesn't.
+/// host failed, and how many closes. The root counts as an object, and so
+/// does a number in a cell of a static list. None and the static lists don't.
 pub type Counts = [u64; 5];
 
 /// What a run has left.
@@ -48,6 +49,9 @@ pub fn objects(end: &Final<FakeResource>) -> [u64; 3] {
     let mut closed: u64 = 0;
     let mut alive: u64 = 0;
     for row in ROOT..end.rows() {
+        if end.is_immortal(row) {
+            continue;
+        }
         if end.born(row) {
             created = created.saturating_add(1);
         }
@@ -80,7 +84,7 @@ pub fn run_over<R: Wait>(
     let function = last_function(&checked)?;
     let mut host = FakeHost::new(plan);
     let gate = Hearing::new();
-    let (heap, mut main) = opened(alloc, rows)?;
+    let (heap, mut main) = opened(alloc, &checked, rows)?;
     let mut hand = worker_hand(&heap, &mut main)?;
     let ran = makes_calls(
         rt, &heap, &checked, function, times, steps, &mut hand, &mut host, &gate,
@@ -110,6 +114,7 @@ pub fn run_over<R: Wait>(
 /// thread of its own and with at most `steps` instructions. Then main leaves, over the first host, and the heap ends.
 /// Returns how each worker's run has ended, the objects that were created, closed and are alive, and how many closes of
 /// main's have failed.
+#[tactic(auto, using(crate::proofs::Opening::lists_have_rows, crate::proofs::Opening::is_heap_of))]
 pub fn run_apart<R: Threads + Wait + Sync, G: Gate + Sync>(
     rt: &R,
     alloc: Global,
@@ -129,7 +134,7 @@ pub fn run_apart<R: Threads + Wait + Sync, G: Gate + Sync>(
     if !is_callable(checked, function) {
         return Err("the module has the function, which has no parameters")?;
     }
-    let (heap, mut main) = Heap::new(alloc, threads, rows)?;
+    let (heap, mut main) = Heap::new(alloc, threads, rows, checked.module())?;
     let gone = fan_out(
         rt, alloc, &heap, &mut main, checked, function, times, steps, hosts, gate,
     )?;
@@ -183,14 +188,16 @@ pub fn run_in_thread<R: Threads + Wait + Sync>(
     })
 }
 
-/// Asserts what a run without a bound leads to, in a thread of its own too. In every run the worker counts a birth for
-/// each object but the root, the gate hears each call begin and end, and the host has closed what it has opened.
+/// Asserts what a run without a bound leads to, in a thread of its own too. `numbers` is how many numbers the module's
+/// static lists have. In every run the worker counts a birth for each object but those and the root, the gate hears
+/// each call begin and end, and the host has closed what it has opened.
 pub fn expect<R: Threads + Wait + Sync + Abort>(
     rt: &R,
     alloc: Global,
     name: &str,
     text: &[u8],
     run: (u16, u32, &[u64]),
+    numbers: u32,
     want: Counts,
 ) -> Result<(), Fail> {
     let (rows, times, plan) = run;
@@ -200,7 +207,7 @@ pub fn expect<R: Threads + Wait + Sync + Abort>(
     assert_eq!(rt; ran.counts, want, "{name}");
     assert_eq!(rt;
         u64::from(ran.births),
-        want[0].saturating_sub(1),
+        want[0].saturating_sub(1 + u64::from(numbers)),
         "births of {name}"
     );
     assert_eq!(rt; ran.heard, Some(2 * u64::from(times)), "calls of {name}");

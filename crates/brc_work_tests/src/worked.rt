@@ -74,6 +74,30 @@ const EIGHT_OPEN: &[u8] =
     func e\ncall v5 d else @2\nret v5\nfail\nend\nfunc g\ncall v6 e else @2\nret v6\nfail\nend\n\
     func h\ncall v7 g else @2\nret v7\nfail\nend\nfunc f\ncall v0 h else @2\ndrop v0\nfail\nend\n";
 
+/// Takes a static list, and the second number out of it.
+pub const TAKE: &[u8] =
+    b"module 3\nstatic 5 6\nfunc f\ntake v1 0\nlock v1\nfetch v2 v1 1 else @6\nunlock v1\ndrop v2\n\
+    goto @7\nunlock v1\ndrop v1\nfail\nend\n";
+
+/// Puts none in place of a static list's first number.
+pub const EMPTY_FIRST: &[u8] =
+    b"module 3\nstatic 5 6\nfunc f\ntake v1 0\nnone v2\nlock v1\nset v1 0 v2 else @4\nunlock v1\n\
+    drop v1\nfail\nend\n";
+
+/// Puts a number into the last cell of a long list.
+const LAST_OF_64: &[u8] =
+    b"module 3\nfunc f\nlist v1 64 else @6\nnum v2 1 else @5\nlock v1\nset v1 63 v2 else @4\nunlock v1\n\
+    drop v1\nfail\nend\n";
+
+/// Gives up a second reference to a static list while it is locked.
+const TWICE_TAKEN: &[u8] =
+    b"module 3\nstatic 5\nfunc f\ntake v1 0\ntake v2 0\nlock v1\ndrop v2\nunlock v1\ndrop v1\nfail\nend\n";
+
+/// Puts the second static list into itself, in place of its number.
+const STATIC_IN_ITSELF: &[u8] =
+    b"module 3\nstatic 5 6\nstatic 7\nfunc f\ntake v1 1\nlock v1\nput v1 0 v1 else @3\nunlock v1\n\
+    drop v1\nfail\nend\n";
+
 const CASES: &[Case] = &[
     ("nothing", NOTHING, MOST_ROWS, 1, [1, 1, 0, 0, 0]),
     (
@@ -159,12 +183,31 @@ const CASES: &[Case] = &[
         5,
         [4, 4, 0, 0, 0],
     ),
+    ("a list of 64 cells", LAST_OF_64, 4, 1, [3, 3, 0, 0, 0]),
 ];
+
+/// Runs of modules with static lists, whose numbers count as objects: besides, how many numbers the lists have.
+const STATIC_CASES: &[(Case, u32)] = &[
+    (("take", TAKE, 4, 1, [3, 1, 2, 0, 0]), 2),
+    (("take, 100 times", TAKE, 4, 100, [3, 1, 2, 0, 0]), 2),
+    (("empty first", EMPTY_FIRST, 4, 1, [3, 2, 1, 0, 0]), 2),
+    (("twice taken", TWICE_TAKEN, 4, 10, [2, 1, 1, 0, 0]), 1),
+    (("in itself", STATIC_IN_ITSELF, 4, 1, [4, 2, 2, 0, 0]), 3),
+];
+
+#[test]
+fn worked_runs_with_static_lists(rt: HostRuntime) -> Result<(), Fail> {
+    for ((name, text, rows, times, want), numbers) in STATIC_CASES {
+        let run = (*rows, *times, [].as_slice());
+        expect(&rt, rt.alloc(), name, text, run, *numbers, *want)?;
+    }
+    Ok(())
+}
 
 #[test]
 fn worked_runs_close_all_but_a_list_in_itself(rt: HostRuntime) -> Result<(), Fail> {
     for (name, text, rows, times, want) in CASES {
-        expect(&rt, rt.alloc(), name, text, (*rows, *times, &[]), *want)?;
+        expect(&rt, rt.alloc(), name, text, (*rows, *times, &[]), 0, *want)?;
     }
     Ok(())
 }
@@ -202,7 +245,7 @@ fn two_runs<R: Wait>(
     let checked = accepted(alloc, text)?;
     let function = last_function(&checked)?;
     let mut host = FakeHost::new(&[]);
-    let (heap, mut main) = opened(alloc, MOST_ROWS)?;
+    let (heap, mut main) = opened(alloc, &checked, MOST_ROWS)?;
     let mut hand = worker_hand(&heap, &mut main)?;
     let (gate, other) = (Hearing::new(), Hearing::new());
     let first = makes_calls(

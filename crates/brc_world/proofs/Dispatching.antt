@@ -3,7 +3,7 @@ use Rattle.std.proofs.Common.{ℕ, zero, suc, Bool, true, false, cond, List, [],
 use Rattle.std.specs.Prelude.{is_some, slice_get}
 use Rattle.std.specs.List.{list_all}
 use Rattle.brc_lang.specs.declared.module.Instr.{Instr}
-use Rattle.brc_lang.specs.declared.module.Instr.TheVariants.{Num, List as ListObject, NoneObject, Newref, Move as MoveReference, Drop, Lock, Unlock, Borrow, Fetch, Set, Put, Open, Connect, Read, Write, Goto, Again, Ret, Fail, As, Call}
+use Rattle.brc_lang.specs.declared.module.Instr.TheVariants.{Num, List as ListObject, NoneObject, Take, Newref, Move as MoveReference, Drop, Lock, Unlock, Borrow, Fetch, Set, Put, Open, Connect, Read, Write, Goto, Again, Ret, Fail, As, Call}
 use Rattle.brc_lang.specs.declared.module.Function.{Function}
 use Rattle.brc_model.specs.declared.actor.OpenCall.{OpenCall}
 use Rattle.brc_model.specs.Threads.{function_in, row_of, entry_variables}
@@ -51,6 +51,7 @@ instruction_steps layout t used before context at variables (Some (Num to value 
 instruction_steps layout t used before context at variables (Some (ListObject to cells otherwise)) =
     either_steps (has_room layout t used) _ _ tt tt
 instruction_steps layout t used before context at variables (Some (NoneObject to)) = tt
+instruction_steps layout t used before context at variables (Some (Take to list)) = tt
 instruction_steps layout t used before context at variables (Some (Newref to from)) =
     row_steps (row_of variables from) _ (λ row. tt)
 instruction_steps layout t used before context at variables (Some (MoveReference to from)) =

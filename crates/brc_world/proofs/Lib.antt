@@ -3,6 +3,7 @@ pub mod Arguments
 pub mod Stopping
 pub mod Calling
 pub mod Storing
+pub mod FirstWords
 pub mod Giving
 pub mod Dispatching
 pub mod Starting

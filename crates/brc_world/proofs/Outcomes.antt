@@ -8,10 +8,9 @@ use Rattle.std.proofs.lemmas.Option.{slice_get-get_or, slice_get-map}
 use Rattle.brc_model.specs.declared.address.Address.{Address}
 use Rattle.brc_model.specs.declared.thread.Choice.{Choice}
 use Rattle.brc_model.specs.declared.thread.Call.{Call}
-use Rattle.brc_model.specs.StepMachine.{first_layout}
 use Rattle.brc_model.specs.World.{World, first_world, step, IsReachable}
 use Rattle.brc_model.specs.Actions.{StepActor}
-use Rattle.brc_model.specs.StepMachine.{first_memory, main_actor, worker_actor}
+use Rattle.brc_model.specs.StepMachine.{layout_of, first_memory, main_actor, worker_actor}
 use Rattle.brc_check.specs.Accepted.{Accepted}
 use Rattle.brc_check.specs.Tables.{states_of}
 use Rattle.brc_world.specs.declared.did.Did.{Did}
@@ -26,6 +25,8 @@ use Rattle.brc_world.proofs.Stepping.{with_words}
 use Rattle.brc_model.specs.declared.layout.Layout.{Layout}
 use Rattle.brc_model.specs.Layout.{row_count}
 use Rattle.brc_model.specs.Limits.{row_limit}
+use Rattle.brc_model.proofs.Keeping.FirstMachine.{has_lines, few_cells}
+use Rattle.brc_effect.proofs.FewNumbers.{few_numbers}
 use Rattle.brc_lang.specs.declared.module.Module.{Module}
 
 abbrev pub contents : Accepted → Layout → Columns → List Thread → Faults → Contents
@@ -42,6 +43,7 @@ are_of p c world few workers = record {
   few_rows = few;
   few_cells = world.few_cells;
   few_lists = world.few_lists;
+  few_numbers = world.few_numbers;
 }
 
 -- the contract of one step: the words, the thread and the counts of faults after it, or the same ones if memory was
@@ -114,6 +116,7 @@ sized p layout old new threads t after f g world same_rows same_threads same_cel
       cells = same_cells ∙ world.cells;
       few_cells = world.few_cells;
       few_lists = world.few_lists;
+      few_numbers = world.few_numbers;
     }
 
 goes : (p : Accepted) (layout : Layout) (old new : Columns) (threads : List Thread) (t : ℕ) (choice : Choice)
@@ -210,15 +213,15 @@ first_of p rows calls = first_world p.module (states_of p.module p.table) rows c
 
 pub first_seen : (p : Accepted) (rows : ℕ) (layout : Layout) (calls : List Call) (words : Columns)
     (threads : List Thread)
-    → layout ≡ first_layout rows calls → word_in words ≡ first_memory layout.workers
-    → map actor_of threads ≡ main_actor ∷ map worker_actor calls
+    → layout ≡ layout_of p.module (length calls) rows → word_in words ≡ first_memory p.module.statics layout
+    → map actor_of threads ≡ main_actor layout ∷ map worker_actor calls
     → model_of (contents p layout words threads no_faults) ≡ first_of p rows calls
 first_seen p rows layout calls words threads so word actors =
     rw (word, actors, so) refl
 
 pub first_is : (p : Accepted) (rows : ℕ) (layout : Layout) (calls : List Call) (words : Columns) (threads : List Thread)
-    → layout ≡ first_layout rows calls → word_in words ≡ first_memory layout.workers
-    → map actor_of threads ≡ main_actor ∷ map worker_actor calls
+    → layout ≡ layout_of p.module (length calls) rows → word_in words ≡ first_memory p.module.statics layout
+    → map actor_of threads ≡ main_actor layout ∷ map worker_actor calls
     → length words.local ≡ row_count layout → length words.thread ≡ 1 + layout.workers → words.width ≡ layout.cells
     → IsReachable p.module (first_of p rows calls) → IsWorld p.module (contents p layout words threads no_faults)
 first_is p rows layout calls words threads so word actors same_rows same_threads same_cells reachable =
@@ -231,6 +234,8 @@ first_is p rows layout calls words threads so word actors same_rows same_threads
       rows = same_rows;
       threads = same_threads ∙ sym count;
       cells = same_cells;
-      few_cells = rw so (omega arith);
-      few_lists = rw so (omega arith);
+      few_cells = rw so (few_cells p.module (length calls) rows);
+      few_lists = rw so (has_lines p.module (length calls) rows reachable.fits).few;
+      few_numbers =
+          rw so (few_numbers p.module (length calls) rows (has_lines p.module (length calls) rows reachable.fits));
     }

@@ -15,19 +15,19 @@ use Rattle.brc_model.specs.declared.address.Address.{Address}
 use Rattle.brc_model.specs.declared.address.Address.TheVariants.{Local, Shared, Gate, KindOf, Marks, Cell, Slot, Resource, ThreadWord}
 use Rattle.brc_model.specs.declared.layout.Layout.{Layout}
 use Rattle.brc_model.specs.Layout.{mark_words_of}
-use Rattle.brc_model.specs.Limits.{root_cells, row_limit, immortal_limit}
+use Rattle.brc_model.specs.Limits.{root_cells, row_limit, immortal_limit, number_limit}
 use Rattle.brc_model.specs.Within.{IsThere}
 use Rattle.brc_model.specs.Machine.{written}
-use Rattle.brc_model.specs.StepMachine.{first_memory}
+use Rattle.brc_world.specs.FirstWords.{plain_words}
 use Rattle.brc_world.specs.Storage.{mark_room, Columns, word_in, AreColumns, HasWord, AreOf, IsStored}
 
 -- ---- the words of a layout
 
 -- There is room for the mark words of each block.
 few_words : (layout : Layout) (t : ℕ) → layout.rows ≤ row_limit → layout.immortal_lists ≤ immortal_limit
-    → mark_words_of layout t ≤ mark_room
-few_words layout zero rows lists = omega (arith, lists)
-few_words layout (suc t) rows lists = omega (arith, rows)
+    → layout.numbers ≤ number_limit → mark_words_of layout t ≤ mark_room
+few_words layout zero rows lists numbers = omega (arith, lists, numbers)
+few_words layout (suc t) rows lists numbers = omega (arith, rows)
 
 -- The columns of a world have each word that its layout has.
 pub has_word : (layout : Layout) (c : Columns) (a : Address) → AreOf layout c → IsThere layout a → HasWord c a
@@ -35,8 +35,10 @@ has_word layout c (Local x) of there = omega (arith, of.rows, there)
 has_word layout c (Shared x) of there = omega (arith, of.rows, there)
 has_word layout c (Gate x) of there = omega (arith, of.rows, there)
 has_word layout c (KindOf x) of there = omega (arith, of.rows, there)
-has_word layout c (Marks t w) of there =
-    (omega (arith, of.threads, there.0), omega (arith, few_words layout t of.few_rows of.few_lists, there.1))
+has_word layout c (Marks t w) of there = (
+  omega (arith, of.threads, there.0),
+  omega (arith, few_words layout t of.few_rows of.few_lists of.few_numbers, there.1),
+)
 has_word layout c (Cell x i) of there = (omega (arith, of.rows, there.0), omega (arith, of.cells, there.1))
 has_word layout c (Slot x) of there = omega (arith, of.rows, there)
 has_word layout c (Resource x) of there = omega (arith, of.rows, there)
@@ -227,10 +229,10 @@ no_word : (n i : ℕ) (b : Bool) → ◌≡◌ {A = ℕ} (if b then get_or (repl
 no_word n i true = all_alike n i 0
 no_word n i false = refl
 
--- The first columns have the model's first words.
-first_words : (workers width n more : ℕ) → word_in (first_columns workers width n more) ≡ first_memory workers
+-- The first columns have the first words of a world without immortal lists.
+first_words : (workers width n more : ℕ) → word_in (first_columns workers width n more) ≡ plain_words workers
 first_words workers width n more =
-    fun_ext (λ a. elim a as (λ b. word_in (first_columns workers width n more) b ≡ first_memory workers b) [
+    fun_ext (λ a. elim a as (λ b. word_in (first_columns workers width n more) b ≡ plain_words workers b) [
       | Local zero ↦ refl
       | Local (suc zero) ↦ refl
       | Local (suc (suc x)) ↦ all_alike more x 0
@@ -251,7 +253,7 @@ two_set : (n more v a b : ℕ) → n ≡ suc (suc more)
     → slice_set (slice_set (replicate n v) 0 a) 1 b ≡ a ∷ b ∷ replicate more v
 two_set n more v a b e = rw e refl
 
--- The columns that the code makes have the model's first words.
+-- The columns that the code makes have the first words of a world without immortal lists.
 pub words_as : (workers width n more : ℕ) (local kind shared gate mark cell slot resource thread : List ℕ)
     (none root none_kind root_kind : ℕ)
     → n ≡ suc (suc more)
@@ -273,7 +275,7 @@ pub words_as : (workers width n more : ℕ) (local kind shared gate mark cell sl
       resource = resource;
       thread = thread;
       width = width;
-    }) ≡ first_memory workers
+    }) ≡ plain_words workers
 words_as workers width n more local kind shared gate mark cell slot resource thread none root none_kind root_kind e l v
     r k nk rk s g m c o p t =
     rw (

@@ -1,4 +1,5 @@
 pub mod Storage
+pub mod FirstWords
 pub mod OpenCalls
 pub mod Actors
 pub mod Questions

@@ -2,7 +2,7 @@
 use Rattle.std.specs.Prelude.{◌≡◌, ℕ, ◌+◌, ◌*◌, ◌<◌, ◌≤◌, nat_lt, if◌then◌else◌, List, length}
 use Rattle.std.specs.List.{slice_index_or}
 use Rattle.brc_word.specs.Words.{fresh_word}
-use Rattle.brc_model.specs.Limits.{cell_limit, row_limit, immortal_limit}
+use Rattle.brc_model.specs.Limits.{cell_limit, row_limit, immortal_limit, number_limit}
 use Rattle.brc_model.specs.Machine.{written}
 use Rattle.brc_model.specs.declared.address.Address.{Address}
 use Rattle.brc_model.specs.declared.address.Address.TheVariants.{Local, Shared, Gate, KindOf, Marks, Cell, Slot, Resource, ThreadWord}
@@ -69,6 +69,7 @@ pub record AreOf (layout : Layout) (c : Columns) : Type 0 where
   pub few_rows : layout.rows ≤ row_limit
   pub few_cells : layout.cells ≤ cell_limit
   pub few_lists : layout.immortal_lists ≤ immortal_limit
+  pub few_numbers : layout.numbers ≤ number_limit
 
 -- the columns after one word is written; the numbers of rows, of threads and of each row's cells stay
 pub record IsStored (old : Columns) (address : Address) (word : ℕ) (new : Columns) : Type 0 where

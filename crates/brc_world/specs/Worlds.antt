@@ -13,7 +13,7 @@ use Rattle.brc_check.specs.Tables.{states_of}
 use Rattle.brc_world.specs.declared.faults.Faults.{Faults}
 use Rattle.brc_world.specs.Storage.{Columns, word_in}
 use Rattle.brc_model.specs.Layout.{row_count}
-use Rattle.brc_model.specs.Limits.{cell_limit, immortal_limit}
+use Rattle.brc_model.specs.Limits.{cell_limit, immortal_limit, number_limit}
 
 pub record Contents : Type 0 where
   pub accepted : Accepted
@@ -43,6 +43,7 @@ pub record IsWorld (p : Module) (c : Contents) : Type 0 where
   pub cells : c.words.width ≡ c.layout.cells
   pub few_cells : c.layout.cells ≤ cell_limit
   pub few_lists : c.layout.immortal_lists ≤ immortal_limit
+  pub few_numbers : c.layout.numbers ≤ number_limit
 
 -- the choice by which the thread's next step ends by the exit
 abbrev pub choice_of : Exit → Choice

@@ -15,7 +15,7 @@ use crate::dispatch::inside::go_on_inside;
 use crate::dispatch::items::ask_for_cell;
 use crate::dispatch::kinds::ask_kind;
 use crate::dispatch::locks::{lock, unlock};
-use crate::dispatch::references::{give_up, hand_on, name_again, name_none};
+use crate::dispatch::references::{give_up, hand_on, name_again, name_none, take_list};
 use crate::dispatch::stops::go_on_stopping;
 use crate::dispatch::ways::{again, go};
 use crate::host_call::HostCall;
@@ -229,6 +229,7 @@ fn begin(
             birth(to, word, otherwise, layout, number, thread, left, start);
         }
         Instr::NoneObject { to } => name_none(to, thread, left, start),
+        Instr::Take { to, list } => take_list(to, list, layout, thread, left, start),
         Instr::Newref { to, from } => name_again(to, from, thread, left, start),
         Instr::Move { to, from } => hand_on(to, from, thread, left, start),
         Instr::Drop { from } => give_up(from, thread, left, start),

@@ -1,15 +1,18 @@
 //! The words that threads share.
 
-ghost use Rattle.std.specs.Prelude.{◌≡◌, ◌+◌, ◌*◌, ◌≤◌, length, IfOk};
-ghost use Rattle.brc_model.specs.Limits.{worker_limit};
+ghost use Rattle.std.specs.Prelude.{◌≡◌, ◌+◌, ◌*◌, ◌<◌, ◌≤◌, length, IfOk};
+ghost use Rattle.brc_model.specs.FirstRows.{HasLines};
+ghost use Rattle.brc_model.specs.Limits.{worker_limit, total_limit};
 ghost use Rattle.brc_model.specs.StepMachine.{first_memory};
+ghost use Rattle.brc_world.specs.FirstWords.{plain_words, with_number, with_list};
 ghost use Rattle.brc_world.specs.Storage.{word_in, HasWord, IsStored};
 ghost use Rattle.brc_model.specs.Layout.{row_count};
 
 use crate::no_memory::NoMemory;
-use brc_effect::rows::{ROOT_CELLS, row_count};
+use brc_effect::rows::{ROOT_CELLS, first_number, immortal_list, row_count};
+use brc_lang::Sequence;
 use brc_model::{Address, Layout};
-use brc_word::values::{FREE, LIST, NONE, RUNNING};
+use brc_word::values::{FREE, LIST, NONE, NUM, RUNNING};
 use brc_word::{Phase, Shared, kind_word, local_word, pack};
 use std::alloc::Global;
 use std::marker::Model;
@@ -66,6 +69,9 @@ impl Model for Memory {
 /// The number of mark words of each thread: no block has more rows than they have marks.
 const MARK_ROOM: usize = 17;
 
+/// The local count of an immortal object.
+const IMMORTAL: u32 = u32::MAX;
+
 impl Memory {
     /// Returns the number of rows.
     pub fn rows(&self) -> usize
@@ -117,13 +123,81 @@ impl Memory {
             Address::ThreadWord { thread } => self.thread[thread as usize] = word,
         }
     }
+
+    /// Makes the row an immortal list as long as the line, whose cells name numbers with the line's values. The first
+    /// of these has the row `first`, and each other the next one.
+    fn put_list(&mut self, list: u32, first: u32, line: &[u32])
+        requires list { list < length self.old.local }
+        requires numbers { first + length line.now ≤ length self.old.local }
+        requires cells { length line.now ≤ self.old.width }
+        requires small { length self.old.local ≤ total_limit }
+        ensures words { word_in self.new ≡ with_list (word_in self.old) list first line.now }
+        ensures rows { length self.new.local ≡ length self.old.local }
+        ensures threads { length self.new.thread ≡ length self.old.thread }
+        ensures width { self.new.width ≡ self.old.width }
+    {
+        self.store(Address::Local { row: list }, local_word(Some(0), IMMORTAL));
+        self.store(
+            Address::KindOf { row: list },
+            kind_word(LIST, line.len() as u32),
+        );
+        let mut cell = 0u32;
+        for value in line {
+            self.put_number(list, cell, first + cell, *value);
+            cell += 1;
+        }
+    }
+
+    /// Makes the row a number of this value, which main owns and the list's cell names.
+    fn put_number(&mut self, list: u32, cell: u32, row: u32, value: u32)
+        requires list { list < length self.old.local }
+        requires number { row < length self.old.local }
+        requires cell { cell < self.old.width }
+        requires small { length self.old.local ≤ total_limit }
+        ensures words { word_in self.new ≡ with_number (word_in self.old) list cell row value }
+        ensures rows { length self.new.local ≡ length self.old.local }
+        ensures threads { length self.new.thread ≡ length self.old.thread }
+        ensures width { self.new.width ≡ self.old.width }
+    {
+        self.store(Address::Local { row }, local_word(Some(0), 1));
+        self.store(Address::KindOf { row }, kind_word(NUM, value));
+        self.store(Address::Cell { row: list, cell }, u64::from(row) + 1);
+    }
 }
 
-/// Returns the words before any step, or `NoMemory` if memory is refused. None is immortal. The root is a list of eight
-/// cells; main owns it, and its local count is one for main and one for each worker.
-pub fn first_memory(alloc: Global, layout: Layout) -> Result<Memory, NoMemory>
+/// Returns the words before any step, with these static lines, or `NoMemory` if memory is refused. None and the static
+/// lines' lists are immortal. The root is a list of eight cells; main owns it, and its local count is one for main and
+/// one for each worker. Each cell of a static line's list names a number of its own, which main owns.
+pub fn first_memory(
+    alloc: Global,
+    layout: Layout,
+    statics: &[Sequence<u32>],
+) -> Result<Memory, NoMemory>
+    requires few { layout.workers ≤ worker_limit }
+    requires lines { HasLines statics.now layout }
+    requires small { row_count layout ≤ total_limit }
+    ensures words { IfOk result (λ memory. word_in memory ≡ first_memory statics.now layout) }
+    ensures rows { IfOk result (λ memory. length memory.local ≡ row_count layout) }
+    ensures threads { IfOk result (λ memory. length memory.thread ≡ 1 + layout.workers) }
+    ensures width { IfOk result (λ memory. memory.width ≡ layout.cells) }
+{
+    let mut memory = rooted_memory(alloc, layout)?;
+    let mut list = immortal_list(layout, 0);
+    let mut number = first_number(layout);
+    for line in statics {
+        let values = line.as_slice();
+        memory.put_list(list, number, values);
+        list += 1;
+        number += values.len() as u32;
+    }
+    Ok(memory)
+}
+
+/// Returns the words before any step, but for those of static lines' lists and of their numbers, or `NoMemory` if
+/// memory is refused.
+fn rooted_memory(alloc: Global, layout: Layout) -> Result<Memory, NoMemory>
     requires { layout.workers ≤ worker_limit }
-    ensures words { IfOk result (λ memory. word_in memory ≡ first_memory layout.workers) }
+    ensures words { IfOk result (λ memory. word_in memory ≡ plain_words layout.workers) }
     ensures rows { IfOk result (λ memory. length memory.local ≡ row_count layout) }
     ensures threads { IfOk result (λ memory. length memory.thread ≡ 1 + layout.workers) }
     ensures width { IfOk result (λ memory. memory.width ≡ layout.cells) }
@@ -135,7 +209,7 @@ pub fn first_memory(alloc: Global, layout: Layout) -> Result<Memory, NoMemory>
         phase: Phase::Default,
     });
     let mut local = vec![in alloc; 0u64; n]?;
-    local[0] = local_word(Some(0), u32::MAX);
+    local[0] = local_word(Some(0), IMMORTAL);
     local[1] = local_word(Some(0), 1 + workers as u32);
     let mut kind = vec![in alloc; 0u64; n]?;
     kind[0] = kind_word(NONE, 0);

@@ -27,12 +27,12 @@ use crate::scratch::Scratch;
 use crate::tally::{kind_numbered, running_in};
 use crate::thread::Thread;
 use brc_check::Checked;
-use brc_effect::Blocks;
-use brc_effect::rows::{TEXT_CELLS, is_immortal_row};
+use brc_effect::rows::is_immortal_row;
+use brc_effect::{Blocks, layout_of};
 use brc_lang::Sequence;
 use brc_model::{
-    Address, Call, Choice, Exit, Layout, Status, steps_are_within, steps_move,
-    stops_give_up_what_is_owned, worlds_are_small, worlds_lead_on,
+    Address, Call, Choice, Exit, Status, steps_are_within, steps_move, stops_give_up_what_is_owned,
+    worlds_are_small, worlds_lead_on,
 };
 use brc_report::{Left, Tally};
 use brc_word::{is_closed, kind_number};
@@ -77,7 +77,8 @@ impl<'a> Model for World<'a> {
 
 impl<'a> World<'a> {
     /// Returns the world before any step, with main and one worker for each of the 1 to 32 calls. Each worker has
-    /// `rows` rows of its own, 1 to 1024. Returns `NoMemory` if memory is refused.
+    /// `rows` rows of its own, 1 to 1024. Each static line of the module is an immortal list from the start. Returns
+    /// `NoMemory` if memory is refused.
     pub fn new(
         alloc: Global,
         checked: &'a Checked,
@@ -93,18 +94,15 @@ impl<'a> World<'a> {
             (states_of checked.now.module checked.now.table) rows calls.now) }
     {
         worlds_lead_on();
+        worlds_are_small();
         checked.states_are_true();
-        let layout = Layout {
-            workers: workers as u8,
-            rows,
-            cells: TEXT_CELLS,
-            immortal_lists: 0,
-        };
+        let module = checked.module();
+        let layout = layout_of(module, workers as u8, rows);
         Ok(World {
             accepted: checked,
             blocks: Blocks::new(layout),
-            memory: first_memory(alloc, layout)?,
-            threads: first_threads(alloc, calls)?,
+            memory: first_memory(alloc, layout, module.statics.as_slice())?,
+            threads: first_threads(alloc, layout, calls)?,
             faults: Faults {
                 calls: 0,
                 closes: 0,

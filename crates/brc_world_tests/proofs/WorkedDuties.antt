@@ -29,7 +29,7 @@ use Rattle.brc_model.specs.Machine.{used_by, locked_by, lent_by}
 
 -- four workers of four rows
 four : Layout
-four = record { workers = 4; rows = 4; cells = 8; immortal_lists = 0 }
+four = record { workers = 4; rows = 4; cells = 8; immortal_lists = 0; numbers = 0 }
 
 -- the kind words of the number 7, a list of one cell, a file and a socket
 number : ℕ

@@ -13,6 +13,8 @@ mod pages;
 #[cfg(test)]
 mod schedules;
 #[cfg(test)]
+mod statics;
+#[cfg(test)]
 mod steps;
 #[cfg(test)]
 mod stops;

@@ -8,7 +8,7 @@ use std::test::*;
 
 const CODES: &[&str] = &[
     "C1", "C2", "C3", "C4", "C5", "C6", "C7", "C8", "C9", "C10", "C11", "C12", "L1", "L2", "L3",
-    "L4", "L5", "L6", "L7", "L8", "L9",
+    "L4", "L5", "L6", "L7", "L8", "L9", "L10",
 ];
 
 fn joined(alloc: Global, lines: &[ExampleLine]) -> Result<Vec<u8>, Fail> {
@@ -61,7 +61,7 @@ fn examples_have_their_code(rt: HostRuntime) -> Result<(), Fail> {
 
 #[test]
 fn other_words_name_no_code(rt: HostRuntime) -> Result<(), Fail> {
-    for word in ["", "C", "C0", "C13", "L0", "L10", "c1", "C1 ", "C01", "11"] {
+    for word in ["", "C", "C0", "C13", "L0", "L11", "c1", "C1 ", "C01", "11"] {
         assert_eq!(rt; topic_named(word.as_bytes()), None, "{word}");
     }
     Ok(())

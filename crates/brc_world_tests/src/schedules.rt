@@ -4,9 +4,9 @@ ghost use Rattle.brc_schedule.specs.Text.{IsSchedule};
 ghost use Rattle.brc_world_tests.specs.Callable.{HasCallableEnds};
 
 use crate::interleavings::{CLEAR_AND_KEEP, SWAP_AND_CLEAR};
-use crate::steps::{accepted_text, counted, last_call};
+use crate::steps::{accepted_text, last_call, numbers, tally};
 use brc_check::Checked;
-use brc_world::{Call, Schedule, World, read_schedule};
+use brc_world::{Call, Schedule, Tally, World, read_schedule};
 use std::alloc::Global;
 use std::test::*;
 
@@ -152,28 +152,33 @@ const RUNS: &[(&str, &[u8], &[u8], [u64; 7])] = &[
     ),
 ];
 
-/// Runs the schedule over a world of two workers, of which the first one calls the first function once, and the second
-/// one the last function. Returns the numbers of the tally afterwards. Memory isn't refused here.
-fn tally_after(alloc: Global, checked: &Checked, schedule: &Schedule) -> Result<[u64; 7], Fail>
+/// Runs the schedule over a world of one worker, which calls the last function once, or of two, of which the first one
+/// calls the first function, and the second one the last. Returns the tally afterwards. Memory isn't refused here.
+fn tally_after(alloc: Global, checked: &Checked, schedule: &Schedule) -> Result<Tally, Fail>
     requires functions { HasCallableEnds checked.now.module }
     requires schedule { IsSchedule schedule.now }
 {
+    let last = last_call(checked);
+    if schedule.workers == 1 {
+        let mut world = World::new(alloc, checked, 1, schedule.rows, &[last])?;
+        world.run(schedule)?;
+        return Ok(tally(alloc, &world)?);
+    }
     if schedule.workers != 2 {
-        return Err("the schedule has two workers")?;
+        return Err("the schedule has one worker or two")?;
     }
     let one = Call {
         function: 0,
         times: 1,
     };
-    let calls = [one, last_call(checked)];
+    let calls = [one, last];
     let mut world = World::new(alloc, checked, 2, schedule.rows, &calls)?;
     world.run(schedule)?;
-    let (numbers, _) = counted(alloc, &world)?;
-    Ok(numbers)
+    Ok(tally(alloc, &world)?)
 }
 
-/// Returns the numbers of the report after the schedule's run over the module.
-fn run_text(alloc: Global, module: &[u8], schedule: &[u8]) -> Result<[u64; 7], Fail> {
+/// Returns the tally after the schedule's run over the module.
+pub fn run_text(alloc: Global, module: &[u8], schedule: &[u8]) -> Result<Tally, Fail> {
     let checked = accepted_text(alloc, module)?;
     let Ok(schedule) = read_schedule(alloc, schedule) else {
         return Err("the text is a schedule")?;
@@ -184,7 +189,8 @@ fn run_text(alloc: Global, module: &[u8], schedule: &[u8]) -> Result<[u64; 7], F
 #[test]
 fn schedules_are_run(rt: HostRuntime) -> Result<(), Fail> {
     for (name, module, schedule, want) in RUNS {
-        assert_eq!(rt; run_text(rt.alloc(), module, schedule)?, *want, "{name}");
+        let tally = run_text(rt.alloc(), module, schedule)?;
+        assert_eq!(rt; numbers(&tally), *want, "{name}");
     }
     Ok(())
 }

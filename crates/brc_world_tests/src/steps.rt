@@ -84,7 +84,8 @@ fn is_gone(world: &World<'_>, thread: usize) -> bool {
     thread < world.threads() && world.is_gone(thread)
 }
 
-fn numbers(tally: &Tally) -> [u64; 7] {
+/// Returns the numbers of the tally, in the order of a report.
+pub fn numbers(tally: &Tally) -> [u64; 7] {
     [
         tally.threads,
         tally.running,
@@ -118,7 +119,7 @@ pub fn counted(alloc: Global, world: &World<'_>) -> Result<([u64; 7], usize), No
 }
 
 /// Returns the tally. This function has no contract, because `World::tally`'s would make each later line slow to prove.
-fn tally(alloc: Global, world: &World<'_>) -> Result<Tally, NoMemory> {
+pub fn tally(alloc: Global, world: &World<'_>) -> Result<Tally, NoMemory> {
     world.tally(alloc)
 }
 

@@ -189,9 +189,9 @@ const TEXTS: &[Case] = &[
         b"No line feed ends the line.",
     ),
     (
-        b"module 3\nfunc f\n",
-        b"  1 | module 3\n    |        ^\n",
-        b"the version",
+        b"module 4\nfunc f\n",
+        b"  1 | module 4\n    |        ^\n",
+        b"the version, 1, 2 or 3.",
     ),
     (
         b"module 1\r\nfunc f\n",
@@ -308,6 +308,46 @@ const TEXTS: &[Case] = &[
         b"module 2\nfunc g\nfail\nend\nfunc f\ncall v1 g v0 else @1\nfail\nend\n",
         b"  6 | call v1 g v0 else @1\n    |         ^\n",
         b"The function of line 2 has 0 parameters, and the call has 1 argument.",
+    ),
+    (
+        b"module 3\nstatic\nfunc f\n",
+        b"  2 | static\n    |       ^\n",
+        b"The static list has no number.",
+    ),
+    (
+        b"module 3\nstatic 5 06\nfunc f\n",
+        b"  2 | static 5 06\n    |          ^^\n",
+        b"This number begins with a zero.",
+    ),
+    (
+        b"module 3\nstatics 5 6\nfunc f\n",
+        b"  2 | statics 5 6\n    | ^^^^^^^\n",
+        b"Expected: `static K ..`, as in `static 5 6`, or `func NAME`",
+    ),
+    (
+        b"module 2\nstatic 5 6\nfunc f\n",
+        b"  2 | static 5 6\n    | ^^^^^^\n",
+        b"Outside a function each line is the heading of the next one.",
+    ),
+    (
+        b"module 3\nfunc f\nfail\nend\nstatic 5\n",
+        b"  5 | static 5\n    | ^^^^^^\n",
+        b"A static line is above all functions",
+    ),
+    (
+        b"module 3\nstatic 5\nfunc f\ntake v1 1\nfail\nend\n",
+        b"  4 | take v1 1\n    |         ^\n",
+        b"The module has 1 static list, counted from 0.\nExpected: a number from 0 to 0",
+    ),
+    (
+        b"module 3\nfunc f\ntake v1 0\nfail\nend\n",
+        b"  3 | take v1 0\n    |         ^\n",
+        b"The module has no static list.",
+    ),
+    (
+        b"module 3\nfunc f\nlist v1 65 else @1\nfail\nend\n",
+        b"  3 | list v1 65 else @1\n    |         ^^\n",
+        b"Expected: a number from 1 to 64",
     ),
 ];
 

@@ -1,11 +1,10 @@
 -- The rows of each thread's block: where they are, which of them the thread has used, which are born, and which is born
 -- next. No other file depends on how the rows of a block are numbered.
 use Rattle.std.proofs.Common.{◌≡◌, ◌≢◌, ◌⊎◌, ℕ, zero, suc, ◌+◌, ◌-◌, ◌*◌, ◌<◌, ◌≤◌, Bool, true, false, cond, Some, get_or, refl, sym, ap, ◌∙◌, subst, arith, inl, inr}
-use Rattle.std.specs.Prelude.{◌/◌, ◌&&◌, ◌==◌, nat_le, nat_lt, slice_get}
+use Rattle.std.specs.Prelude.{◌/◌, ◌&&◌, ◌||◌, ◌==◌, nat_le, nat_lt, slice_get}
 use Rattle.std.proofs.Math.Nat.{div-mul-le_self, lt-div-mul-add, div-lt_iff_lt-mul, mul-le-mul, mul-le-mul_right}
 use Rattle.std.proofs.lemmas.Nat.{div-mul-add}
-use Rattle.std.proofs.lemmas.Bool.{cases_Bool, cases_lt, and_parts, eqb-true, leb-true, ltb-true, lt-ltb, le-ltb, le-leb, false≢true}
-use Rattle.std.proofs.lemmas.Bool.Decides.{leb_tells}
+use Rattle.std.proofs.lemmas.Bool.{cases_Bool, cases_lt, and_parts, eqb-true, leb-true, ltb-true, lt-ltb, le-ltb, le-leb, lt-leb, ne_eqb, false≢true}
 use Rattle.std.proofs.lemmas.Option.{slice_get_within, slice_get-get_or}
 use Rattle.brc_model.specs.declared.layout.Layout.{Layout}
 use Rattle.brc_model.specs.Limits.{row_limit, worker_limit, total_limit}
@@ -14,8 +13,8 @@ use Rattle.brc_model.specs.Machine.{Unborn, Machine, idle_actor}
 use Rattle.brc_model.specs.Accounts.{Accounts}
 use Rattle.brc_model.specs.Knowledge.{IsNext}
 use Rattle.brc_model.specs.Invariant.{CoreInvariant}
-use Rattle.brc_model.proofs.Basics.Lists.{either_true}
-use Rattle.brc_model.specs.Layout.{none_row, root_row, front_rows, worker_rows, row_count, is_worker_row, block_of, block_size, row_at, index_of, first_immortal_list, is_immortal_row, IsCounted}
+use Rattle.brc_model.proofs.Basics.Lists.{either_true, or_second}
+use Rattle.brc_model.specs.Layout.{none_row, root_row, front_rows, worker_rows, row_count, is_worker_row, block_of, block_size, row_at, index_of, first_immortal_list, first_number, is_immortal_row, IsCounted}
 
 -- ---- main's rows and the workers'
 
@@ -190,37 +189,85 @@ block_within layout x some =
           omega (arith, below, workers_block layout x worker)
     ]
 
--- The rows in front are main's, at indices that are their own numbers.
+-- The rows in front are main's.
 pub front_block : (layout : Layout) (x : ℕ) → x < front_rows → block_of layout x ≡ 0
 front_block layout x front = mains_block layout x (InFront front)
 
-pub front_is_index : (layout : Layout) (x : ℕ) → x < front_rows → index_of layout 0 x ≡ x
-front_is_index layout x front = front_index layout x front
+-- Main's other rows are behind the workers', and a worker's rows are between.
+pub rear_block : (layout : Layout) (x : ℕ) → first_immortal_list layout ≤ x → block_of layout x ≡ 0
+rear_block layout x rear = mains_block layout x (InRear rear)
 
-pub mains_low : (layout : Layout) (x : ℕ) → block_of layout x ≡ 0 → index_of layout 0 x < front_rows → x < front_rows
-mains_low layout x block low =
+pub mains_rows : (layout : Layout) (x : ℕ) → block_of layout x ≡ 0 → (x < front_rows) ⊎ (first_immortal_list layout ≤ x)
+mains_rows layout x block =
     elim (row_place layout x) [
-      | inl (InFront front) ↦ front
-      | inl (InRear rear) ↦ let same =
-          rear_index layout x (omega (arith, rear)) in absurd (omega (arith, same, rear, low))
+      | inl (InFront front) ↦ inl front
+      | inl (InRear rear) ↦ inr rear
       | inr worker ↦ absurd (omega (arith, block, workers_block layout x worker))
+    ]
+
+pub workers_rows : (layout : Layout) (t x : ℕ) → block_of layout x ≡ suc t
+    → (front_rows ≤ x) × (x < first_immortal_list layout)
+workers_rows layout t x block =
+    elim (row_place layout x) [
+      | inl mains ↦ absurd (omega (arith, block, mains_block layout x mains))
+      | inr worker ↦ (worker.low, worker.high)
+    ]
+
+-- A row of main's exists exactly if its index is below the size of main's block.
+pub mains_within : (layout : Layout) (x : ℕ) → block_of layout x ≡ 0 → index_of layout 0 x < block_size layout 0
+    → x < row_count layout
+mains_within layout x block low =
+    let back = row_back layout 0 x block in
+    let within = row_within layout 0 (index_of layout 0 x) (omega arith) low in
+    omega (arith, back, within)
+
+pub mains_past : (layout : Layout) (x : ℕ) → 0 < layout.rows → block_of layout x ≡ 0
+    → block_size layout 0 ≤ index_of layout 0 x → row_count layout ≤ x
+mains_past layout x some block past =
+    elim (cases_lt x (row_count layout)) [
+      | inl low ↦ absurd (omega (arith, past, index_within layout 0 x some block low))
+      | inr past ↦ past
     ]
 
 -- ---- immortal rows
 
+-- The rows of the immortal lists are immortal.
+pub list_immortal : (layout : Layout) (x : ℕ) → first_immortal_list layout ≤ x → x < first_number layout
+    → is_immortal_row layout x ≡ true
+list_immortal layout x low high =
+    or_second (x == none_row) (nat_le (first_immortal_list layout) x && nat_lt x (first_number layout))
+    (ap (λ (b : Bool). b && nat_lt x (first_number layout)) (le-leb (first_immortal_list layout) x low)
+    ∙ lt-ltb x (first_number layout) high)
+
+-- The other rows behind none's are counted.
+pub others_counted : (layout : Layout) (x : ℕ) → 0 < x → (x < first_immortal_list layout) ⊎ (first_number layout ≤ x)
+    → IsCounted layout x
+others_counted layout x some (inl low) =
+    ap (λ (b : Bool). b || (nat_le (first_immortal_list layout) x && nat_lt x (first_number layout)))
+    (ne_eqb x none_row (λ e. absurd (omega (arith, some, e))))
+    ∙ ap (λ (b : Bool). b && nat_lt x (first_number layout)) (lt-leb (first_immortal_list layout) x low)
+others_counted layout x some (inr past) =
+    ap (λ (b : Bool). b || (nat_le (first_immortal_list layout) x && nat_lt x (first_number layout)))
+    (ne_eqb x none_row (λ e. absurd (omega (arith, some, e))))
+    ∙ and_false _ _ (le-ltb x (first_number layout) past)
+
+-- An immortal row is none's, or that of an immortal list.
+pub immortal_rows : (layout : Layout) (x : ℕ) → is_immortal_row layout x ≡ true
+    → (x ≡ none_row) ⊎ ((first_immortal_list layout ≤ x) × (x < first_number layout))
+immortal_rows layout x immortal =
+    elim (either_true (x == none_row) _ immortal) [
+      | inl none ↦ inl (eqb-true x none_row none)
+      | inr list ↦
+          let parts = and_parts (nat_le (first_immortal_list layout) x) (nat_lt x (first_number layout)) list in
+          inr (leb-true (first_immortal_list layout) x parts.0, ltb-true x (first_number layout) parts.1)
+    ]
+
 -- Immortal rows are main's.
 pub immortal_block : (layout : Layout) (x : ℕ) → is_immortal_row layout x ≡ true → block_of layout x ≡ 0
 immortal_block layout x immortal =
-    elim (either_true (x == none_row) _ immortal) [
-      | inl none ↦
-          let same : x ≡ none_row = eqb-true x none_row none in
-          mains_block layout x (InFront (omega (arith, same)))
-      | inr list ↦
-          let first =
-          leb-true (first_immortal_list layout) x
-          (and_parts (nat_le (first_immortal_list layout) x)
-          (nat_lt x (first_immortal_list layout + layout.immortal_lists)) list).0 in
-          mains_block layout x (InRear (omega (arith, first)))
+    elim (immortal_rows layout x immortal) [
+      | inl none ↦ mains_block layout x (InFront (omega (arith, none)))
+      | inr list ↦ mains_block layout x (InRear list.0)
     ]
 
 -- A counted row isn't none's.
@@ -230,31 +277,12 @@ counted_above layout (suc x) counted = omega arith
 
 -- The root is counted.
 pub root_counted : (layout : Layout) → IsCounted layout root_row
-root_counted layout =
-    elim (leb_tells (first_immortal_list layout) root_row) [
-      | inl low ↦ absurd (omega (arith, low.1))
-      | inr past ↦
-          ap (λ (b : Bool). b && nat_lt root_row (first_immortal_list layout + layout.immortal_lists)) past.0
-    ]
+root_counted layout = others_counted layout root_row (omega arith) (inl (omega arith))
 
 -- A counted row isn't an immortal one.
 pub immortal_apart : (layout : Layout) (y x : ℕ) → IsCounted layout y → is_immortal_row layout x ≡ true → y ≡ x → ⊥
 immortal_apart layout y x counted immortal e =
     absurd (false≢true (sym counted ∙ ap (is_immortal_row layout) e ∙ immortal))
-
--- If there are no immortal lists, only none is immortal.
-pub only_none : (layout : Layout) (x : ℕ) → layout.immortal_lists ≡ 0 → is_immortal_row layout x ≡ true → x ≡ none_row
-only_none layout x no_lists immortal =
-    elim (either_true (x == none_row) _ immortal) [
-      | inl none ↦ eqb-true x none_row none
-      | inr list ↦
-          let parts =
-          and_parts (nat_le (first_immortal_list layout) x)
-          (nat_lt x (first_immortal_list layout + layout.immortal_lists)) list in
-          let first = leb-true (first_immortal_list layout) x parts.0 in
-          let last = ltb-true x (first_immortal_list layout + layout.immortal_lists) parts.1 in
-          absurd (omega (arith, first, last, no_lists))
-    ]
 
 -- ---- used rows
 
@@ -313,7 +341,7 @@ module _ {p : Accounts} {n : ℕ} {m : Machine} where
   rows_low core =
       let most : m.layout.workers * m.layout.rows ≤ worker_limit * row_limit =
       mul-le-mul {n₂ = worker_limit} {m₂ = row_limit} (omega (arith, core.few_threads, core.workers)) core.few_rows in
-      omega (arith, most, core.few_immortals)
+      omega (arith, most, core.few_immortals, core.few_numbers)
 
   pub born_low : (x : ℕ) → CoreInvariant p n m → (m.life x ≢ Unborn) → x < total_limit
   born_low x core born = omega (arith, born_within x core born, rows_low core)

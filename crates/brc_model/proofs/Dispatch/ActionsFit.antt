@@ -24,12 +24,10 @@ use Rattle.brc_model.specs.KnownKinds.{kind_words}
 use Rattle.brc_model.specs.Gates.{LocksFit}
 use Rattle.brc_model.specs.declared.duty.Holding.{Holding}
 use Rattle.brc_model.specs.AbstractState.{Reference}
-use Rattle.brc_model.specs.Limits.{text_cells}
 use Rattle.brc_model.proofs.Frame.Aside.{HoldsAlone}
 use Rattle.brc_model.proofs.Dispatch.Holds.{of_variables, of_inside, holds_variables, holds_inside, call_of}
 use Rattle.brc_model.proofs.Dispatch.Guards.{guards_held}
-use Rattle.brc_model.proofs.Dispatch.Kinds.{entry_true}
-use Rattle.brc_model.proofs.Dispatch.Lockable.{lockable_counted}
+use Rattle.brc_model.proofs.Dispatch.Kinds.{knows_first, entry_true}
 use Rattle.brc_model.proofs.Dispatch.Taking.{SeesKinds}
 use Rattle.std.proofs.lemmas.List.Sums.{sum_by-cons}
 use Rattle.brc_model.specs.Accounts.{Account, Accounts, lacks}
@@ -149,28 +147,27 @@ module _ {p : Accounts} {n : ℕ} {m : Machine} where
       (referenced_small row core (backed_referenced p n m t a row core (ByItem list cell has holds))) about few
 
   pub starts_small : (t : ℕ) (a : Actor) (d : Duty) (rest : List Duty) → CoreInvariant p n m → HasFewCells m
-      → text_cells ≤ m.layout.cells
       → slice_get m.actors t ≡ Some a → MayBegin (scene_of m t a) d rest → IsSmall m.layout d
-  starts_small t a d rest core few wide found (Gives row h behind some) =
+  starts_small t a d rest core few found (Gives row h behind some) =
       row_small m.layout row d (referenced_small row core some) (λ y. refl) (omega arith)
-  starts_small t a d rest core few wide found (Takes row h behind backs) =
+  starts_small t a d rest core few found (Takes row h behind backs) =
       backs_small t row a d core backs (λ y. refl) (omega arith)
-  starts_small t a d rest core few wide found (Bears h w room below said) =
+  starts_small t a d rest core few found (Bears h w room below said) =
       row_small m.layout (row_at m.layout t a.used) d (next_within t a core found room) (λ y. refl)
-      (omega (arith, below, wide))
-  starts_small t a d rest core few wide found (Asks row backs) =
+      below
+  starts_small t a d rest core few found (Asks row backs) =
       backs_small t row a d core backs (λ y. refl) (omega arith)
-  starts_small t a d rest core few wide found (Locks row backs counted none) =
+  starts_small t a d rest core few found (Locks row backs none) =
       backs_small t row a d core backs (λ y. refl) (omega arith)
-  starts_small t a d rest core few wide found (Unlocks row backs has none) =
+  starts_small t a d rest core few found (Unlocks row backs has none) =
       backs_small t row a d core backs (λ y. refl) (omega arith)
-  starts_small t a d rest core few wide found (Loads row i backs has within) =
+  starts_small t a d rest core few found (Loads row i backs has within) =
       backs_small t row a d core backs (λ y. refl) (omega (arith, within, few row))
-  starts_small t a d rest core few wide found (Swaps row i item h behind backs has within some) =
+  starts_small t a d rest core few found (Swaps row i item h behind backs has within some) =
       backs_small t row a d core backs (λ y. refl) (omega (arith, within, few row))
-  starts_small t a d rest core few wide found (Lends row backs has none some) =
+  starts_small t a d rest core few found (Lends row backs has none some) =
       backs_small t row a d core backs (λ y. refl) (omega arith)
-  starts_small t a d rest core few wide found (Returns row backs lent) =
+  starts_small t a d rest core few found (Returns row backs lent) =
       backs_small t row a d core backs (λ y. refl) (omega arith)
 
 follows_small : (layout : Layout) (t used : ℕ) (place : Place) (rest : List Duty)
@@ -213,7 +210,6 @@ module _ {p : Accounts} {n : ℕ} {m : Machine} {t : ℕ} {a : Actor} where
       let none : sum_by (λ d. one_if (lacks d has.0 x)) a.aside ≡ 0 =
       ap (sum_by (λ d. one_if (lacks d has.0 x))) alone in
       record {
-        counted = old.counted;
         by = has.0;
         held_so = omega (arith, holds.each has.0 x, has.1, none);
         gate = old.gate;
@@ -286,7 +282,7 @@ taken_fits p n m t a (Does d rest place) whole found at taken lent =
       lent = lent word (finds_full (with_account c t here.account) n m t a d rest doing);
       doing = doing;
       small = λ few _. (
-        starts_small t a.actor d rest at.core few whole.wide at.found begun.starts,
+        starts_small t a.actor d rest at.core few at.found begun.starts,
         follows_small m.layout t a.actor.used there rest begun.follows,
       );
       plain = follows_plain m.layout t a.actor.used there rest begun.follows;
@@ -297,10 +293,10 @@ sees_kinds : (p : Module) (n : ℕ) (m : StepMachine) (t : ℕ) (a : StepActor) 
     → slice_get m.actors t ≡ Some a
     → SeesKinds (program_of m.functions m.states a) (scene_of (counting m) t a.actor) a.place
 sees_kinds p n m t a whole found = record {
-  begins = entry_true (kind_words m) whole.kinds.named;
+  begins = entry_true (kind_words m) (knows_first p.statics m.layout (kind_words m) whole.kinds.named).root;
   knows = whole.kinds.known t a found;
   items = whole.items t a found;
-  counted = λ x can. lockable_counted m.layout (kind_words m) x whole.kinds.named whole.mortal can;
+  allowed = whole.allowed;
   lent = (whole.coded t a found).lent;
   room = λ awaits. (whole.rooms t a found awaits).room;
 }

@@ -33,7 +33,7 @@ use Rattle.brc_model.proofs.Dispatch.Guards.{LocksAgree, guards_none, guards_row
 use Rattle.brc_model.proofs.Dispatch.Passing.{AreMet, passes_on}
 use Rattle.brc_model.proofs.Dispatch.Coded.{PlaceSays}
 use Rattle.brc_model.proofs.Dispatch.Lockable.{lockable_word}
-use Rattle.brc_model.proofs.Dispatch.Kinds.{entry_true, KnowsAll}
+use Rattle.brc_model.proofs.Dispatch.Kinds.{entry_true, KnowsAll, knows_first}
 use Rattle.brc_model.proofs.Keeping.CodeInvariant.{CodeInvariant}
 use Rattle.brc_model.proofs.Dispatch.Holds.{Activation, call_of}
 use Rattle.brc_model.proofs.Dispatch.Programs.{Program, IsSound, code_at, program_of}
@@ -229,7 +229,8 @@ agenda_fit p n m t a [] whole found =
     let own = whole.coded t a found in
     place_fit (program_of m.functions m.states a) m.memory a.actor.locked a.place (whole.accounts t) whole.sound
     own.says
-    (entry_true (kind_words m) whole.kinds.named) (whole.kinds.known t a found)
+    (entry_true (kind_words m) (knows_first p.statics m.layout (kind_words m) whole.kinds.named).root)
+    (whole.kinds.known t a found)
 
 -- No thread of accepted code begins an instruction that lacks what it needs.
 pub choice_fit : (p : Module) (n : ℕ) (m : StepMachine) (t : ℕ) (a : StepActor) (choice : Choice) → CodeInvariant p n m

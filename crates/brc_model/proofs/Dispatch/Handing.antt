@@ -25,6 +25,7 @@ use Rattle.brc_model.proofs.Dispatch.Holds.{Activation, of_variables, Holds, own
 use Rattle.brc_model.proofs.Dispatch.Grounded.{var_of-put_other, row_of-set_other}
 use Rattle.brc_model.proofs.Dispatch.Calls.{AreSixteen, put_sixteen}
 use Rattle.brc_model.proofs.Dispatch.OneMoreOrLess.{emptied_says}
+use Rattle.brc_model.specs.declared.layout.Layout.{Layout}
 
 -- ---- what the callee's variables own so far
 
@@ -241,7 +242,7 @@ ready_still s rows variables a (b ∷ others) steals apart ready =
 -- The moves are the thread's, and after them it holds what is to be held.
 pub record Handed (call : Activation) (bag : List Reference) (t : ℕ) (moves : List Move) (s : State)
     (rows own : List (Option ℕ)) : Type 0 where
-  pub moves_fit : SilentMoves bag t moves
+  pub moves_fit : (layout : Layout) → SilentMoves layout bag t moves
   pub holds : Holds (bag_after bag moves) t (of_both call s rows own)
 
 -- Handing on the stolen references of all arguments leaves the thread what it is to hold.
@@ -251,7 +252,7 @@ pub handed : (bag : List Reference) (t : ℕ) (call : Activation) (s : State) (r
     → Handed call bag t (handed_rows t call.depth variables to arguments) (fold emptied s (stolen arguments))
     (fold without_row rows (stolen arguments)) (own ++ map (given variables) arguments)
 handed bag t call s rows variables own to [] next sixteen ready apart holds = record {
-  moves_fit = Stays;
+  moves_fit = λ layout. Stays;
   holds = subst (λ (l : List (Option ℕ)). Holds bag t (of_both call s rows l)) (sym (append-nil own)) holds;
 }
 handed bag t call s rows variables own to (a ∷ others) next sixteen ready apart holds =
@@ -285,8 +286,9 @@ handed bag t call s rows variables own to (a ∷ others) next sixteen ready apar
           (next_length own (Some row) ∙ ap suc next) (put_sixteen s rows a.from sixteen)
           (ready_still s rows variables a others steals apart.0 ready.1) apart.1 now in
           record {
-            moves_fit = PassesOn (ByVariable call.depth a.from) (ByVariable (suc call.depth) to) row rest has
-                further.moves_fit;
+            moves_fit = λ layout.
+                PassesOn (ByVariable call.depth a.from) (ByVariable (suc call.depth) to) row rest has
+                (further.moves_fit layout);
             holds = subst (λ (l : List (Option ℕ)). Holds
                 (bag_after (reference_of t (ByVariable (suc call.depth) to) row ∷ without r bag) rest) t
                 (of_both call (fold emptied (put s a.from Empty) (stolen others))

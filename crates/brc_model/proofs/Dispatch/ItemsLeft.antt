@@ -5,7 +5,7 @@ use Rattle.std.proofs.lemmas.Bool.{not-false}
 use Rattle.std.proofs.lemmas.List.{length-set}
 use Rattle.brc_lang.specs.declared.kind.Kind.TheVariants as kinds
 use Rattle.brc_lang.specs.declared.module.Instr.{Instr}
-use Rattle.brc_lang.specs.declared.module.Instr.TheVariants.{Num, List as ListObject, NoneObject, Newref, Move as MoveReference, Drop, As, Lock, Unlock, Borrow, Fetch, Set, Put, Goto, Again, Ret, Fail, Call, Open, Connect, Read, Write}
+use Rattle.brc_lang.specs.declared.module.Instr.TheVariants.{Num, List as ListObject, NoneObject, Take, Newref, Move as MoveReference, Drop, As, Lock, Unlock, Borrow, Fetch, Set, Put, Goto, Again, Ret, Fail, Call, Open, Connect, Read, Write}
 use Rattle.brc_word.specs.Words.{free_word}
 use Rattle.brc_model.specs.declared.actor.Place.{Place}
 use Rattle.brc_model.specs.declared.actor.Context.{Context}
@@ -23,7 +23,7 @@ use Rattle.brc_model.specs.declared.state.Exit.TheVariants.{Success, Fault as Fa
 use Rattle.brc_model.specs.Kinds.{kind_of_word, same_kind}
 use Rattle.brc_model.specs.VarStates.{var_of, kind_of, names, put, after, target}
 use Rattle.brc_model.specs.Threads.{row_of}
-use Rattle.brc_model.specs.Layout.{none_row, row_at}
+use Rattle.brc_model.specs.Layout.{none_row, row_at, first_immortal_list}
 use Rattle.brc_model.specs.declared.layout.Layout.{Layout}
 use Rattle.brc_model.specs.Duties.{cells_of}
 use Rattle.brc_model.specs.Machine.{has_room}
@@ -215,6 +215,9 @@ module _ (program : Program) (memory : Address → ℕ) (locked : Option ℕ) (c
   instruction_uses layout t used before (NoneObject to) knew here =
       goes_on_free memory (at + 1) (NoneObject to) Success to (Owned kinds.None) (Some none_row)
       (all_stay memory locked) here refl refl here.operands refl
+  instruction_uses layout t used before (Take to list) knew here =
+      goes_on_free memory (at + 1) (Take to list) Success to (Owned kinds.List)
+      (Some (first_immortal_list layout + list)) (all_stay memory locked) here refl refl here.operands.0 refl
   instruction_uses layout t used before (Newref to from) knew here =
       row_uses (row_of variables from) _ (λ row is new found done.
       goes_on_free new (at + 1) (Newref to from) Success to (Owned (kind_of (var_of s from))) (Some row)

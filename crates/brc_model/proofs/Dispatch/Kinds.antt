@@ -1,6 +1,6 @@
 -- What the states and the rows of variables say of kinds: a variable's state says nothing false of the object that its
 -- variable names.
-use Rattle.std.proofs.Common.{◌≡◌, ℕ, zero, suc, ◌<◌, true, List, [], ◌∷◌, Option, None, inl, inr, length, Some, refl, sym, ap, ◌∙◌, subst}
+use Rattle.std.proofs.Common.{◌≡◌, ℕ, zero, suc, ◌<◌, true, List, [], ◌∷◌, Option, None, inl, inr, length, Some, refl, sym, ap, ◌∙◌, subst, arith, ◌+◌}
 use Rattle.std.specs.Prelude.{slice_get, slice_set}
 use Rattle.std.proofs.lemmas.Bool.Decides.{eqb_tells}
 use Rattle.std.proofs.lemmas.Bool.{eqb-true}
@@ -14,7 +14,8 @@ use Rattle.brc_model.specs.declared.state.State.{State}
 use Rattle.brc_model.specs.Kinds.{kind_number, kind_numbered, kind_of_word, same_kind}
 use Rattle.brc_model.specs.VarStates.{var_of, kind_of, with_kind, put, without_item, without_items, entry_of}
 use Rattle.brc_model.specs.Threads.{row_of, entry_variables, function_in, outer_of}
-use Rattle.brc_model.specs.Layout.{none_row, root_row}
+use Rattle.brc_model.specs.declared.layout.Layout.{Layout}
+use Rattle.brc_model.specs.Layout.{none_row, root_row, first_immortal_list}
 use Rattle.brc_model.specs.KnownKinds.{IsTrueKind, HasTrueKind, HaveTrueKinds, KnowsKinds, AreNamed, kind_words}
 use Rattle.brc_model.proofs.Basics.Lists.{some_is, get_or-replicate_default}
 use Rattle.brc_model.proofs.Dispatch.Grounded.{var_of-put_same, var_of-put_other, var_of-without, row_of-set_same, row_of-set_other}
@@ -78,9 +79,9 @@ AllKnown m =
     (t : ℕ) (a : StepActor) → slice_get m.actors t ≡ Some a
     → KnowsAll (program_of m.functions m.states a) (kind_words m) a.place
 
--- So it does, and none and the root have their kinds.
-pub record KindsHold (m : StepMachine) : Type 0 where
-  pub named : AreNamed (kind_words m)
+-- So it does, and each row that is there from the start has its first kind word.
+pub record KindsHold (lines : List (List ℕ)) (m : StepMachine) : Type 0 where
+  pub named : AreNamed lines m.layout (kind_words m)
   pub known : AllKnown m
 
 open_still : (program : Program) (words new : ℕ → ℕ) → StoredStay words new → (outer : List OpenCall)
@@ -175,23 +176,37 @@ true_without_items words s rows known v =
     subst (λ (var : VarState). HasTrueKind words var (row_of rows v)) (sym (var_of-without s v))
     (without_item_true words (var_of s v) (row_of rows v) (known v))
 
--- ---- the kind words of none and of the root
+-- ---- the kind words of the rows that are there from the start
 
-pub named_stay : (words new : ℕ → ℕ) → StoredStay words new → AreNamed words → AreNamed new
-named_stay words new stays named = record {
-  none = elim (true_kind_stays words new stays kinds.None none_row (inr named.none)) [
-    | inl any ↦ absurd cc
-    | inr names ↦ names
-  ];
-  root = elim (true_kind_stays words new stays kinds.List root_row (inr named.root)) [
-    | inl any ↦ absurd cc
-    | inr names ↦ names
-  ];
+pub named_stay : (lines : List (List ℕ)) (layout : Layout) (words new : ℕ → ℕ) → StoredStay words new
+    → AreNamed lines layout words → AreNamed lines layout new
+named_stay lines layout words new stays named x some =
+    elim (stays x) [
+      | inl none ↦ absurd (omega (arith, none, named x some, some))
+      | inr same ↦ same ∙ named x some
+    ]
+
+-- So none and the root have their kinds.
+pub record KnowsFirst (words : ℕ → ℕ) : Type 0 where
+  pub none : kind_of_word (words none_row) ≡ kinds.None
+  pub root : kind_of_word (words root_row) ≡ kinds.List
+
+pub knows_first : (lines : List (List ℕ)) (layout : Layout) (words : ℕ → ℕ) → AreNamed lines layout words
+    → KnowsFirst words
+knows_first lines layout words named = record {
+  none = ap kind_of_word (named none_row (omega arith));
+  root = ap kind_of_word (named root_row (omega arith));
 }
 
-pub entry_true : (words : ℕ → ℕ) → AreNamed words → HaveTrueKinds words (entry_of []) entry_variables
-entry_true words named zero = λ x is.
-    inr (ap (λ (y : ℕ). kind_of_word (words y)) (sym (some_is root_row x is)) ∙ named.root)
-entry_true words named (suc v) =
+-- Each immortal list's kind word names a list.
+abbrev pub KnowsLists : Layout → (ℕ → ℕ) → Type 0
+KnowsLists layout words =
+    (s : ℕ) → s < layout.immortal_lists → kind_of_word (words (first_immortal_list layout + s)) ≡ kinds.List
+
+pub entry_true : (words : ℕ → ℕ) → kind_of_word (words root_row) ≡ kinds.List
+    → HaveTrueKinds words (entry_of []) entry_variables
+entry_true words root zero = λ x is.
+    inr (ap (λ (y : ℕ). kind_of_word (words y)) (sym (some_is root_row x is)) ∙ root)
+entry_true words root (suc v) =
     subst (λ (var : VarState). HasTrueKind words var (row_of entry_variables (suc v)))
     (sym (get_or-replicate_default 15 v Empty)) (empty_true words (row_of entry_variables (suc v)))

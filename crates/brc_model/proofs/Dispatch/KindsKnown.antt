@@ -15,12 +15,12 @@ use Rattle.brc_model.specs.declared.state.Exit.{Exit}
 use Rattle.brc_model.specs.VarStates.{put, after, target}
 use Rattle.brc_model.specs.Paths.{At, path_end}
 use Rattle.brc_model.specs.Actions.{Action, Skip, Stuck, Silent, Calls, Does, with_row}
-use Rattle.brc_model.specs.KnownKinds.{HasTrueKind, HaveTrueKinds, AreNamed}
+use Rattle.brc_model.specs.KnownKinds.{HasTrueKind, HaveTrueKinds}
 use Rattle.brc_model.proofs.Dispatch.Programs.{Program, running, IsSound}
 use Rattle.brc_model.proofs.Dispatch.Holds.{activation}
 use Rattle.brc_model.proofs.Dispatch.Grounded.{IsInside, running_accepted}
 use Rattle.brc_model.proofs.Dispatch.Passing.{AreMet}
-use Rattle.brc_model.proofs.Dispatch.Kinds.{true_put, OpenKinds, KnowsAll}
+use Rattle.brc_model.proofs.Dispatch.Kinds.{true_put, OpenKinds, KnowsAll, KnowsFirst}
 
 -- What a duty that stores a kind word leaves there, and what one that loads a kind word finds.
 abbrev pub SeesKind : (ℕ → ℕ) → Duty → ℕ → Type 0
@@ -53,7 +53,7 @@ pub record KnowsAt (program : Program) (outer : List OpenCall) (words : ℕ → 
   pub leads : (exit : Exit) (next : ℕ) → target i exit at ≡ Some next
       → path_end (running program outer) (inside.exits ++ exit ∷ []) ≡ At next (after i exit s)
   pub operands : IsInstruction i
-  pub named : AreNamed words
+  pub named : KnowsFirst words
   pub known : HaveTrueKinds words s variables
   pub open_known : OpenKinds program words outer
 

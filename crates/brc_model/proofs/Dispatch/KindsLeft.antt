@@ -5,7 +5,7 @@ use Rattle.std.proofs.lemmas.List.{length-set}
 use Rattle.brc_lang.specs.declared.kind.Kind.{Kind}
 use Rattle.brc_lang.specs.declared.kind.Kind.TheVariants as kinds
 use Rattle.brc_lang.specs.declared.module.Instr.{Instr}
-use Rattle.brc_lang.specs.declared.module.Instr.TheVariants.{Num, List as ListObject, NoneObject, Newref, Move as MoveReference, Drop, As, Lock, Unlock, Borrow, Fetch, Set, Put, Goto, Again, Ret, Fail, Call, Open, Connect, Read, Write}
+use Rattle.brc_lang.specs.declared.module.Instr.TheVariants.{Num, List as ListObject, NoneObject, Take, Newref, Move as MoveReference, Drop, As, Lock, Unlock, Borrow, Fetch, Set, Put, Goto, Again, Ret, Fail, Call, Open, Connect, Read, Write}
 use Rattle.brc_word.specs.Words.{free_word, half, kind_part}
 use Rattle.brc_model.specs.declared.actor.Place.{Place}
 use Rattle.brc_model.specs.declared.actor.Context.{Context}
@@ -21,17 +21,19 @@ use Rattle.brc_model.specs.declared.state.Exit.TheVariants.{Success, Fault as Fa
 use Rattle.brc_model.specs.Kinds.{kind_numbered, kind_of_word, same_kind}
 use Rattle.brc_model.specs.VarStates.{var_of, kind_of, put, after, target}
 use Rattle.brc_model.specs.Threads.{row_of}
-use Rattle.brc_model.specs.Layout.{none_row, row_at}
+use Rattle.brc_model.specs.Layout.{none_row, row_at, first_immortal_list}
 use Rattle.brc_model.specs.declared.layout.Layout.{Layout}
 use Rattle.brc_model.specs.Machine.{has_room}
 use Rattle.brc_model.specs.Actions.{Does, with_row, by_range, by_item, number_word, list_word, birth_action, dispatch_instruction, dispatch_inside, turns_at, with_turn, file_word, sock_word, grant_action, granted_birth, return_action}
 use Rattle.brc_model.specs.KnownKinds.{IsTrueKind, HasTrueKind, HaveTrueKinds}
 use Rattle.brc_model.proofs.Basics.Lists.{some_is, either}
 use Rattle.brc_model.proofs.Dispatch.Decided.{range_decides, item_decides, exit_decides}
-use Rattle.brc_model.proofs.Dispatch.Kinds.{true_put, empty_true, same_kind_is, true_with_kind, true_without_items, KnowsAll}
+use Rattle.brc_model.proofs.Dispatch.Kinds.{true_put, empty_true, same_kind_is, true_with_kind, true_without_items, KnowsAll, KnowsLists}
 use Rattle.brc_model.proofs.Dispatch.Programs.{Program}
 use Rattle.brc_model.proofs.Dispatch.KindsKnown.{LeavesKinds, KnowsAt, goes_on, goes_on_put, knows_here, row_leaves}
 use Rattle.brc_model.proofs.Dispatch.KindsCalls.{call_leaves, ret_leaves, fail_leaves}
+use Rattle.brc_model.specs.Limits.{cell_limit}
+use Rattle.brc_model.proofs.Dispatch.Allowed.{IsAllowedIn}
 
 -- A look at a list's kind word leads into the instruction, or past it.
 range_leaves : (program : Program) (words : ℕ → ℕ) (list : Option ℕ) (index : ℕ) (inside outside : Place)
@@ -114,7 +116,7 @@ number_kind value low =
     ap kind_numbered number
 
 -- the kind of a list's kind word
-list_kind : (cells : ℕ) → cells ≤ 8 → kind_of_word (list_word cells) ≡ kinds.List
+list_kind : (cells : ℕ) → cells ≤ cell_limit → kind_of_word (list_word cells) ≡ kinds.List
 list_kind cells few =
     let number : kind_part (list_word cells) ≡ 3 = omega (arith, few) in
     ap kind_numbered number
@@ -123,27 +125,36 @@ list_kind cells few =
 pub instruction_leaves : (program : Program) (words : ℕ → ℕ) (layout : Layout) (t used : ℕ) (before : Place)
     (context : Context) (at : ℕ)
     (variables : List (Option ℕ)) (s : State) (i : Instr) → KnowsAll program words before
+    → KnowsLists layout words → IsAllowedIn layout i
     → KnowsAt program context.outer words at variables s i
     → LeavesKinds program words (dispatch_instruction layout t used before context at variables (Some i))
-instruction_leaves program words layout t used before context at variables s (Num to value otherwise) knew here =
+instruction_leaves program words layout t used before context at variables s (Num to value otherwise)
+    knew lists allowed here =
     birth_leaves program words layout t used context at variables s (Num to value otherwise) to
     (number_word value) otherwise
     kinds.Num here here.operands.0 (number_kind value here.operands.1) refl refl refl refl
-instruction_leaves program words layout t used before context at variables s (ListObject to cells otherwise) knew here =
+instruction_leaves program words layout t used before context at variables s (ListObject to cells otherwise)
+    knew lists allowed here =
     birth_leaves program words layout t used context at variables s (ListObject to cells otherwise) to (list_word cells)
-    otherwise kinds.List here here.operands.0 (list_kind cells here.operands.2) refl refl refl refl
-instruction_leaves program words layout t used before context at variables s (NoneObject to) knew here =
+    otherwise kinds.List here here.operands.0 (list_kind cells (omega (arith, here.operands.2))) refl refl refl refl
+instruction_leaves program words layout t used before context at variables s (NoneObject to) knew lists allowed here =
     goes_on_put program words context at (at + 1) variables s (NoneObject to) Success to (Owned kinds.None)
     (Some none_row)
     here refl refl here.operands
     (λ x is. inr (ap (λ (y : ℕ). kind_of_word (words y)) (sym (some_is none_row x is)) ∙ here.named.none))
-instruction_leaves program words layout t used before context at variables s (Newref to from) knew here =
+instruction_leaves program words layout t used before context at variables s (Take to list) knew lists allowed here =
+    let row = first_immortal_list layout + list in
+    goes_on_put program words context at (at + 1) variables s (Take to list) Success to (Owned kinds.List) (Some row)
+    here refl refl here.operands.0
+    (λ x is. inr (ap (λ (y : ℕ). kind_of_word (words y)) (sym (some_is row x is)) ∙ lists list allowed))
+instruction_leaves program words layout t used before context at variables s (Newref to from) knew lists allowed here =
     row_leaves program words (row_of variables from) _ (λ row is found stored.
     goes_on_put program words context at (at + 1) variables s (Newref to from) Success to
     (Owned (kind_of (var_of s from))) (Some row) here refl refl here.operands.0
     (λ x this. subst (λ (y : ℕ). IsTrueKind (kind_of (var_of s from)) (words y)) (some_is row x this)
     (here.known from row is)))
-instruction_leaves program words layout t used before context at variables s (MoveReference to from) knew here =
+instruction_leaves program words layout t used before context at variables s (MoveReference to from)
+    knew lists allowed here =
     row_leaves program words (row_of variables from) _ (λ row is.
     let emptied : HaveTrueKinds words (put s from Empty) (slice_set variables from None) =
     true_put words s variables from Empty None (omega (arith, here.operands.1, here.inside.vars))
@@ -156,62 +167,70 @@ instruction_leaves program words layout t used before context at variables s (Mo
     (omega (arith, here.operands.0, here.inside.rows, length-set variables from None))
     (λ x this. subst (λ (y : ℕ). IsTrueKind (kind_of (var_of s from)) (words y)) (some_is row x this)
     (here.known from row is)) emptied))
-instruction_leaves program words layout t used before context at variables s (Drop from) knew here =
+instruction_leaves program words layout t used before context at variables s (Drop from) knew lists allowed here =
     row_leaves program words (row_of variables from) _ (λ row is found stored.
     goes_on_put program words context at (at + 1) variables s (Drop from) Success from Empty None here refl refl
     here.operands (empty_true words None))
-instruction_leaves program words layout t used before context at variables s (Lock object) knew here =
+instruction_leaves program words layout t used before context at variables s (Lock object) knew lists allowed here =
     row_leaves program words (row_of variables object) _ (λ row is found seen.
     either (KnowsAll program words) (found == free_word) _ _
     (λ free. goes_on program words context at (at + 1) variables variables s (Lock object) Success here refl here.known)
     knew)
-instruction_leaves program words layout t used before context at variables s (Unlock object) knew here =
+instruction_leaves program words layout t used before context at variables s (Unlock object) knew lists allowed here =
     row_leaves program words (row_of variables object) _ (λ row is found seen.
     goes_on program words context at (at + 1) variables variables s (Unlock object) Success here refl
     (true_without_items words s variables here.known))
 instruction_leaves program words layout t used before context at variables s (Borrow to list index otherwise) knew
-    here =
+    lists allowed here =
     range_leaves program words (row_of variables list) index (Inside context at variables InRange)
     (InCall context otherwise (slice_set variables to None))
     (knows_here program context.outer words at variables s (Borrow to list index otherwise) here)
     (goes_on_put program words context at otherwise variables s
     (Borrow to list index otherwise) FaultExit to Empty None here
     refl refl here.operands.0 (empty_true words None))
-instruction_leaves program words layout t used before context at variables s (Fetch to list index otherwise) knew here =
+instruction_leaves program words layout t used before context at variables s (Fetch to list index otherwise)
+    knew lists allowed here =
     range_leaves program words (row_of variables list) index (Inside context at variables InRange)
     (InCall context otherwise (slice_set variables to None))
     (knows_here program context.outer words at variables s (Fetch to list index otherwise) here)
     (goes_on_put program words context at otherwise variables s
     (Fetch to list index otherwise) FaultExit to Empty None here
     refl refl here.operands.0 (empty_true words None))
-instruction_leaves program words layout t used before context at variables s (Set list index from otherwise) knew here =
+instruction_leaves program words layout t used before context at variables s (Set list index from otherwise)
+    knew lists allowed here =
     let within = knows_here program context.outer words at variables s (Set list index from otherwise) here in
     range_leaves program words (row_of variables list) index (Inside context at variables InRange)
     (Inside context at variables OutOfRange) within within
-instruction_leaves program words layout t used before context at variables s (Put list index from otherwise) knew here =
+instruction_leaves program words layout t used before context at variables s (Put list index from otherwise)
+    knew lists allowed here =
     range_leaves program words (row_of variables list) index (Inside context at variables InRange)
     (InCall context otherwise variables) (knows_here program context.outer words at variables s
     (Put list index from otherwise) here)
     (goes_on program words context at otherwise variables variables s (Put list index from otherwise) FaultExit here
     refl
     (true_without_items words s variables here.known))
-instruction_leaves program words layout t used before context at variables s (Open to path mode otherwise) knew here =
+instruction_leaves program words layout t used before context at variables s (Open to path mode otherwise)
+    knew lists allowed here =
     grant_leaves program words layout t used context at variables s (Open to path mode otherwise) to otherwise here
     here.operands.0 refl refl
-instruction_leaves program words layout t used before context at variables s (Connect to peer otherwise) knew here =
+instruction_leaves program words layout t used before context at variables s (Connect to peer otherwise)
+    knew lists allowed here =
     grant_leaves program words layout t used context at variables s (Connect to peer otherwise) to otherwise here
     here.operands.0 refl refl
-instruction_leaves program words layout t used before context at variables s (Read to file most otherwise) knew here =
+instruction_leaves program words layout t used before context at variables s (Read to file most otherwise)
+    knew lists allowed here =
     either (LeavesKinds program words) (has_room layout t used) _ _
     (λ room. row_leaves program words (row_of variables file) _ (λ row is found seen.
     knows_here program context.outer words at variables s (Read to file most otherwise) here))
     (goes_on_put program words context at otherwise variables s (Read to file most otherwise) FaultExit to Empty None
     here
     refl refl here.operands.0 (empty_true words None))
-instruction_leaves program words layout t used before context at variables s (Write file number otherwise) knew here =
+instruction_leaves program words layout t used before context at variables s (Write file number otherwise)
+    knew lists allowed here =
     row_leaves program words (row_of variables number) _ (λ row is found seen.
     knows_here program context.outer words at variables s (Write file number otherwise) here)
-instruction_leaves program words layout t used before context at variables s (As from kind otherwise) knew here =
+instruction_leaves program words layout t used before context at variables s (As from kind otherwise)
+    knew lists allowed here =
     row_leaves program words (row_of variables from) _ (λ row is found seen.
     either (λ (next : ℕ). KnowsAll program words (InCall context next variables))
     (same_kind (kind_of_word found) kind) _ _
@@ -222,9 +241,9 @@ instruction_leaves program words layout t used before context at variables s (As
     ∙ same_kind_is (kind_of_word found) kind same)) here.known))
     (goes_on program words context at otherwise variables variables s (As from kind otherwise) FaultExit here refl
     here.known))
-instruction_leaves program words layout t used before context at variables s (Goto to) knew here =
+instruction_leaves program words layout t used before context at variables s (Goto to) knew lists allowed here =
     goes_on program words context at to variables variables s (Goto to) Success here refl here.known
-instruction_leaves program words layout t used before context at variables s (Again to times) knew here =
+instruction_leaves program words layout t used before context at variables s (Again to times) knew lists allowed here =
     either (KnowsAll program words) (nat_lt (turns_at context at) times) (InCall (with_turn context at) to variables)
     (InCall context (at + 1) variables)
     (λ more. goes_on program words (with_turn context at) at to variables variables s (Again to times) FaultExit here
@@ -232,13 +251,13 @@ instruction_leaves program words layout t used before context at variables s (Ag
     here.known)
     (goes_on program words context at (at + 1) variables variables s (Again to times) Success here refl here.known)
 instruction_leaves program words layout t used before context at variables s (Call to callee arguments otherwise) knew
-    here =
+    lists allowed here =
     call_leaves program words t context at variables s to callee arguments otherwise here
-instruction_leaves program words layout t used before context at variables s (Ret from) knew here =
+instruction_leaves program words layout t used before context at variables s (Ret from) knew lists allowed here =
     row_leaves program words (row_of variables from) _ (λ row is.
     ret_leaves program words t context.left from row context.outer here.sound here.inside.is_call.open_calls
     here.open_known)
-instruction_leaves program words layout t used before context at variables s Fail knew here =
+instruction_leaves program words layout t used before context at variables s Fail knew lists allowed here =
     fail_leaves program words context.left context.outer here.sound here.inside.is_call.open_calls here.open_known
 
 -- ---- what a step inside an instruction leaves

@@ -7,7 +7,7 @@ use Rattle.std.proofs.Common.{◌≡◌, ℕ, zero, suc, ◌+◌, List, [], ◌�
 use Rattle.std.specs.Prelude.{◌==◌, slice_get, slice_set, nat_lt, is_some}
 use Rattle.std.specs.List.{list_all}
 use Rattle.brc_lang.specs.declared.module.Instr.{Instr}
-use Rattle.brc_lang.specs.declared.module.Instr.TheVariants.{Num, List as ListObject, Newref, Move as MoveReference, Drop, Lock, Unlock, Borrow, Fetch, Set, Put, Again, Ret, As, Call, Open, Connect, Read, Write, NoneObject, Goto, Fail}
+use Rattle.brc_lang.specs.declared.module.Instr.TheVariants.{Num, List as ListObject, Newref, Move as MoveReference, Drop, Lock, Unlock, Borrow, Fetch, Set, Put, Again, Ret, As, Call, Open, Connect, Read, Write, NoneObject, Take, Goto, Fail}
 use Rattle.brc_word.specs.Words.{free_word}
 use Rattle.brc_model.specs.declared.actor.Place.{Place}
 use Rattle.brc_model.specs.declared.actor.Context.{Context}
@@ -209,6 +209,7 @@ instruction_lent program layout t used before context at variables (Some (Ret fr
     row_lent program lent (row_of variables from) _ (λ row.
     ret_lent program lent t context.left from row context.outer none)
 instruction_lent program layout t used before context at variables (Some (NoneObject to)) lent is none back = none
+instruction_lent program layout t used before context at variables (Some (Take to list)) lent is none back = none
 instruction_lent program layout t used before context at variables (Some (Goto to)) lent is none back = none
 instruction_lent program layout t used before context at variables (Some Fail) lent is none back =
     fail_lent program lent context.left context.outer none

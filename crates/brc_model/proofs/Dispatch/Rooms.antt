@@ -6,7 +6,7 @@ use Rattle.std.specs.Prelude.{◌==◌, nat_lt, slice_get, slice_set, is_some}
 use Rattle.std.specs.List.{list_all}
 use Rattle.brc_lang.specs.declared.module.Function.{Function}
 use Rattle.brc_lang.specs.declared.module.Instr.{Instr}
-use Rattle.brc_lang.specs.declared.module.Instr.TheVariants.{Num, List as ListObject, NoneObject, Newref, Move as MoveReference, Drop, Lock, Unlock, Borrow, Fetch, Set, Put, Goto, Again, Ret, Fail, Call, As, Open, Connect, Read, Write}
+use Rattle.brc_lang.specs.declared.module.Instr.TheVariants.{Num, List as ListObject, NoneObject, Take, Newref, Move as MoveReference, Drop, Lock, Unlock, Borrow, Fetch, Set, Put, Goto, Again, Ret, Fail, Call, As, Open, Connect, Read, Write}
 use Rattle.brc_word.specs.Words.{free_word}
 use Rattle.brc_model.specs.declared.state.Exit.{Exit}
 use Rattle.brc_model.specs.declared.thread.Choice.{Choice}
@@ -137,6 +137,7 @@ module _ (program : Program) (layout : Layout) (t used : ℕ) where
   instruction_room before context at variables (Some (ListObject to cells otherwise)) is none =
       birth_none program (has_room layout t used) layout t used context at variables to (list_word cells) otherwise
   instruction_room before context at variables (Some (NoneObject to)) is none = λ e. absurd cc
+  instruction_room before context at variables (Some (Take to list)) is none = λ e. absurd cc
   instruction_room before context at variables (Some (Newref to from)) is none =
       row_room program (has_room layout t used) (row_of variables from) _ (λ row found e. absurd cc)
   instruction_room before context at variables (Some (MoveReference to from)) is none =

@@ -24,6 +24,7 @@ use Rattle.brc_model.proofs.Basics.Blocks.{thread_there}
 use Rattle.brc_model.specs.Layout.{block_size, row_at}
 use Rattle.brc_model.proofs.Keeping.Weightless.{weighs_any}
 use Rattle.std.specs.List.{list_any}
+use Rattle.brc_model.proofs.Frame.Kinds.{resource_counted}
 
 module _ {p : Accounts} {n : ℕ} {m : Machine} where
   -- A thread with room for a row is a worker, since main has used all its rows.
@@ -111,20 +112,18 @@ module _ {p : Accounts} {n : ℕ} {m : Machine} {t : ℕ} {a : Actor} where
   begun_knows d rest at alone (Bears h w room few said) =
       (next_is t a (BirthKind (row_at m.layout t a.used) h w ∷ []) at room, refl, said)
   begun_knows d rest at alone (Asks row backs) = inl (backs_duty m t a (d ∷ rest) row backs)
-  begun_knows d rest at alone (Locks row backs counted none) = (counted, backs_duty m t a (d ∷ rest) row backs, none)
+  begun_knows d rest at alone (Locks row backs none) = (backs_duty m t a (d ∷ rest) row backs, none)
   begun_knows d rest at alone (Unlocks row backs has none) = (
-    ((at.core.each t a at.found).0.locks row has).counted,
     backs_duty m t a (d ∷ rest) row backs,
     has,
     ap (count_by is_retain) alone,
     none,
   )
   begun_knows d rest at alone (Loads row i backs has within) =
-      let lock = (at.core.each t a at.found).0.locks row has in
-      (lock.counted, inl (backs_duty m t a (d ∷ rest) row backs), inl has, within)
+      (inl (backs_duty m t a (d ∷ rest) row backs), inl has, within)
   begun_knows d rest at alone (Swaps row i item h behind backs has within some) = (has, within)
   begun_knows d rest at alone (Lends row backs has none some) =
-      (((at.core.each t a at.found).0.locks row has).counted, has, none, some)
+      (resource_counted row at.core some, has, none, some)
   begun_knows d rest at alone (Returns row backs lent) = lent
 
   -- The thread still holds what it has locked.
@@ -138,7 +137,6 @@ module _ {p : Accounts} {n : ℕ} {m : Machine} {t : ℕ} {a : Actor} where
       let f : Duty → ℕ = λ e. one_if (lacks e beside.by x) in
       let none : sum_by f a.aside ≡ 0 = ap (sum_by f) alone in
       record {
-        counted = old.counted;
         by = beside.by;
         held_so = omega (
           arith,

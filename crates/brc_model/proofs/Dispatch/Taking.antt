@@ -4,7 +4,7 @@ use Rattle.std.specs.Prelude.{◌==◌, ◌&&◌, is_some, slice_get, slice_set}
 use Rattle.std.specs.List.{list_any}
 use Rattle.std.proofs.lemmas.List.{length-set}
 use Rattle.brc_lang.specs.declared.module.Instr.{Instr}
-use Rattle.brc_lang.specs.declared.module.Instr.TheVariants.{Num, List as ListObject, NoneObject, Newref, Move as MoveReference, Drop, Lock, Unlock, Borrow, Fetch, Set, Put, Goto, Again, Ret, Fail, As, Open, Connect, Read, Write, Call}
+use Rattle.brc_lang.specs.declared.module.Instr.TheVariants.{Num, List as ListObject, NoneObject, Take, Newref, Move as MoveReference, Drop, Lock, Unlock, Borrow, Fetch, Set, Put, Goto, Again, Ret, Fail, As, Open, Connect, Read, Write, Call}
 use Rattle.brc_model.specs.declared.state.VarState.TheVariants.{Empty, Owned}
 use Rattle.brc_model.specs.declared.state.State.{State}
 use Rattle.brc_model.specs.declared.state.Exit.TheVariants.{Success}
@@ -43,15 +43,16 @@ use Rattle.brc_model.proofs.Dispatch.Coded.{PlaceFits, has_stage, in_flight}
 use Rattle.brc_model.proofs.Dispatch.Lending.{lent_to, lent_at}
 use Rattle.brc_model.proofs.Dispatch.Rooms.{awaits_inside, awaits_birth}
 use Rattle.brc_model.specs.Machine.{has_room}
-use Rattle.brc_model.proofs.Dispatch.TakingUp.{Scene, words_of, CountsLockable, StandsAt, holds_plain, Gives, Takes, Nothing, Settles, Exits, Taken, IsTaken, taken_with_row, in_call_stays, StandsInside}
+use Rattle.brc_model.proofs.Dispatch.TakingUp.{Scene, words_of, StandsAt, holds_plain, Gives, Takes, Nothing, Settles, Exits, Taken, IsTaken, taken_with_row, in_call_stays, StandsInside}
 use Rattle.brc_model.proofs.Dispatch.OneMoreOrLess.{newref_held, emptied_held}
 use Rattle.brc_model.proofs.Dispatch.TakingCalls.{call_taken}
-use Rattle.brc_model.proofs.Dispatch.TakingSilent.{none_taken, move_taken, goto_taken, again_taken}
+use Rattle.brc_model.proofs.Dispatch.TakingSilent.{none_taken, immortal_list_taken, move_taken, goto_taken, again_taken}
 use Rattle.brc_model.specs.Layout.{root_row}
 use Rattle.brc_model.proofs.Dispatch.TakingStops.{stopped_unlocks, give_up_taken}
 use Rattle.brc_model.proofs.Dispatch.Programs.{Program, code_in, IsSound, running, code_at}
 use Rattle.brc_model.proofs.Dispatch.Kinds.{KnowsAll}
 use Rattle.brc_model.proofs.Dispatch.TakingEnds.{Ends, ret_by, fail_by}
+use Rattle.brc_model.proofs.Dispatch.Allowed.{AreAllowedIn, allowed_at}
 
 module _ {program : Program} {g : Scene} {before : Place} {context : Context} {at : ℕ} {variables : List (Option ℕ)}
     {s : State} where
@@ -177,6 +178,7 @@ module _ {program : Program} {g : Scene} {before : Place} {context : Context} {a
   instruction_taken (Num to value otherwise) here = num_taken to value otherwise here
   instruction_taken (ListObject to cells otherwise) here = list_taken to cells otherwise here
   instruction_taken (NoneObject to) here = none_taken to here
+  instruction_taken (Take to list) here = immortal_list_taken to list here
   instruction_taken (MoveReference to from) here = move_taken to from here
   instruction_taken (Newref to from) here = newref_taken to from here
   instruction_taken (Drop from) here = drop_taken from here
@@ -209,7 +211,7 @@ pub record SeesKinds (program : Program) (g : Scene) (place : Place) : Type 0 wh
   pub begins : HaveTrueKinds (words_of g) (entry_of []) entry_variables
   pub knows : KnowsAll program (words_of g) place
   pub items : ItemsAt program g.memory g.locked place
-  pub counted : CountsLockable g
+  pub allowed : AreAllowedIn g.layout program.functions
   pub lent : g.lent ≡ lent_at program place
   pub room : awaits_birth program place ≡ true → has_room g.layout g.thread g.used ≡ true
 
@@ -218,11 +220,11 @@ in_call_taken : (program : Program) (g : Scene) (before : Place) (context : Cont
     → IsSound program → IsInside (call_of program context) at variables s
     → LocksAgree s variables g.locked
     → Holds g.bag g.thread (of_variables (call_of program context) s variables) → HaveTrueKinds (words_of g) s variables
-    → HaveItems g.memory g.locked s variables → CountsLockable g → g.lent ≡ None
+    → HaveItems g.memory g.locked s variables → AreAllowedIn g.layout program.functions → g.lent ≡ None
     → PlaceFits program g.bag g.thread [] g.locked before → (before ≢ Exiting)
     → IsTaken program g (dispatch_instruction g.layout g.thread g.used before context at variables
     (slice_get (code_in program context) at))
-in_call_taken program g before context at variables s sound inside guards holds kinds items counted unlent back
+in_call_taken program g before context at variables s sound inside guards holds kinds items allowed unlent back
     remains =
     let opened = inside.is_call.open_calls in
     let on = passes_on (running program context.outer) inside.exits at s
@@ -236,11 +238,11 @@ in_call_taken program g before context at variables s sound inside guards holds 
       guards = guards;
       kinds = kinds;
       items = items;
-      counted = counted;
       unlent = unlent;
       back = back;
       remains = remains;
       variables = (running_instructions program context.outer sound opened).each at on.here on.found;
+      allowed = allowed_at g.layout program context.outer at on.here allowed opened on.found;
       met = on.met;
       leads = on.leads;
     } in
@@ -319,15 +321,14 @@ dispatch_taken program g (Idle (suc left)) sound stays fits sees =
     fits.0 (entry_holds g.bag g.thread program (holds_plain g.bag g.thread the_root fits.1))
     sees.begins
     (entry_items g.memory g.locked)
-    sees.counted sees.lent fits stays
+    sees.allowed sees.lent fits stays
 dispatch_taken program g (Inside context at variables stage) sound stays fits sees =
     inside_call_taken program g context at variables stage sound fits sees
 dispatch_taken program g (InCall context at variables) sound stays fits sees =
     in_call_taken program g (InCall context at variables) context at variables fits.0 sound fits.1 fits.2
     (holds_plain g.bag g.thread (of_variables (call_of program context) fits.0 variables) fits.3)
-    (sees.knows.0 fits.1.exits fits.0 fits.1.arrived) (sees.items fits.1.exits fits.0 fits.1.arrived) sees.counted
-    sees.lent fits
-    stays
+    (sees.knows.0 fits.1.exits fits.0 fits.1.arrived) (sees.items fits.1.exits fits.0 fits.1.arrived)
+    sees.allowed sees.lent fits stays
 dispatch_taken program g (Stopping (Some row) calls) sound stays fits sees =
     stopped_unlocks program g row calls fits sees.lent
 dispatch_taken program g (Stopping None calls) sound stays fits sees =

@@ -20,7 +20,7 @@ use Rattle.brc_model.specs.declared.actor.Context.{Context}
 use Rattle.brc_model.specs.declared.actor.Place.TheVariants.{InCall}
 use Rattle.brc_model.specs.Kinds.{kind_numbered, kind_of_word, is_counted_kind}
 use Rattle.brc_model.specs.Duties.{cells_of}
-use Rattle.brc_model.specs.Limits.{text_cells}
+use Rattle.brc_model.specs.Limits.{cell_limit}
 use Rattle.brc_model.specs.Layout.{block_size, row_at}
 use Rattle.brc_model.specs.Machine.{has_room}
 use Rattle.brc_model.specs.Actions.{birth_action, dispatch_instruction, number_word, list_word, by_variable}
@@ -36,8 +36,8 @@ use Rattle.brc_model.proofs.Dispatch.Standing.{keeps_all}
 use Rattle.brc_model.proofs.Dispatch.Programs.{Program, running}
 
 -- A number has no cells.
-pub number_cells : (value : ℕ) → value < half → cells_of (number_word value) ≤ text_cells
-number_cells value low =
+pub number_cells : (value most : ℕ) → value < half → cells_of (number_word value) ≤ most
+number_cells value most low =
     let kind : (kind_part (number_word value) == 3) ≡ false =
     ne_eqb (kind_part (number_word value)) 3 (λ e. absurd (omega (arith, low, e))) in
     let none : cells_of (number_word value) ≡ 0 =
@@ -51,15 +51,15 @@ number_counts value low =
     ap (λ (k : ℕ). is_counted_kind (kind_numbered k)) number
 
 -- A list has the cells that its instruction names.
-list_cells : (cells : ℕ) → cells ≤ text_cells → cells_of (list_word cells) ≤ text_cells
-list_cells cells few =
+list_cells : (cells most : ℕ) → cells ≤ cell_limit → cells ≤ most → cells_of (list_word cells) ≤ most
+list_cells cells most few within =
     let kind : kind_part (list_word cells) ≡ 3 = omega (arith, few) in
     let all : cells_of (list_word cells) ≡ argument_part (list_word cells) =
     ap (λ (k : ℕ). cond (k == 3) (argument_part (list_word cells)) 0) kind in
-    omega (arith, few, all)
+    omega (arith, few, all, within)
 
 -- A list is an object of a counted kind.
-list_counts : (cells : ℕ) → cells ≤ text_cells → is_counted_kind (kind_of_word (list_word cells)) ≡ true
+list_counts : (cells : ℕ) → cells ≤ cell_limit → is_counted_kind (kind_of_word (list_word cells)) ≡ true
 list_counts cells few =
     let list : kind_part (list_word cells) ≡ 3 = omega (arith, few) in
     ap (λ (k : ℕ). is_counted_kind (kind_numbered k)) list
@@ -80,7 +80,7 @@ pub record BearsAt (program : Program) (context : Context) (g : Scene) (at : ℕ
       → HeldBeside g.bag g.thread x (BirthKind (row_at g.layout g.thread g.used) (by_variable context to) word)
   pub variable : to < variable_count
   pub free : is_owned (var_of s to) ≡ false
-  pub few_cells : cells_of word ≤ text_cells
+  pub few_cells : cells_of word ≤ g.layout.cells
   pub counted : is_counted_kind (kind_of_word word) ≡ true
   pub owned_next : path_end (running program context.outer) (inside.exits ++ Success ∷ []) ≡ At (at + 1)
       (put s to (Owned kind))
@@ -194,7 +194,7 @@ module _ {program : Program} {g : Scene} {before : Place} {context : Context} {a
             (λ k object. refl);
         variable = here.variables.0;
         free = first_false _ _ here.met.free;
-        few_cells = number_cells value here.variables.1;
+        few_cells = number_cells value g.layout.cells here.variables.1;
         counted = number_counts value here.variables.1;
         owned_next = here.leads Success (at + 1) refl;
         empty_next = here.leads Fault otherwise refl;
@@ -215,8 +215,8 @@ module _ {program : Program} {g : Scene} {before : Place} {context : Context} {a
             (λ k object. refl);
         variable = here.variables.0;
         free = first_false _ _ here.met.free;
-        few_cells = list_cells cells here.variables.2;
-        counted = list_counts cells here.variables.2;
+        few_cells = list_cells cells g.layout.cells (omega (arith, here.variables.2)) here.allowed;
+        counted = list_counts cells (omega (arith, here.variables.2));
         owned_next = here.leads Success (at + 1) refl;
         empty_next = here.leads Fault otherwise refl;
       })

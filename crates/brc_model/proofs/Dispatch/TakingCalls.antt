@@ -375,7 +375,7 @@ module _ {program : Program} {g : Scene} {before : Place} {context : Context} {a
       let free : is_owned (var_of (without_stolen s arguments) to) ≡ false =
       still_unowned s (stolen arguments) to (stolen_low arguments here.variables.3) here.inside.vars met.free in
       let taken : SilentTaken program g moves place = record {
-        moves_fit = handing.moves_fit;
+        moves_fit = handing.moves_fit g.layout;
         placed = (
           entry_of (map (λ a. a.parameter) arguments),
           callee_inside,

@@ -25,7 +25,6 @@ use Rattle.brc_model.specs.Paths.{At, path_end}
 use Rattle.brc_model.specs.Threads.{row_of}
 use Rattle.brc_model.specs.KnownKinds.{IsTrueKind}
 use Rattle.brc_model.specs.Duties.{cells_of, has_resource}
-use Rattle.brc_model.specs.Limits.{text_cells}
 use Rattle.brc_model.specs.Layout.{row_at}
 use Rattle.brc_model.specs.Machine.{has_room}
 use Rattle.brc_model.specs.Actions.{Does, Silent, always, number_word, file_word, sock_word, grant_action, granted_birth, lend_action, return_action, dispatch_instruction, dispatch_inside, by_variable}
@@ -163,7 +162,7 @@ module _ (program : Program) (g : Scene) (context : Context) (at : ℕ) (rows : 
 
   granted_taken : (i : Instr) (to word otherwise : ℕ) (kind : Kind)
       → (here : StandsInside program context g at rows s Granted i) → in_flight (Some i) Granted rows ≡ None
-      → names s.locked to ≡ false → to < 16 → is_owned (var_of s to) ≡ false → cells_of word ≤ text_cells
+      → names s.locked to ≡ false → to < 16 → is_owned (var_of s to) ≡ false → cells_of word ≤ g.layout.cells
       → is_counted_kind (kind_of_word word) ≡ true
       → path_end (running program context.outer) (here.inside.exits ++ Success ∷ []) ≡ At (at + 1)
       (put s to (Owned kind))
@@ -317,7 +316,7 @@ module _ (program : Program) (g : Scene) (context : Context) (at : ℕ) (rows : 
   read_granted to file most otherwise here =
       granted_taken (Read to file most otherwise) to (number_word 0) otherwise kinds.Num here refl
       (first_false _ _ here.met.unlocked) here.variables.0 (first_false _ _ here.met.free)
-      (number_cells 0 (omega arith)) (number_counts 0 (omega arith)) (here.leads Success (at + 1) refl)
+      (number_cells 0 g.layout.cells (omega arith)) (number_counts 0 (omega arith)) (here.leads Success (at + 1) refl)
       (here.leads Fault otherwise refl)
 
   -- ---- write

@@ -15,7 +15,7 @@ use Rattle.brc_model.specs.declared.duty.Duty.TheVariants.{LockGate, UnlockGate}
 use Rattle.brc_model.specs.declared.actor.Place.{Place}
 use Rattle.brc_model.specs.declared.actor.Context.{Context}
 use Rattle.brc_model.specs.declared.actor.Place.TheVariants.{InCall, Exiting}
-use Rattle.brc_model.specs.VarStates.{var_of, is_empty, kind_of, names, without_item, without_items, with_lock, is_one_of, lockable}
+use Rattle.brc_model.specs.VarStates.{var_of, is_empty, names, without_item, without_items, with_lock}
 use Rattle.brc_model.specs.Threads.{row_of}
 use Rattle.brc_model.specs.References.{one_if}
 use Rattle.brc_model.specs.Actions.{Does, always, dispatch_instruction}
@@ -26,8 +26,7 @@ use Rattle.brc_model.proofs.Dispatch.Holds.{once_each, Activation, of_variables,
 use Rattle.brc_model.proofs.Dispatch.Grounded.{IsInside, grounded-without, says-without}
 use Rattle.brc_model.proofs.Dispatch.Guards.{is_kept, guards_none, guards_row}
 use Rattle.brc_model.proofs.Dispatch.Coded.{PlaceFits, fits_with}
-use Rattle.brc_model.proofs.Dispatch.Lockable.{lockable_word}
-use Rattle.brc_model.proofs.Dispatch.TakingUp.{Scene, StandsAt, Locks, Unlocks, Nothing, Taken, IsTaken, taken_with_row, in_call_stays, words_of}
+use Rattle.brc_model.proofs.Dispatch.TakingUp.{Scene, StandsAt, Locks, Unlocks, Nothing, Taken, IsTaken, taken_with_row, in_call_stays}
 use Rattle.brc_model.proofs.Dispatch.Standing.{named_at, keeps_all}
 use Rattle.brc_model.proofs.Dispatch.Programs.{Program}
 
@@ -73,8 +72,6 @@ module _ {program : Program} {g : Scene} {before : Place} {context : Context} {a
       guards_none s variables s.locked g.locked (first_false _ _ here.met.first_lock) here.guards in
       let no_items : borrows_item (var_of s object) ≡ true → ⊥ = λ borrows.
       none_some _ (sym none ∙ (here.items object live.object borrows live.is_row).is_locked) in
-      let can : is_one_of (kind_of (var_of s object)) lockable ≡ true =
-      not-false _ (first_false _ _ here.met.right_kind) in
       let locked = with_lock s (Some object) in
       let next : IsInside (call_of program context) (at + 1) variables locked = record {
         is_call = here.inside.is_call;
@@ -108,9 +105,7 @@ module _ {program : Program} {g : Scene} {before : Place} {context : Context} {a
       (in_call_stays context (at + 1) variables) back here.remains in
       record {
         placed = placed.0;
-        starts = Locks live.object live.backs (here.counted live.object
-            (lockable_word (kind_of (var_of s object)) (words_of g live.object)
-            (here.kinds object live.object live.is_row) can)) none;
+        starts = Locks live.object live.backs none;
         follows = Nothing placed.1;
         keeps = λ x is. absurd (let wrong : None ≡ Some x = sym none ∙ is in cc);
       } in

@@ -4,7 +4,7 @@ use Rattle.std.specs.Prelude.{◌==◌, ◌&&◌, nat_lt, slice_set}
 use Rattle.std.specs.List.{list_any}
 use Rattle.std.proofs.lemmas.List.{length-set}
 use Rattle.brc_lang.specs.declared.module.Instr.{Instr}
-use Rattle.brc_lang.specs.declared.module.Instr.TheVariants.{NoneObject, Move as MoveReference, Goto, Again}
+use Rattle.brc_lang.specs.declared.module.Instr.TheVariants.{NoneObject, Take, Move as MoveReference, Goto, Again}
 use Rattle.brc_lang.specs.declared.kind.Kind.TheVariants as kinds
 use Rattle.brc_model.specs.declared.state.VarState.{VarState}
 use Rattle.brc_model.specs.declared.state.VarState.TheVariants.{Empty, Owned}
@@ -32,9 +32,12 @@ use Rattle.brc_model.proofs.Dispatch.Guards.{guards-put}
 use Rattle.brc_model.proofs.Dispatch.Coded.{PlaceFits}
 use Rattle.brc_model.proofs.Dispatch.TakingUp.{Scene, StandsAt, holds_at_none, IsTaken, taken_with_row, in_call_stays, SilentTaken}
 use Rattle.brc_model.proofs.Dispatch.OneMoreOrLess.{still_free, newref_held, emptied_held}
-use Rattle.brc_model.proofs.Keeping.SilentMoves.{Stays, GainsNone, PassesOn}
-use Rattle.brc_model.specs.Layout.{none_row}
+use Rattle.brc_model.proofs.Keeping.SilentMoves.{Stays, GainsImmortal, PassesOn}
+use Rattle.brc_model.specs.Layout.{none_row, is_immortal_row, first_immortal_list}
 use Rattle.brc_model.proofs.Dispatch.Programs.{Program}
+use Rattle.brc_lang.specs.declared.kind.Kind.{Kind}
+use Rattle.brc_lang.specs.Limits.{variable_count}
+use Rattle.brc_model.proofs.Basics.Blocks.{list_immortal}
 
 -- Gaining the reference that the thread lacks makes the bag fit what the thread is to hold.
 pub gained_holds : (bag : List Reference) (t : ℕ) (by : Holding) (row : ℕ) (says : Holding → ℕ → Bool)
@@ -48,50 +51,64 @@ gained_holds bag t by row says lacks k object =
     ap one_if (same_is t row by k object) in
     omega (arith, lacks k object, held-cons r (reference_of t by row) bag, one)
 
--- ---- none
+-- ---- immortal objects
 
 module _ {program : Program} {g : Scene} {before : Place} {context : Context} {at : ℕ} {variables : List (Option ℕ)}
     {s : State} where
+  -- A variable that owns nothing takes a reference to an immortal object.
+  immortal_taken : (to row : ℕ) (kind : Kind) (i : Instr) → StandsAt program context g before at variables s i
+      → to < variable_count → is_owned (var_of s to) ≡ false → names s.locked to ≡ false
+      → target i Success at ≡ Some (at + 1) → after i Success s ≡ put s to (Owned kind)
+      → is_immortal_row g.layout row ≡ true
+      → SilentTaken program g (gain g.thread (by_variable context to) row)
+      (InCall context (at + 1) (slice_set variables to (Some row)))
+  immortal_taken to row kind i here low free unlocked leads_on leaves immortal =
+      let var : VarState = Owned kind in
+      let in_vars : to < length s.vars = omega (arith, low, here.inside.vars) in
+      let in_rows : to < length variables = omega (arith, low, here.inside.rows) in
+      let next : IsInside (call_of program context) (at + 1) (slice_set variables to (Some row)) (put s to var) =
+      record {
+        is_call = here.inside.is_call;
+        exits = here.inside.exits ++ Success ∷ [];
+        arrived = here.leads Success (at + 1) leads_on ∙ ap (λ (state : State). At (at + 1) state) leaves;
+        vars = length-set s.vars to var ∙ here.inside.vars;
+        rows = length-set variables to (Some row) ∙ here.inside.rows;
+        grounded =
+            grounded-put (call_of program context) s variables to var (Some row) in_vars in_rows (row, refl)
+            here.inside.grounded;
+      } in
+      let holds : Holds (reference_of g.thread (by_variable context to) row ∷ g.bag) g.thread
+      (of_variables (call_of program context) (put s to var) (slice_set variables to (Some row))) =
+      record {
+        each = gained_holds g.bag g.thread (by_variable context to) row _
+            (newref_held g.bag g.thread (call_of program context) s variables to row var in_vars in_rows free refl
+            here.holds);
+      } in
+      record {
+        moves_fit = GainsImmortal (by_variable context to) row immortal;
+        placed = (
+          put s to var,
+          next,
+          guards-put s variables to var (Some row) s.locked g.locked unlocked here.guards,
+          holds_at_none _ g.thread _ holds,
+        );
+        stays = in_call_stays context (at + 1) (slice_set variables to (Some row));
+      }
+
   pub none_taken : (to : ℕ) → StandsAt program context g before at variables s (NoneObject to)
       → IsTaken program g (dispatch_instruction g.layout g.thread g.used before context at variables
       (Some (NoneObject to)))
   none_taken to here =
-      let var : VarState = Owned kinds.None in
-      let free : is_owned (var_of s to) ≡ false = first_false _ _ here.met.free in
-      let in_vars : to < length s.vars = omega (arith, here.variables, here.inside.vars) in
-      let in_rows : to < length variables = omega (arith, here.variables, here.inside.rows) in
-      let next : IsInside (call_of program context) (at + 1) (slice_set variables to (Some none_row)) (put s to var) =
-      record {
-        is_call = here.inside.is_call;
-        exits = here.inside.exits ++ Success ∷ [];
-        arrived = here.leads Success (at + 1) refl;
-        vars = length-set s.vars to var ∙ here.inside.vars;
-        rows = length-set variables to (Some none_row) ∙ here.inside.rows;
-        grounded =
-            grounded-put (call_of program context) s variables to var (Some none_row) in_vars in_rows (none_row, refl)
-            here.inside.grounded;
-      } in
-      let holds : Holds (reference_of g.thread (by_variable context to) none_row ∷ g.bag) g.thread
-      (of_variables (call_of program context) (put s to var) (slice_set variables to (Some none_row))) =
-      record {
-        each = gained_holds g.bag g.thread (by_variable context to) none_row _
-            (newref_held g.bag g.thread (call_of program context) s variables to none_row var in_vars in_rows free refl
-            here.holds);
-      } in
-      let taken : SilentTaken program g (gain g.thread (by_variable context to) none_row)
-      (InCall context (at + 1) (slice_set variables to (Some none_row))) =
-      record {
-        moves_fit = GainsNone (by_variable context to);
-        placed = (
-          put s to var,
-          next,
-          guards-put s variables to var (Some none_row) s.locked g.locked
-              (first_false _ _ here.met.unlocked) here.guards,
-          holds_at_none _ g.thread _ holds,
-        );
-        stays = in_call_stays context (at + 1) (slice_set variables to (Some none_row));
-      } in
-      taken
+      immortal_taken to none_row kinds.None (NoneObject to) here here.variables (first_false _ _ here.met.free)
+      (first_false _ _ here.met.unlocked) refl refl refl
+
+  pub immortal_list_taken : (to list : ℕ) → StandsAt program context g before at variables s (Take to list)
+      → IsTaken program g (dispatch_instruction g.layout g.thread g.used before context at variables
+      (Some (Take to list)))
+  immortal_list_taken to list here =
+      immortal_taken to (first_immortal_list g.layout + list) kinds.List (Take to list) here here.variables.0
+      (first_false _ _ here.met.free) (first_false _ _ here.met.unlocked) refl refl
+      (list_immortal g.layout (first_immortal_list g.layout + list) (omega arith) (omega (arith, here.allowed)))
 
 -- ---- a reference passed on
 

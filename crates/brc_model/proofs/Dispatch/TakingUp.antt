@@ -4,7 +4,7 @@ use Rattle.std.specs.Prelude.{slice_get}
 use Rattle.brc_lang.specs.declared.module.Instr.{Instr}
 use Rattle.brc_model.specs.declared.state.State.{State}
 use Rattle.brc_model.specs.declared.state.Exit.{Exit}
-use Rattle.brc_model.specs.VarStates.{names, after, target, is_one_of, lockable}
+use Rattle.brc_model.specs.VarStates.{after, target}
 use Rattle.brc_model.specs.Paths.{At, path_end}
 use Rattle.brc_model.specs.KnownKinds.{HaveTrueKinds}
 use Rattle.brc_lang.specs.Grammar.{IsInstruction}
@@ -34,10 +34,10 @@ use Rattle.brc_model.proofs.Dispatch.Rooms.{awaits_inside}
 use Rattle.brc_model.proofs.Dispatch.Coded.{has_stage, in_flight, PlaceFits}
 use Rattle.brc_model.specs.Duties.{cells_of, has_resource}
 use Rattle.brc_model.specs.Kinds.{kind_of_word, is_counted_kind}
-use Rattle.brc_model.specs.Limits.{text_cells}
 use Rattle.brc_model.specs.declared.layout.Layout.{Layout}
-use Rattle.brc_model.specs.Layout.{block_size, row_at, IsCounted}
+use Rattle.brc_model.specs.Layout.{block_size, row_at}
 use Rattle.brc_model.proofs.Dispatch.Programs.{Program, running, code_in, IsSound}
+use Rattle.brc_model.proofs.Dispatch.Allowed.{IsAllowedIn}
 
 -- ---- an empty agenda
 
@@ -78,10 +78,6 @@ scene_of m t a = record {
 abbrev pub words_of : Scene → ℕ → ℕ
 words_of g x = g.memory (KindOf x)
 
--- Each row whose kind word names a kind that can be locked is counted: it isn't none's.
-abbrev pub CountsLockable : Scene → Type 0
-CountsLockable g = (x : ℕ) → is_one_of (kind_of_word (words_of g x)) lockable ≡ true → IsCounted g.layout x
-
 -- A thread at an instruction whose conditions are met: some path reaches the point and goes on from it, and what the
 -- path's state says of references, of the lock, of kinds and of items is true. The thread got to the instruction at the
 -- place `before`.
@@ -94,12 +90,12 @@ pub record StandsAt (program : Program) (context : Context) (g : Scene) (before 
   pub guards : LocksAgree s rows g.locked
   pub kinds : HaveTrueKinds (words_of g) s rows
   pub items : HaveItems g.memory g.locked s rows
-  pub counted : CountsLockable g
   -- outside its instructions a thread has lent nothing
   pub unlent : g.lent ≡ None
   pub back : PlaceFits program g.bag g.thread [] g.locked before
   pub remains : before ≢ Exiting
   pub variables : IsInstruction i
+  pub allowed : IsAllowedIn g.layout i
   pub met : AreMet i s
   pub leads : (exit : Exit) (next : ℕ) → target i exit at ≡ Some next
       → path_end (running program context.outer) (inside.exits ++ exit ∷ []) ≡ At next (after i exit s)
@@ -138,11 +134,11 @@ pub data MayBegin (g : Scene) : Duty → List Duty → Type 0 where
   Gives : (row : ℕ) (h : Holding) (rest : List Duty) → 0 < references_to row g.bag
       → MayBegin g (ReleaseLoad row h) rest
   Takes : (row : ℕ) (h : Holding) (rest : List Duty) → Backs g row → MayBegin g (RetainLoad row h) rest
-  Bears : (h : Holding) (w : ℕ) → g.used < block_size g.layout g.thread → cells_of w ≤ text_cells
+  Bears : (h : Holding) (w : ℕ) → g.used < block_size g.layout g.thread → cells_of w ≤ g.layout.cells
       → is_counted_kind (kind_of_word w) ≡ true
       → MayBegin g (BirthKind (row_at g.layout g.thread g.used) h w) []
   Asks : (row : ℕ) → Backs g row → MayBegin g (KindLoad row) []
-  Locks : (row : ℕ) → Backs g row → IsCounted g.layout row → g.locked ≡ None → MayBegin g (LockGate row) []
+  Locks : (row : ℕ) → Backs g row → g.locked ≡ None → MayBegin g (LockGate row) []
   Unlocks : (row : ℕ) → Backs g row → g.locked ≡ Some row → g.lent ≡ None → MayBegin g (UnlockGate row) []
   Loads : (row i : ℕ) → Backs g row → g.locked ≡ Some row → i < cells_of (words_of g row)
       → MayBegin g (CellLoad row i) []
@@ -168,7 +164,7 @@ pub record Taken (program : Program) (g : Scene) (found : ℕ) (place : Place) (
     pub keeps : (x : ℕ) → g.locked ≡ Some x → HeldBeside g.bag g.thread x d
 
 pub record SilentTaken (program : Program) (g : Scene) (moves : List Move) (place : Place) : Type 0 where
-  pub moves_fit : SilentMoves g.bag g.thread moves
+  pub moves_fit : SilentMoves g.layout g.bag g.thread moves
   pub placed : PlaceFits program (bag_after g.bag moves) g.thread [] g.locked place
   pub stays : place ≢ Exiting
 

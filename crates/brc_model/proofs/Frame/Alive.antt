@@ -1,6 +1,6 @@
 -- A row with a reference, a pending decrement, a decision or a merge under way is live. A thread's agenda weighs at
 -- most what all agendas together weigh.
-use Rattle.std.proofs.Common.{◌≡◌, ◌≢◌, ℕ, ◌+◌, ◌<◌, ◌≤◌, List, ◌∷◌, Some, refl, sym, ap, ◌∙◌, arith}
+use Rattle.std.proofs.Common.{◌≡◌, ◌≢◌, ℕ, ◌+◌, ◌<◌, ◌≤◌, List, ◌∷◌, Some, refl, sym, ap, ◌∙◌, arith, inl, inr}
 use Rattle.std.specs.Prelude.{slice_get, sum_by}
 use Rattle.std.proofs.lemmas.List.Sums.{sum_by-cons}
 use Rattle.brc_model.specs.AbstractState.{references_to}
@@ -15,7 +15,8 @@ use Rattle.brc_model.specs.Accounts.{Accounts}
 use Rattle.brc_model.specs.Invariant.{numbers_of, CoreInvariant}
 use Rattle.brc_model.specs.Knowledge.{IsBacked, ByReference, ByItem}
 use Rattle.brc_model.proofs.Objects.Weights.{agenda_weight-le}
-use Rattle.brc_model.specs.Layout.{block_of, IsCounted}
+use Rattle.brc_model.specs.Layout.{block_of, IsCounted, is_immortal_row}
+use Rattle.std.proofs.lemmas.Bool.{cases_Bool}
 
 -- ---- weights
 
@@ -47,8 +48,8 @@ abbrev pub Alive : Machine → ℕ → Type 0
 Alive m x = IsAlive (block_of m.layout x) (m.life x) (numbers_of m x)
 
 -- A live row was born.
-pub alive_born : (m : Machine) (x : ℕ) → Alive m x → m.life x ≢ Unborn
-alive_born m x alive unborn = let wrong : Live ≡ Unborn = sym alive.life ∙ unborn in cc
+pub live_born : (m : Machine) (x : ℕ) → m.life x ≡ Live → m.life x ≢ Unborn
+live_born m x lives unborn = let wrong : Live ≡ Unborn = sym lives ∙ unborn in cc
 
 module _ {p : Accounts} {n : ℕ} {m : Machine} where
   pub alive_referenced : (x : ℕ) → CoreInvariant p n m → IsCounted m.layout x
@@ -85,3 +86,11 @@ module _ {p : Accounts} {n : ℕ} {m : Machine} where
   pub alive_backed : (t : ℕ) (a : Actor) (x : ℕ) → CoreInvariant p n m → IsCounted m.layout x → IsBacked m t a x
       → Alive m x
   alive_backed t a x core pos backed = alive_referenced x core pos (backed_referenced p n m t a x core backed)
+
+  -- An immortal object lives, too.
+  pub backed_lives : (t : ℕ) (a : Actor) (x : ℕ) → CoreInvariant p n m → IsBacked m t a x → m.life x ≡ Live
+  backed_lives t a x core backed =
+      elim (cases_Bool (is_immortal_row m.layout x)) [
+        | inl immortal ↦ core.immortals_live x immortal
+        | inr counted ↦ (alive_backed t a x core counted backed).life
+      ]

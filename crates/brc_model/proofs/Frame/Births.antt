@@ -13,8 +13,8 @@ use Rattle.brc_model.specs.Invariant.{AtDuty}
 use Rattle.brc_model.specs.Layout.{block_of}
 use Rattle.brc_model.proofs.Basics.Blocks.{next_block, next_unborn}
 use Rattle.brc_model.proofs.Basics.Written.{written_apart, written_load}
-use Rattle.brc_model.proofs.Frame.Alive.{alive_born}
-use Rattle.brc_model.proofs.Frame.Leaves.{head_of, locked_alive}
+use Rattle.brc_model.proofs.Frame.Alive.{live_born}
+use Rattle.brc_model.proofs.Frame.Leaves.{head_of, locked_lives}
 
 module _ (p : Accounts) (n : ℕ) (m : Machine) (t u : ℕ) (a b : Actor) where
   -- Two threads' next rows are in different blocks.
@@ -30,7 +30,7 @@ module _ (p : Accounts) (n : ℕ) (m : Machine) (t u : ℕ) (a b : Actor) where
 
   locked_born : (d : Duty) (rest : List Duty) (y : ℕ) → AtDuty p n m t a d rest → a.locked ≡ Some y
       → m.life y ≢ Unborn
-  locked_born d rest y here locked = alive_born m y (locked_alive t a y here.core here.found locked)
+  locked_born d rest y here locked = live_born m y (locked_lives t a y here.core here.found locked)
 
   kind_left : (d : Duty) (rest : List Duty) (x : ℕ) → AtDuty p n m t a d rest → u ≢ t → IsNext m u b x
       → (machine_by_duty m t a d rest).memory (KindOf x) ≡ m.memory (KindOf x)

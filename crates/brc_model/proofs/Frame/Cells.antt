@@ -24,7 +24,7 @@ use Rattle.brc_model.proofs.Basics.Bag.{same_holding-refl, held-cons, held-witho
 use Rattle.brc_model.proofs.Basics.MovesApart.{held-without_apart, moves_off_cell}
 use Rattle.brc_model.proofs.Basics.Lists.{and_first, and_second}
 use Rattle.brc_model.proofs.Basics.Written.{zero_written, written_here, written_load}
-use Rattle.brc_model.proofs.Frame.Leaves.{head_of, gives_held, locked_alive}
+use Rattle.brc_model.proofs.Frame.Leaves.{head_of, gives_held, locked_lives}
 
 -- ---- words
 
@@ -87,7 +87,7 @@ module _ {p : Accounts} {n : ℕ} {m : Machine} {t : ℕ} {a : Actor} {rest : Li
   dead_unfilled (CellSwap y j z h) x i here dead =
       let locked = (head_of here).0 in
       not_filled x i y j (λ lists cells.
-      dead (ap m.life (sym lists) ∙ (locked_alive t a y here.core here.found locked).life))
+      dead (ap m.life (sym lists) ∙ (locked_lives t a y here.core here.found locked)))
   dead_unfilled _ x i here dead = refl
 
   -- It fills no cell past the list's number of cells.

@@ -9,7 +9,7 @@ use Rattle.brc_model.specs.declared.duty.Holding.{Holding}
 use Rattle.brc_model.specs.declared.address.Address.TheVariants.{KindOf, Cell}
 use Rattle.brc_model.specs.Duties.{address_of}
 use Rattle.brc_model.specs.declared.actor.Actor.{Actor}
-use Rattle.brc_model.specs.Machine.{Machine, Unborn, actor_by, machine_by_duty}
+use Rattle.brc_model.specs.Machine.{Machine, Unborn, actor_by, machine_by_duty, Live}
 use Rattle.brc_model.specs.Accounts.{Accounts}
 use Rattle.brc_word.specs.Words.{locked_word}
 use Rattle.brc_model.specs.Invariant.{CoreInvariant, AtDuty}
@@ -18,9 +18,9 @@ use Rattle.brc_model.specs.OpenWork.{is_piece}
 use Rattle.brc_model.proofs.Basics.Blocks.{next_unborn}
 use Rattle.brc_model.proofs.Basics.Lists.{none_some}
 use Rattle.brc_model.proofs.Basics.Written.{written_apart, written_load}
-use Rattle.brc_model.proofs.Frame.Alive.{Alive, alive_born}
+use Rattle.brc_model.proofs.Frame.Alive.{live_born}
 use Rattle.brc_model.proofs.Frame.Known.{LeavesList, KeepsList}
-use Rattle.brc_model.proofs.Frame.Leaves.{head_of, locked_alive, alive_apart}
+use Rattle.brc_model.proofs.Frame.Leaves.{head_of, locked_lives, live_apart}
 
 -- Says whether the step may take items away from its own thread: it unlocks the list or changes a cell of it.
 abbrev pub drops_items : Duty → Bool
@@ -45,12 +45,13 @@ module _ (p : Accounts) (n : ℕ) (m : Machine) (t : ℕ) (a : Actor) where
   -- ---- cells
 
   -- A thread that empties a cell leaves those of a living list.
-  settled_apart : (y j k : ℕ) (rest : List Duty) (x i : ℕ) → AtDuty p n m t a (SettleCell y j k) rest → Alive m x
+  settled_apart : (y j k : ℕ) (rest : List Duty) (x i : ℕ) → AtDuty p n m t a (SettleCell y j k) rest
+      → m.life x ≡ Live
       → (machine_by_duty m t a (SettleCell y j k) rest).memory (Cell x i) ≡ m.memory (Cell x i)
-  settled_apart y j k rest x i here alive =
+  settled_apart y j k rest x i here lives =
       let dies = (head_of here).1 in
       written_apart m.memory (Cell y j) (Cell x i) 0
-      (ap (λ (b : Bool). b && (j == i)) (ne_eqb y x (alive_apart m t x y dies alive)))
+      (ap (λ (b : Bool). b && (j == i)) (ne_eqb y x (live_apart m t x y dies lives)))
 
   -- Two threads that have locked one row are the same thread: the row's gate names it.
   pub one_locker : (u x : ℕ) (b : Actor) → CoreInvariant p n m → slice_get m.actors t ≡ Some a
@@ -75,7 +76,7 @@ module _ (p : Accounts) (n : ℕ) (m : Machine) (t : ℕ) (a : Actor) where
       → slice_get m.actors u ≡ Some b → b.locked ≡ Some x
       → (machine_by_duty m t a d rest).memory (Cell x i) ≡ m.memory (Cell x i)
   items_left (SettleCell y j k) rest here u x i b ne found e =
-      settled_apart y j k rest x i here (locked_alive u b x here.core found e)
+      settled_apart y j k rest x i here (locked_lives u b x here.core found e)
   items_left (CellLoad y j) rest here u x i b ne found e = written_load m.memory (Cell y j) (Cell x i)
   items_left (CellSwap y j z h) rest here u x i b ne found e =
       swapped_apart y j z h rest u x i b here ne found e
@@ -85,7 +86,7 @@ module _ (p : Accounts) (n : ℕ) (m : Machine) (t : ℕ) (a : Actor) where
   pub own_items_left : (d : Duty) (rest : List Duty) → AtDuty p n m t a d rest → drops_items d ≡ false → (x i : ℕ)
       → a.locked ≡ Some x → (machine_by_duty m t a d rest).memory (Cell x i) ≡ m.memory (Cell x i)
   own_items_left (SettleCell y j k) rest here keeps x i e =
-      settled_apart y j k rest x i here (locked_alive t a x here.core here.found e)
+      settled_apart y j k rest x i here (locked_lives t a x here.core here.found e)
   own_items_left (CellLoad y j) rest here keeps x i e = written_load m.memory (Cell y j) (Cell x i)
   own_items_left (CellSwap y j z h) rest here keeps x i e = absurd cc
   own_items_left _ rest here keeps x i e = refl
@@ -96,7 +97,7 @@ module _ (p : Accounts) (n : ℕ) (m : Machine) (t : ℕ) (a : Actor) where
   pub lists_left : (d : Duty) (rest : List Duty) → AtDuty p n m t a d rest → (u x : ℕ) (b : Actor) → u ≢ t
       → slice_get m.actors u ≡ Some b → b.locked ≡ Some x → LeavesList m (machine_by_duty m t a d rest) x
   lists_left d rest here u x b ne found e = record {
-    kind = word_stays d rest x here (alive_born m x (locked_alive u b x here.core found e));
+    kind = word_stays d rest x here (live_born m x (locked_lives u b x here.core found e));
     cells = λ i. items_left d rest here u x i b ne found e;
   }
 
@@ -104,7 +105,7 @@ module _ (p : Accounts) (n : ℕ) (m : Machine) (t : ℕ) (a : Actor) where
   still_locked : (d : Duty) (rest : List Duty) (x : ℕ) → AtDuty p n m t a d rest → drops_items d ≡ false
       → a.locked ≡ Some x
       → (actor_by m.layout t a d rest (m.memory (address_of m.layout t a.head d))).locked ≡ Some x
-  still_locked (LockGate y) rest x here keeps e = absurd (none_some x (sym (head_of here).2 ∙ e))
+  still_locked (LockGate y) rest x here keeps e = absurd (none_some x (sym (head_of here).1 ∙ e))
   still_locked (UnlockGate y) rest x here keeps e = absurd cc
   still_locked _ rest x here keeps e = e
 
@@ -115,7 +116,7 @@ module _ (p : Accounts) (n : ℕ) (m : Machine) (t : ℕ) (a : Actor) where
   own_list_kept d rest here keeps x e = (
     still_locked d rest x here keeps e,
     record {
-      kind = word_stays d rest x here (alive_born m x (locked_alive t a x here.core here.found e));
+      kind = word_stays d rest x here (live_born m x (locked_lives t a x here.core here.found e));
       cells = λ i. own_items_left d rest here keeps x i e;
     },
   )
@@ -125,6 +126,6 @@ module _ (p : Accounts) (n : ℕ) (m : Machine) (t : ℕ) (a : Actor) where
   -- No retain is put aside when the thread drops items beside what is put aside.
   pub drops_alone : (d : Duty) (rest : List Duty) → AtDuty p n m t a d rest → is_piece d ≡ true → drops_items d ≡ true
       → HasNoRetainAside a
-  drops_alone (UnlockGate y) rest here piece drops = (head_of here).3
+  drops_alone (UnlockGate y) rest here piece drops = (head_of here).2
   drops_alone (CellSwap y j z h) rest here piece drops = absurd cc
   drops_alone _ rest here piece drops = absurd cc

@@ -28,7 +28,7 @@ use Rattle.brc_model.specs.Gates.{making, LocksFit}
 use Rattle.brc_model.specs.Invariant.{AtDuty, CoreInvariant, numbers_of}
 use Rattle.brc_model.proofs.Objects.RowSteps.{shared_range, shared_up, shared_down, shared_merged}
 use Rattle.brc_model.proofs.Frame.Aside.{extra_held}
-use Rattle.brc_model.proofs.Frame.Alive.{first_weighs, Alive, alive_referenced, alive_waiting, alive_deciding, alive_merging, alive_backed}
+use Rattle.brc_model.proofs.Frame.Alive.{first_weighs, Alive, alive_referenced, alive_waiting, alive_deciding, alive_merging, backed_lives}
 use Rattle.brc_model.proofs.Basics.Written.{written_here, written_apart, written_load, apart_local, apart_shared, apart_gate, apart_thread}
 use Rattle.brc_model.proofs.Frame.Others.{is_dying}
 use Rattle.brc_model.proofs.Basics.Blocks.{next_counted, next_unborn}
@@ -270,10 +270,9 @@ module _ {p : Accounts} {n : ℕ} {m : Machine} where
       ByReference it.by (locked_held m.abstract.references t (p t) a it.by x fits.holds it.held_so)
 
   -- So the list lives.
-  pub locked_alive : (t : ℕ) (a : Actor) (x : ℕ) → CoreInvariant p n m → slice_get m.actors t ≡ Some a
-      → a.locked ≡ Some x → Alive m x
-  locked_alive t a x core found e =
-      alive_backed t a x core ((core.each t a found).0.locks x e).counted (locked_backed t a x core found e)
+  pub locked_lives : (t : ℕ) (a : Actor) (x : ℕ) → CoreInvariant p n m → slice_get m.actors t ≡ Some a
+      → a.locked ≡ Some x → m.life x ≡ Live
+  locked_lives t a x core found e = backed_lives t a x core (locked_backed t a x core found e)
 
 unlocked_by : (account : Account) (m : Machine) (t : ℕ) (a : Actor) (locked : Option ℕ) → a.locked ≡ locked
     → LocksFit account m t a → HoldsNone account → locked ≡ None
@@ -290,8 +289,8 @@ module _ {p : Accounts} {n : ℕ} {m : Machine} where
       unlocked_by (p t) m t a a.locked refl fits.locks (fits.exited e).0
 
 -- A row that dies, by whichever thread, isn't one that lives.
-pub alive_apart : (m : Machine) (t x y : ℕ) → m.life y ≡ Dying t → Alive m x → y ≡ x → ⊥
-alive_apart m t x y dies alive same = let wrong : Live ≡ Dying t = sym alive.life ∙ ap m.life (sym same) ∙ dies in cc
+pub live_apart : (m : Machine) (t x y : ℕ) → m.life y ≡ Dying t → m.life x ≡ Live → y ≡ x → ⊥
+live_apart m t x y dies lives same = let wrong : Live ≡ Dying t = sym lives ∙ ap m.life (sym same) ∙ dies in cc
 
 -- The gate of a locked list isn't free.
 pub locked_unfree : (t word : ℕ) → word ≡ locked_word t → (word == free_word) ≡ false
@@ -304,11 +303,11 @@ module _ {p : Accounts} {n : ℕ} {m : Machine} {t : ℕ} {a : Actor} {rest : Li
       (new_word m.layout t a.head d (m.memory (address_of m.layout t a.head d))) (Gate x) ≡ m.memory (Gate x)
   locks_left (Die y) here u x b ne found e =
       written_apart m.memory (Gate y) (Gate x) _
-      (apart_gate y x (alive_apart m t x y (head_of here).1 (locked_alive u b x here.core found e)))
+      (apart_gate y x (live_apart m t x y (head_of here).1 (locked_lives u b x here.core found e)))
   locks_left Settle here u x b ne found e = written_load m.memory (Gate (a.head - 1)) (Gate x)
   locks_left (SettleEnd y) here u x b ne found e =
       written_apart m.memory (Gate y) (Gate x) _
-      (apart_gate y x (alive_apart m t x y (head_of here).1 (locked_alive u b x here.core found e)))
+      (apart_gate y x (live_apart m t x y (head_of here).1 (locked_lives u b x here.core found e)))
   locks_left (LockGate y) here u x b ne found e =
       elim (eqb_tells y x) [
         | inl same ↦
@@ -320,7 +319,7 @@ module _ {p : Accounts} {n : ℕ} {m : Machine} {t : ℕ} {a : Actor} {rest : Li
         | inr other ↦ written_apart m.memory (Gate y) (Gate x) _ (apart_gate y x other.1)
       ]
   locks_left (UnlockGate y) here u x b ne found e =
-      let mine = ((here.core.each t a here.found).0.locks y (head_of here).2).gate in
+      let mine = ((here.core.each t a here.found).0.locks y (head_of here).1).gate in
       let theirs = ((here.core.each u b found).0.locks x e).gate in
       written_apart m.memory (Gate y) (Gate x) _
       (apart_gate y x (λ same. ne
@@ -335,8 +334,8 @@ gate_clash m t u x y ne mine other same =
     let both : Dying t ≡ Dying u = sym mine ∙ ap m.life same ∙ is_dying (m.life x) u other in
     ne (let e : t ≡ u = cc in sym e)
 
-pub living_clash : (m : Machine) (u x y : ℕ) → Alive m y → dies_by (m.life x) u ≡ true → y ≡ x → ⊥
-living_clash m u x y alive dies same = alive_apart m u y x (is_dying (m.life x) u dies) alive (sym same)
+pub living_clash : (m : Machine) (u x y : ℕ) → m.life y ≡ Live → dies_by (m.life x) u ≡ true → y ≡ x → ⊥
+living_clash m u x y lives dies same = live_apart m u y x (is_dying (m.life x) u dies) lives (sym same)
 
 module _ {p : Accounts} {n : ℕ} {m : Machine} {t : ℕ} {a : Actor} {rest : List Duty} where
   -- A step doesn't change the gate of a row that another thread is finalising.
@@ -349,11 +348,9 @@ module _ {p : Accounts} {n : ℕ} {m : Machine} {t : ℕ} {a : Actor} {rest : Li
   gates_left (SettleEnd y) here u x ne dies =
       written_apart m.memory (Gate y) (Gate x) _ (apart_gate y x (gate_clash m t u x y ne (head_of here).1 dies))
   gates_left (LockGate y) here u x ne dies =
-      let fits = head_of here in
       written_apart m.memory (Gate y) (Gate x) _
-      (apart_gate y x (living_clash m u x y (alive_backed t a y here.core fits.0 fits.1) dies))
+      (apart_gate y x (living_clash m u x y (backed_lives t a y here.core (head_of here).0) dies))
   gates_left (UnlockGate y) here u x ne dies =
-      let fits = head_of here in
       written_apart m.memory (Gate y) (Gate x) _
-      (apart_gate y x (living_clash m u x y (alive_backed t a y here.core fits.0 fits.1) dies))
+      (apart_gate y x (living_clash m u x y (backed_lives t a y here.core (head_of here).0) dies))
   gates_left _ here u x ne dies = refl

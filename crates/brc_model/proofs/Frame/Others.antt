@@ -262,15 +262,11 @@ module _ (m new : Machine) (t u : ℕ) (leaves : LeavesMemory m new t) (ne : u �
         (next_kept x fits.0, fits.1, leaves.kinds x fits.2, same.1 ∙ fits.3 ∙ ap resources_of (sym same.0))
     head_kept (KindLoad x) rest many fits = look_kept x (many x (eq-eqb x x refl)) fits
     head_kept (LockGate x) rest many fits =
-        (counted_kept x fits.0, backs_kept x (many x (eq-eqb x x refl)) fits.1, fits.2)
+        (backs_kept x (many x (eq-eqb x x refl)) fits.0, fits.1)
     head_kept (UnlockGate x) rest many fits =
-        (counted_kept x fits.0, backs_kept x (many x (eq-eqb x x refl)) fits.1, fits.2, fits.3, fits.4)
-    head_kept (CellLoad x i) rest many fits = (
-      counted_kept x fits.0,
-      look_kept x (many x (eq-eqb x x refl)) fits.1,
-      guard_kept x fits.2,
-      cells_kept x i fits.3,
-    )
+        (backs_kept x (many x (eq-eqb x x refl)) fits.0, fits.1, fits.2, fits.3)
+    head_kept (CellLoad x i) rest many fits =
+        (look_kept x (many x (eq-eqb x x refl)) fits.0, guard_kept x fits.1, cells_kept x i fits.2)
     head_kept (CellSwap x i y h) rest many fits = (fits.0, cells_kept x i fits.1)
     head_kept (LendSlot x) rest many fits = (
       counted_kept x fits.0,
@@ -307,7 +303,6 @@ module _ (m new : Machine) (t u : ℕ) (leaves : LeavesMemory m new t) (ne : u �
     locks_kept account locks x e =
         let it = locks x e in
         record {
-          counted = counted_kept x it.counted;
           by = it.by;
           held_so = it.held_so;
           gate = leaves.locks u x b ne found e ∙ it.gate;

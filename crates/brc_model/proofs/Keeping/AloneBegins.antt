@@ -20,9 +20,9 @@ use Rattle.brc_model.specs.Ranges.{IsSmall}
 use Rattle.brc_model.specs.Counting.{Counts, working, IsReady, HasNoneAbout, IsAtHand}
 use Rattle.brc_model.specs.CountingLaws.{SettlesBegin, ClaimsBegin, MarkLoadsBegin, ExitsBegin, IsFirstOfChain, KindsAreAsked, ChainsAreThere}
 use Rattle.brc_model.proofs.Basics.Bag.{one_if_low}
-use Rattle.brc_model.proofs.Frame.Leaves.{locked_alive}
+use Rattle.brc_model.proofs.Frame.Leaves.{locked_lives}
 use Rattle.brc_model.proofs.Limits.Ranges.{row_small, head_small}
-use Rattle.brc_model.proofs.Keeping.FirstOfChain.{first_counts, first_chained, first_row}
+use Rattle.brc_model.proofs.Keeping.FirstOfChain.{first_counts, first_chained, chained_row}
 use Rattle.brc_model.proofs.Keeping.Rearranging.{still_wait}
 use Rattle.brc_model.proofs.Keeping.Replaced.{with_account_itself}
 use Rattle.brc_model.proofs.Keeping.Sits.{Sits}
@@ -44,7 +44,7 @@ chains_there p n m t a counts found =
       first = λ x first. first_chained t a x core found first;
       locked = λ x is.
           let none : one_if (dies_by (m.life x) t) ≡ 0 =
-          ap (λ (l : Life). one_if (dies_by l t)) (locked_alive t a x core found is).life in
+          ap (λ (l : Life). one_if (dies_by l t)) (locked_lives t a x core found is) in
           record {
             later = λ first.
                 omega (
@@ -81,7 +81,6 @@ same_locks account m t a d locks none y e =
     let it = locks y e in
     let no : one_if (lacks d it.by y) ≡ 0 = ap one_if (none it.by y) in
     record {
-      counted = it.counted;
       by = it.by;
       held_so = omega (arith, it.held_so, one_makes it.by y d, no);
       gate = it.gate;
@@ -190,7 +189,7 @@ module _ {p : Accounts} {n : ℕ} {m : Machine} {t : ℕ} {a : Actor} where
   asked_row : (x : ℕ) → CoreInvariant p n m → IsReady m t a → HasNoneAbout a x
       → IsAtHand (p t) m a x ⊎ IsFirstOfChain a x → x < row_count m.layout
   asked_row x core ready alone (inl at_hand) = backed_row t a x core (at_hand_backed x core ready alone at_hand)
-  asked_row x core ready alone (inr first) = first_row t a x core ready.found first
+  asked_row x core ready alone (inr first) = chained_row t a x core ready.found first
 
 -- New work leaves what the thread may look at.
 pub looks_still : (m : Machine) (t : ℕ) (a : Actor) (x : ℕ) (d : Duty) → MayRead m t a x

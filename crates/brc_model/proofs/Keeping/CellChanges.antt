@@ -27,7 +27,7 @@ use Rattle.brc_model.specs.Counting.{Counts, with_account, IsReady}
 use Rattle.brc_model.proofs.Basics.Lists.{and_first, and_second, set_found}
 use Rattle.brc_model.proofs.Basics.Written.{written_apart}
 use Rattle.brc_model.proofs.Frame.Known.{LeavesRow, known_kept}
-use Rattle.brc_model.proofs.Frame.Leaves.{locked_alive, living_clash}
+use Rattle.brc_model.proofs.Frame.Leaves.{locked_lives, living_clash}
 use Rattle.brc_model.proofs.Frame.Others.{LeavesOthers, is_dying, each_fits}
 use Rattle.brc_model.proofs.Frame.Items.{one_locker}
 use Rattle.brc_model.proofs.Keeping.Replaced.{flight_with, with_account_same, with_account_other}
@@ -99,13 +99,13 @@ module _ (p : Accounts) (n : ℕ) (m : Machine) (t : ℕ) (a : Actor) (x i word 
   no_other_lock u y b ne found e (inl locked) same =
       ne (one_locker p n m t a u y b core ready.found found e (subst (λ (z : ℕ). a.locked ≡ Some z) same locked))
   no_other_lock u y b ne found e (inr chained) same =
-      let alive = locked_alive u b y core found e in
-      let wrong : Live ≡ Dying t = sym alive.life ∙ (ap m.life (sym same) ∙ chained.0) in
+      let lives = locked_lives u b y core found e in
+      let wrong : Live ≡ Dying t = sym lives ∙ (ap m.life (sym same) ∙ chained.0) in
       absurd cc
 
   no_other_chain : (u y : ℕ) → u ≢ t → dies_by (m.life y) u ≡ true → GuardsCells m t a x → x ≡ y → ⊥
   no_other_chain u y ne dies (inl locked) same =
-      living_clash m u y x (locked_alive t a x core ready.found locked) dies same
+      living_clash m u y x (locked_lives t a x core ready.found locked) dies same
   no_other_chain u y ne dies (inr chained) same =
       let wrong : Dying u ≡ Dying t = sym (is_dying (m.life y) u dies) ∙ (ap m.life (sym same) ∙ chained.0) in
       let threads : u ≡ t = cc in
@@ -114,7 +114,7 @@ module _ (p : Accounts) (n : ℕ) (m : Machine) (t : ℕ) (a : Actor) (x i word 
   -- The cell of a list that lives, or that the thread has chained, may have any word.
   cell_fits : GuardsCells m t a x → CellFits (m.life x) word
   cell_fits (inl locked) =
-      subst (λ (l : Life). CellFits l word) (sym (locked_alive t a x core ready.found locked).life) tt
+      subst (λ (l : Life). CellFits l word) (sym (locked_lives t a x core ready.found locked)) tt
   cell_fits (inr chained) = subst (λ (l : Life). CellFits l word) (sym chained.0) tt
 
   leaves : LeavesOthers m new t
@@ -176,7 +176,7 @@ module _ (p : Accounts) (n : ℕ) (m : Machine) (t : ℕ) (a : Actor) (x i word 
   locks_still : LocksFit account new t a
   locks_still y e =
       let it = change.locks y e in
-      record { counted = it.counted; by = it.by; held_so = it.held_so; gate = it.gate }
+      record { by = it.by; held_so = it.held_so; gate = it.gate }
 
   linked_still : (head : ℕ) (rows : List ℕ) → Linked m.memory t head rows → Linked new.memory t head rows
   linked_still head [] linked = linked
@@ -242,6 +242,7 @@ module _ (p : Accounts) (n : ℕ) (m : Machine) (t : ℕ) (a : Actor) (x i word 
     few_rows = core.few_rows;
     few_cells = core.few_cells;
     few_immortals = core.few_immortals;
+    few_numbers = core.few_numbers;
     rows = λ y counted.
         subst (λ (k : Numbers). RowInvariant (block_of m.layout y) (m.life y) k) (same_numbers y)
         (core.rows y counted);
@@ -278,6 +279,7 @@ module _ (p : Accounts) (n : ℕ) (m : Machine) (t : ℕ) (a : Actor) (x i word 
     kinds = core.kinds;
     kind_words = core.kind_words;
     immortal_words = core.immortal_words;
+    immortal_kinds = core.immortal_kinds;
     resources = core.resources;
   }
 

@@ -38,7 +38,7 @@ use Rattle.brc_model.proofs.Dispatch.Actions.{SilentFits, ActionFits, action_fit
 silent_keeps : (p : Module) (n : ℕ) (m : StepMachine) (t : ℕ) (a : StepActor) (moves : List Move) (place : Place)
     → (whole : CodeInvariant p n m)
     → slice_get m.actors t ≡ Some a → SilentFits whole.accounts n m t a moves place
-    → KindsHold (silent_by m t a moves place) → ItemsAreThere (silent_by m t a moves place)
+    → KindsHold p.statics (silent_by m t a moves place) → ItemsAreThere (silent_by m t a moves place)
     → RoomsFit (silent_by m t a moves place)
     → KeepsOn p n (not (are_allowed m.layout m.abstract moves)) (silent_by m t a moves place)
 silent_keeps p n m t a moves place whole found fits kinds items rooms =
@@ -63,8 +63,8 @@ silent_keeps p n m t a moves place whole found fits kinds items rooms =
         functions = whole.functions;
         states_true = whole.states_true;
         sound = whole.sound;
-        mortal = whole.mortal;
-        wide = whole.wide;
+        lines = whole.lines;
+        allowed = whole.allowed;
         kinds = kinds;
         items = items;
         rooms = rooms;
@@ -82,7 +82,8 @@ silent_keeps p n m t a moves place whole found fits kinds items rooms =
 -- An action that fits its thread keeps both layers of the invariant and isn't bad.
 action_keeps : (p : Module) (n : ℕ) (m : StepMachine) (t : ℕ) (a : StepActor) (exit : Exit) (x : Action)
     → (whole : CodeInvariant p n m)
-    → slice_get m.actors t ≡ Some a → ActionFits whole.accounts n m t a x → KindsHold (machine_by m t a exit x)
+    → slice_get m.actors t ≡ Some a → ActionFits whole.accounts n m t a x
+    → KindsHold p.statics (machine_by m t a exit x)
     → ItemsAreThere (machine_by m t a exit x) → RoomsFit (machine_by m t a exit x)
     → KeepsOn p n (is_bad_action m t a x) (machine_by m t a exit x)
 action_keeps p n m t a exit Skip whole found fits kinds items rooms = (refl, whole)
@@ -99,8 +100,8 @@ action_keeps p n m t a exit (Calls row place) whole found fits kinds items rooms
         functions = quiet.functions;
         states_true = quiet.states_true;
         sound = quiet.sound;
-        mortal = quiet.mortal;
-        wide = quiet.wide;
+        lines = quiet.lines;
+        allowed = quiet.allowed;
         kinds = kinds;
         items = items;
         rooms = rooms;
@@ -125,8 +126,8 @@ action_keeps p n m t a exit (Does d rest place) whole found fits kinds items roo
         functions = whole.functions;
         states_true = whole.states_true;
         sound = whole.sound;
-        mortal = whole.mortal;
-        wide = whole.wide;
+        lines = whole.lines;
+        allowed = whole.allowed;
         kinds = kinds;
         items = items;
         rooms = rooms;

@@ -1,7 +1,7 @@
 -- The second layer of the invariant, which holds of each machine that an accepted module's events lead to: the
 -- invariant of all threads holds, and each thread is at a point of its function's code, with the account that its place
 -- gives.
-use Rattle.std.proofs.Common.{◌≡◌, ◌≤◌, ℕ, Bool, false, List, Option, inl, inr, Some, sym, ap, ◌∙◌, subst}
+use Rattle.std.proofs.Common.{◌≡◌, ℕ, Bool, false, List, Option, inl, inr, Some, sym, ap, ◌∙◌, subst}
 use Rattle.std.specs.Prelude.{slice_get, slice_set}
 use Rattle.std.proofs.lemmas.Bool.Decides.{eqb_tells}
 use Rattle.std.proofs.lemmas.Option.{slice_get_within}
@@ -18,7 +18,8 @@ use Rattle.brc_model.proofs.Dispatch.Programs.{AreSound, program_of}
 use Rattle.brc_model.specs.Items.{ItemsAreThere}
 use Rattle.brc_model.proofs.Dispatch.Coded.{InCode}
 use Rattle.brc_model.proofs.Dispatch.Rooms.{RoomsFit}
-use Rattle.brc_model.specs.Limits.{text_cells}
+use Rattle.brc_model.specs.FirstRows.{HasLines}
+use Rattle.brc_model.proofs.Dispatch.Allowed.{AreAllowedIn}
 use Rattle.brc_model.specs.Counting.{with_account}
 use Rattle.brc_model.proofs.Keeping.Replaced.{with_account_same, with_account_other}
 use Rattle.brc_lang.specs.declared.module.Function.{Function}
@@ -29,11 +30,11 @@ pub record CodeInvariant (p : Module) (n : ℕ) (m : StepMachine) : Type 0 where
   pub functions : m.functions ≡ p.functions
   pub states_true : AreTrueWhereReached p m.states
   pub sound : AreSound m.functions m.states
-  -- none is the only immortal object
-  pub mortal : m.layout.immortal_lists ≡ 0
-  -- a list may have the cells that a text gives it
-  pub wide : text_cells ≤ m.layout.cells
-  pub kinds : KindsHold m
+  -- the machine has the module's immortal lists
+  pub lines : HasLines p.statics m.layout
+  -- the layout allows what the module's instructions make
+  pub allowed : AreAllowedIn m.layout m.functions
+  pub kinds : KindsHold p.statics m
   pub items : ItemsAreThere m
   pub rooms : RoomsFit m
   pub coded : (t : ℕ) (a : StepActor) → slice_get m.actors t ≡ Some a → InCode (program_of m.functions m.states a) a

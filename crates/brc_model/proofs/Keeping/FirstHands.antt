@@ -1,5 +1,5 @@
 -- The first machine of hands has the invariant: main holds the root, and no worker holds anything.
-use Rattle.std.proofs.Common.{◌≡◌, ℕ, zero, suc, ◌+◌, Bool, refl, sym, ap, ◌∙◌, arith, true, false}
+use Rattle.std.proofs.Common.{◌≡◌, ℕ, zero, suc, ◌+◌, Bool, List, refl, sym, ap, ◌∙◌, arith, true, false}
 use Rattle.std.specs.Prelude.{◌==◌, ◌&&◌}
 use Rattle.std.proofs.Math.Dec.{eqb-suc-zero}
 use Rattle.brc_model.specs.declared.duty.Holding.{Holding}
@@ -7,6 +7,7 @@ use Rattle.brc_model.specs.declared.duty.Holding.TheVariants.{ByVariable, AsCall
 use Rattle.brc_model.specs.declared.layout.Layout.{Layout}
 use Rattle.brc_model.specs.Layout.{root_row}
 use Rattle.brc_model.specs.References.{held, one_if, reference_of}
+use Rattle.brc_model.specs.FirstRows.{HasLines}
 use Rattle.brc_model.specs.StepMachine.{callers_below}
 use Rattle.brc_model.specs.Counting.{Counts, IsPlainLayout, hands_machine, hands_accounts}
 use Rattle.brc_model.specs.AbstractState.{same_holding}
@@ -26,15 +27,16 @@ hands_hold (suc t) k object =
     ap (λ (b : Bool). one_if (b && (same_holding AsCaller k && (root_row == object)))) (eqb-suc-zero t)
     ∙ sym (callers_beyond 1 (suc t) k object (omega arith))
 
-hands_rooted : (layout : Layout) → IsPlainLayout layout → IsRooted layout 1
-hands_rooted layout plain = record {
+hands_rooted : (lines : List (List ℕ)) (layout : Layout) → IsPlainLayout layout → HasLines lines layout
+    → IsRooted lines layout 1
+hands_rooted lines layout plain has = record {
   some_callers = omega arith;
   few_callers = omega arith;
   few_workers = plain.few_workers;
   some_rows = plain.some_rows;
   few_rows = plain.few_rows;
   few_cells = plain.few_cells;
-  no_lists = plain.immortals;
+  has_lines = has;
 }
 
 -- No hand has a reference in flight at first.
@@ -45,12 +47,12 @@ hands_flight t object =
       | false ↦ refl
     ]
 
-pub hands_begin : (layout : Layout) → IsPlainLayout layout
-    → Counts hands_accounts (1 + layout.workers) (hands_machine layout)
-hands_begin layout plain = record {
+pub hands_begin : (lines : List (List ℕ)) (layout : Layout) → IsPlainLayout layout → HasLines lines layout
+    → Counts hands_accounts (1 + layout.workers) (hands_machine lines layout)
+hands_begin lines layout plain has = record {
   kept =
-      rooted_kept hands_accounts layout 1 (hands_rooted layout plain)
+      rooted_kept hands_accounts lines layout 1 (hands_rooted lines layout plain has)
       (record { each = λ t le k object. hands_hold t k object });
-  ranges = rooted_ranges layout 1 plain.some_cells;
+  ranges = rooted_ranges lines layout 1 has plain.some_cells plain.few_cells;
   no_flight = hands_flight;
 }

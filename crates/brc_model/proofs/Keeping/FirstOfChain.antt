@@ -57,6 +57,7 @@ module _ {p : Accounts} {n : ℕ} {m : Machine} where
     | inr counted ↦ counted
   ]
 
-  pub first_row : (t : ℕ) (a : Actor) (x : ℕ) → CoreInvariant p n m → slice_get m.actors t ≡ Some a → IsFirstOfChain a x
+  pub chained_row : (t : ℕ) (a : Actor) (x : ℕ) → CoreInvariant p n m → slice_get m.actors t ≡ Some a
+      → IsFirstOfChain a x
       → x < row_count m.layout
-  first_row t a x core found first = omega (arith, head_small t a core found, first)
+  chained_row t a x core found first = omega (arith, head_small t a core found, first)

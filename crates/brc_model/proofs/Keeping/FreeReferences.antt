@@ -83,6 +83,7 @@ module _ {p : Accounts} {n : ℕ} {m : Machine} {t : ℕ} {a : Actor} where
     few_rows = core.few_rows;
     few_cells = core.few_cells;
     few_immortals = core.few_immortals;
+    few_numbers = core.few_numbers;
     rows = λ y counted.
         subst (λ (k : Numbers). RowInvariant (block_of m.layout y) (m.life y) k)
         (same_numbers m t x y immortal counted) (core.rows y counted);
@@ -114,6 +115,7 @@ module _ {p : Accounts} {n : ℕ} {m : Machine} {t : ℕ} {a : Actor} where
     kinds = core.kinds;
     kind_words = core.kind_words;
     immortal_words = core.immortal_words;
+    immortal_kinds = core.immortal_kinds;
     resources = core.resources;
   }
 

@@ -135,6 +135,7 @@ module _ (p : Accounts) (n : ℕ) (m : Machine) (t u : ℕ) (a b : Actor) (x : �
     few_rows = core.few_rows;
     few_cells = core.few_cells;
     few_immortals = core.few_immortals;
+    few_numbers = core.few_numbers;
     rows = λ y counted.
         subst (λ (k : Numbers). RowInvariant (block_of m.layout y) (m.life y) k) (same_numbers y) (core.rows y counted);
     marks = λ y. elim (core.marks y) [
@@ -167,6 +168,7 @@ module _ (p : Accounts) (n : ℕ) (m : Machine) (t u : ℕ) (a b : Actor) (x : �
     kinds = core.kinds;
     kind_words = core.kind_words;
     immortal_words = core.immortal_words;
+    immortal_kinds = core.immortal_kinds;
     resources = core.resources;
   }
 

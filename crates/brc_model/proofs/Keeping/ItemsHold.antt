@@ -46,7 +46,7 @@ pub first_items : (p : Module) (states : ℕ → ℕ → Option State) (rows : �
     → ItemsAreThere (first_machine p states rows calls)
 first_items p states rows calls zero a is =
     let m = first_machine p states rows calls in
-    subst (Knows m m.memory) (some_is main_actor a is) tt
+    subst (Knows m m.memory) (some_is (main_actor m.layout) a is) tt
 first_items p states rows calls (suc t) a is =
     let m = first_machine p states rows calls in
     let call = slice_get-map worker_actor calls t a is in

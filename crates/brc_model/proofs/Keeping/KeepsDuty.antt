@@ -1,5 +1,5 @@
 -- Doing a thread's first duty keeps the core invariant, if the thread and the marks fit afterwards.
-use Rattle.std.proofs.Common.{◌≡◌, ℕ, ◌<◌, List, ◌⊎◌, Some, refl, ◌∙◌, arith}
+use Rattle.std.proofs.Common.{◌≡◌, ℕ, ◌<◌, List, ◌⊎◌, Some, refl, ◌∙◌, arith, subst, sym}
 use Rattle.std.specs.Prelude.{slice_get, slice_set}
 use Rattle.std.proofs.lemmas.List.{length-set}
 use Rattle.std.proofs.lemmas.Option.{slice_get_within}
@@ -10,7 +10,7 @@ use Rattle.brc_model.specs.Machine.{Machine, actor_by, machine_by_duty, mark_of}
 use Rattle.brc_model.proofs.Frame.AsideAfter.{aside_after}
 use Rattle.brc_model.specs.OpenWork.{AsideFits}
 use Rattle.brc_model.specs.Accounts.{Accounts}
-use Rattle.brc_model.specs.Invariant.{AtDuty, Fits, IsWatched, CoreInvariant}
+use Rattle.brc_model.specs.Invariant.{AtDuty, Fits, IsWatched, CoreInvariant, IsImmortalKind}
 use Rattle.brc_model.proofs.Frame.Others.{each_fits}
 use Rattle.brc_model.proofs.Basics.MovesApart.{moves_apart}
 use Rattle.brc_model.proofs.Frame.Cells.{cells_hold_after}
@@ -26,6 +26,7 @@ use Rattle.brc_model.proofs.Objects.BlanksAfter.{blanks_after}
 use Rattle.brc_model.proofs.Objects.CellsAfter.{cells_after, cells_end_after}
 use Rattle.brc_model.proofs.Objects.ResourcesAfter.{resources_after}
 use Rattle.brc_model.specs.Layout.{IsCounted}
+use Rattle.brc_model.proofs.Frame.Kinds.{immortal_kind_left}
 
 -- ---- all threads
 
@@ -56,6 +57,7 @@ module _ {p : Accounts} {n : ℕ} {m : Machine} {t : ℕ} {a : Actor} {d : Duty}
         workers = here.core.workers;
         few_cells = here.core.few_cells;
         few_immortals = here.core.few_immortals;
+        few_numbers = here.core.few_numbers;
         rows = λ x pos. rows_after t a d rest here.core here.found here.agenda alive x pos;
         marks = marks;
         each = others_and_own here own (aside_after here);
@@ -79,5 +81,7 @@ module _ {p : Accounts} {n : ℕ} {m : Machine} {t : ℕ} {a : Actor} {d : Duty}
         kinds = λ x born. kinds_after here x born;
         kind_words = λ x born. kind_words_after here x born;
         immortal_words = λ x immortal. immortal_word_left d x here immortal ∙ here.core.immortal_words x immortal;
+        immortal_kinds = λ x immortal.
+            subst IsImmortalKind (sym (immortal_kind_left x here immortal)) (here.core.immortal_kinds x immortal);
         resources = λ x. resources_after d rest x here;
       }

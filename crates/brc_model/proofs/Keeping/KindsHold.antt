@@ -1,6 +1,6 @@
 -- The object that a variable names has the kind that the checker says, in the first machine and after each event: each
 -- instruction leaves it so, and no other step changes a kind word that a birth has stored.
-use Rattle.std.proofs.Common.{◌≡◌, ℕ, zero, suc, List, inr, Option, None, Some, refl, sym, subst}
+use Rattle.std.proofs.Common.{◌≡◌, ℕ, zero, suc, List, inr, Option, None, Some, refl, sym, subst, ◌+◌, ◌≤◌, ap, ◌∙◌, arith}
 use Rattle.std.specs.Prelude.{slice_get}
 use Rattle.brc_lang.specs.declared.module.Module.{Module}
 use Rattle.brc_model.specs.declared.thread.Call.{Call}
@@ -14,18 +14,26 @@ use Rattle.brc_model.specs.declared.state.Exit.{Exit}
 use Rattle.brc_model.specs.Actions.{StepActor, Action, Skip, Stuck, Silent, Calls, Does}
 use Rattle.brc_model.specs.Dispatch.{exit_of, action_of}
 use Rattle.brc_model.specs.StepMachine.{StepMachine, counting, of_thread, at_place, step_actor, machine_by, next_machine, first_machine, main_actor, worker_actor}
-use Rattle.brc_model.specs.KnownKinds.{kind_words}
+use Rattle.brc_model.specs.KnownKinds.{AreNamed, kind_words}
 use Rattle.brc_model.proofs.Basics.Lists.{some_is, slice_get-map, written_actor}
 use Rattle.brc_model.proofs.Keeping.CodeInvariant.{CodeInvariant}
 use Rattle.brc_model.proofs.Basics.Written.{written_here, written_load}
 use Rattle.brc_model.proofs.Stepping.FitsAfter.{found_by}
 use Rattle.brc_model.proofs.Frame.Kinds.{StoredStay, stored_at_duty}
-use Rattle.brc_model.proofs.Dispatch.Kinds.{knows_still, named_stay, KnowsAll, AllKnown, KindsHold}
+use Rattle.brc_model.proofs.Dispatch.Kinds.{knows_still, named_stay, knows_first, KnowsAll, AllKnown, KindsHold, KnowsLists}
 use Rattle.brc_model.proofs.Dispatch.KindsActions.{StandsKnowing, action_leaves}
 use Rattle.brc_model.proofs.Keeping.StepCases.{ShowsSteps, at_duty, thread_shows}
 use Rattle.brc_model.specs.Machine.{Machine}
 use Rattle.brc_model.proofs.Dispatch.Programs.{program_of}
 use Rattle.brc_model.proofs.Dispatch.KindsKnown.{SeesKind, LeavesKinds}
+use Rattle.brc_model.specs.declared.layout.Layout.{Layout}
+use Rattle.brc_model.specs.Limits.{cell_limit}
+use Rattle.brc_model.specs.Layout.{first_immortal_list}
+use Rattle.brc_model.specs.FirstRows.{HasLines, ImmortalList, kind_word_of_first, first_kind_word}
+use Rattle.brc_model.specs.Kinds.{kind_of_word, kind_numbered}
+use Rattle.brc_word.specs.Words.{kind_part}
+use Rattle.brc_word.specs.declared.values.TheConstants.{LIST}
+use Rattle.brc_model.proofs.Keeping.FirstRows.{line_short, list_first}
 
 -- ---- the first machine
 
@@ -34,7 +42,7 @@ first_known : (p : Module) (states : ℕ → ℕ → Option State) (rows : ℕ) 
 first_known p states rows calls zero a is =
     let m = first_machine p states rows calls in
     subst (λ (x : StepActor). KnowsAll (program_of m.functions m.states x) (kind_words m) x.place)
-    (some_is main_actor a is) (tt, tt)
+    (some_is (main_actor m.layout) a is) (tt, tt)
 first_known p states rows calls (suc t) a is =
     let m = first_machine p states rows calls in
     let call = slice_get-map worker_actor calls t a is in
@@ -42,9 +50,9 @@ first_known p states rows calls (suc t) a is =
     (tt, tt)
 
 pub first_holds : (p : Module) (states : ℕ → ℕ → Option State) (rows : ℕ) (calls : List Call)
-    → KindsHold (first_machine p states rows calls)
+    → KindsHold p.statics (first_machine p states rows calls)
 first_holds p states rows calls = record {
-  named = record { none = refl; root = refl };
+  named = λ x some. refl;
   known = first_known p states rows calls;
 }
 
@@ -105,10 +113,32 @@ acted m t a exit (Does d rest place) found others own =
     (kind_words (machine_by m t a exit (Does d rest place))) b.place) m.actors t a
     (step_actor m.layout t a d rest (place word) word) found (own word (sees m t a exit d rest place)) others
 
+-- The immortal lists are known as lists.
+lists_known : (lines : List (List ℕ)) (layout : Layout) (words : ℕ → ℕ) → HasLines lines layout
+    → layout.cells ≤ cell_limit → AreNamed lines layout words → KnowsLists layout words
+lists_known lines layout words has few named s low =
+    let x = first_immortal_list layout + s in
+    let word : first_kind_word lines layout x ≡ kind_word_of_first lines (ImmortalList s) =
+    ap (kind_word_of_first lines) (list_first layout s low) in
+    let stored : words x ≡ kind_word_of_first lines (ImmortalList s) = named x (omega (arith, word)) ∙ word in
+    let list : kind_part (kind_word_of_first lines (ImmortalList s)) ≡ LIST =
+    omega (arith, line_short layout.cells lines s has.each, few) in
+    ap kind_of_word stored ∙ ap kind_numbered list
+
+-- No action changes the layout.
+named_after : (lines : List (List ℕ)) (m : StepMachine) (t : ℕ) (a : StepActor) (exit : Exit) (x : Action)
+    → AreNamed lines m.layout (kind_words (machine_by m t a exit x))
+    → AreNamed lines (machine_by m t a exit x).layout (kind_words (machine_by m t a exit x))
+named_after lines m t a exit Skip named = named
+named_after lines m t a exit Stuck named = named
+named_after lines m t a exit (Silent moves place) named = named
+named_after lines m t a exit (Calls row place) named = named
+named_after lines m t a exit (Does d rest place) named = named
+
 -- The kinds hold after each event, whatever thread and choice it has.
 pub thread_holds : (p : Module) (n : ℕ) (m : StepMachine) (t : ℕ) (choice : Choice) (o : Option StepActor)
     → CodeInvariant p n m → slice_get m.actors t ≡ o
-    → KindsHold (of_thread m (λ a. machine_by m t a (exit_of choice)
+    → KindsHold p.statics (of_thread m (λ a. machine_by m t a (exit_of choice)
     (action_of m.functions m.states m.layout t a choice)) o)
 thread_holds p n m t choice None whole found = whole.kinds
 thread_holds p n m t choice (Some a) whole found =
@@ -116,22 +146,24 @@ thread_holds p n m t choice (Some a) whole found =
     let x = action_of m.functions m.states m.layout t a choice in
     let new = kind_words (machine_by m t a exit x) in
     let stays : StoredStay (kind_words m) new = thread_stored p n m t choice (Some a) whole found in
-    let named = named_stay (kind_words m) new stays whole.kinds.named in
+    let named = named_stay p.statics m.layout (kind_words m) new stays whole.kinds.named in
     let others : (u : ℕ) (b : StepActor) → slice_get m.actors u ≡ Some b
     → KnowsAll (program_of m.functions m.states b) new b.place = λ u b is.
     knows_still (program_of m.functions m.states b) (kind_words m) new stays b.place
     (whole.kinds.known u b is) in
     let coded = whole.coded t a found in
-    let stands : StandsKnowing (program_of m.functions m.states a) new a.place = record {
+    let stands : StandsKnowing (program_of m.functions m.states a) m.layout new a.place = record {
       sound = whole.sound;
+      allowed = whole.allowed;
+      lists = lists_known p.statics m.layout new whole.lines whole.kept.core.few_cells named;
       locked = a.actor.locked;
       account = whole.accounts t;
       says = coded.says;
-      named = named;
+      named = knows_first p.statics m.layout new named;
       knows = others t a found;
     } in
     record {
-      named = named;
+      named = named_after p.statics m t a exit x named;
       known =
           acted m t a exit x found others (action_leaves m.functions m.states new m.layout t a stands choice);
     }

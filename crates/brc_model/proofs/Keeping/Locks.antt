@@ -20,7 +20,7 @@ pub more_locks : (account : Account) (m : Machine) (t : ℕ) (a b : Actor) (x : 
     → LocksFit (with_one_more account AsCaller x) m t b
 more_locks account m t a b x locks same makes y e =
     let it = locks y (sym same ∙ e) in
-    record { counted = it.counted; by = it.by; held_so = omega (arith, it.held_so, makes it.by y); gate = it.gate }
+    record { by = it.by; held_so = omega (arith, it.held_so, makes it.by y); gate = it.gate }
 
 -- The thread still holds the list by the same holding.
 still_holds : (account : Account) (a b : Actor) (x y : ℕ) (k : Holding) → making a k y < account k y
@@ -48,7 +48,6 @@ less_locks account m t a b x locks same makes none may y e =
     let mine : a.locked ≡ Some y = sym same ∙ e in
     let it = locks y mine in
     record {
-      counted = it.counted;
       by = it.by;
       held_so =
           still_holds account a b x y it.by it.held_so makes none (λ is. may (mine ∙ ap (λ z. Some z) (sym is)));

@@ -5,7 +5,7 @@ use Rattle.brc_model.specs.declared.duty.Holding.{Holding}
 use Rattle.brc_model.specs.declared.duty.Holding.TheVariants.{AsCaller}
 use Rattle.brc_model.specs.declared.duty.Duty.{Duty}
 use Rattle.brc_model.specs.declared.duty.Duty.TheVariants.{LockGate, UnlockGate, CellLoad}
-use Rattle.brc_model.specs.Layout.{row_count, IsCounted}
+use Rattle.brc_model.specs.Layout.{row_count}
 use Rattle.brc_model.specs.declared.actor.Actor.{Actor}
 use Rattle.brc_model.specs.Machine.{Machine, with_actor}
 use Rattle.brc_model.specs.References.{one_if}
@@ -19,7 +19,7 @@ use Rattle.brc_model.proofs.Limits.Ranges.{row_small}
 use Rattle.brc_model.proofs.Keeping.Replaced.{with_account_itself}
 use Rattle.brc_model.proofs.Keeping.WorkBegins.{ready_holds, none_about_held, held_row, backed_still, BeginsWork, work_begins}
 use Rattle.brc_model.proofs.Keeping.AloneBegins.{same_locks, looks_still}
-use Rattle.brc_model.proofs.Keeping.FirstOfChain.{first_chained, chained_counted, first_row}
+use Rattle.brc_model.proofs.Keeping.FirstOfChain.{first_chained, chained_row}
 
 -- ---- work that makes and gives up no reference
 
@@ -60,11 +60,11 @@ module _ {p : Accounts} {n : ℕ} {m : Machine} {t : ℕ} {a : Actor} where
 
 -- The invariant and the ranges hold after a ready thread begins to lock an object that it holds.
 pub locks_begin : LocksBegin
-locks_begin p n m t a x counts ready alone counted some unlocked =
+locks_begin p n m t a x counts ready alone some unlocked =
     let core = counts.kept.core in
     look_begins x (LockGate x) counts ready alone (held_row x core ready alone some)
     (record { about = λ y. refl; piece = refl; light = refl }) (λ k y. refl) (λ k y. refl) (omega arith)
-    (counted, held_backs x (LockGate x) core ready alone some, unlocked)
+    (held_backs x (LockGate x) core ready alone some, unlocked)
 
 -- The invariant and the ranges hold after a ready thread begins to unlock the object that it has locked.
 pub unlocks_begin : UnlocksBegin
@@ -72,18 +72,16 @@ unlocks_begin p n m t a x counts ready alone some locked none lent =
     let core = counts.kept.core in
     look_begins x (UnlockGate x) counts ready alone (held_row x core ready alone some)
     (record { about = λ y. refl; piece = refl; light = refl }) (λ k y. refl) (λ k y. refl) (omega arith) (
-      ((core.each t a ready.found).0.locks x locked).counted,
       held_backs x (UnlockGate x) core ready alone some,
       locked,
       none,
       lent,
     )
 
--- The thread may look at the list of which it loads a cell, guards its cells, and the list is counted and has a row.
+-- The thread may look at the list of which it loads a cell, guards its cells, and the list has a row.
 record LoadsCells (m : Machine) (t : ℕ) (a : Actor) (x : ℕ) : Type 0 where
   pub looks : MayRead m t a x
   pub guards : GuardsCells m t a x
-  pub counted : IsCounted m.layout x
   pub there : x < row_count m.layout
 
 module _ {p : Accounts} {n : ℕ} {m : Machine} {t : ℕ} {a : Actor} where
@@ -92,7 +90,6 @@ module _ {p : Accounts} {n : ℕ} {m : Machine} {t : ℕ} {a : Actor} where
   loads_cells x core ready alone (inl (some, locked)) = record {
     looks = inl (ByReference AsCaller (omega (arith, none_about_held x AsCaller core ready alone, some)));
     guards = inl locked;
-    counted = ((core.each t a ready.found).0.locks x locked).counted;
     there = held_row x core ready alone some;
   }
   loads_cells x core ready alone (inr first) =
@@ -100,8 +97,7 @@ module _ {p : Accounts} {n : ℕ} {m : Machine} {t : ℕ} {a : Actor} where
       record {
         looks = inr chained;
         guards = inr chained;
-        counted = chained_counted t x core chained;
-        there = first_row t a x core ready.found first;
+        there = chained_row t a x core ready.found first;
       }
 
 guards_still : (m : Machine) (t : ℕ) (a : Actor) (x : ℕ) (d : Duty) → GuardsCells m t a x
@@ -117,4 +113,4 @@ cell_loads_begin p n m t a x i counts ready alone loads low =
     let it = loads_cells x core ready alone loads in
     look_begins x (CellLoad x i) counts ready alone it.there (record { about = λ y. refl; piece = refl; light = refl })
     (λ k y. refl) (λ k y. refl) (omega (arith, low, counts.ranges.kinds x))
-    (it.counted, looks_still m t a x (CellLoad x i) it.looks, guards_still m t a x (CellLoad x i) it.guards, low)
+    (looks_still m t a x (CellLoad x i) it.looks, guards_still m t a x (CellLoad x i) it.guards, low)

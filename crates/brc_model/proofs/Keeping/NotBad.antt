@@ -28,11 +28,11 @@ use Rattle.brc_model.specs.Knowledge.{IsBacked, MayRead, IsNext, IsEmpty}
 use Rattle.brc_model.specs.OpenWork.{Linked, dies_by}
 use Rattle.brc_model.specs.Invariant.{AtDuty, CoreInvariant, numbers_of}
 use Rattle.brc_model.proofs.Promises.Agreeing.{is_free_of}
-use Rattle.brc_model.proofs.Frame.Alive.{Alive, first_weighs, alive_deciding, alive_backed, backed_referenced}
+use Rattle.brc_model.proofs.Frame.Alive.{Alive, first_weighs, alive_deciding, alive_backed, backed_referenced, backed_lives}
 use Rattle.brc_model.proofs.Frame.CellsHeld.{cell_held}
 use Rattle.brc_model.proofs.Frame.Cells.{filled, filled_held}
 use Rattle.brc_model.proofs.Frame.Others.{is_dying}
-use Rattle.brc_model.proofs.Frame.Leaves.{head_of, load_alive, exchange_alive, decide_alive, merge_load_alive, merge_alive, claim_alive, gives_held, given_alive, locked_alive}
+use Rattle.brc_model.proofs.Frame.Leaves.{head_of, load_alive, exchange_alive, decide_alive, merge_load_alive, merge_alive, claim_alive, gives_held, given_alive, locked_lives}
 use Rattle.brc_model.proofs.Basics.Blocks.{next_counted, next_unborn}
 use Rattle.brc_model.proofs.Stepping.Nones.{immortal_row}
 use Rattle.std.proofs.lemmas.Bool.{cases_Bool}
@@ -82,11 +82,7 @@ module _ {p : Accounts} {n : ℕ} {m : Machine} where
 
   -- An object that something keeps alive for the thread's duty isn't freed.
   backed_free : (t : ℕ) (a : Actor) (x : ℕ) → CoreInvariant p n m → IsBacked m t a x → is_freed_for t (m.life x) ≡ false
-  backed_free t a x core backed =
-      elim (cases_Bool (is_immortal_row m.layout x)) [
-        | inl immortal ↦ ap (is_freed_for t) (core.immortals_live x immortal)
-        | inr counted ↦ alive_free m t x (alive_backed t a x core counted backed)
-      ]
+  backed_free t a x core backed = ap (is_freed_for t) (backed_lives t a x core backed)
 
   -- Nor is an object that the thread has chained itself.
   look_free : (t : ℕ) (a : Actor) (x : ℕ) → CoreInvariant p n m → MayRead m t a x → is_freed_for t (m.life x) ≡ false
@@ -98,7 +94,7 @@ module _ {p : Accounts} {n : ℕ} {m : Machine} where
       → a.lent ≡ row → touches_freed m t row ≡ false
   lent_free t a None core found lent = refl
   lent_free t a (Some x) core found lent =
-      alive_free m t x (locked_alive t a x core found ((core.each t a found).0.lent x lent))
+      ap (is_freed_for t) (locked_lives t a x core found ((core.each t a found).0.lent x lent))
 
 module _ {p : Accounts} {n : ℕ} {m : Machine} {t : ℕ} {a : Actor} {rest : List Duty} where
   touches_none : (d : Duty) → AtDuty p n m t a d rest
@@ -137,18 +133,19 @@ module _ {p : Accounts} {n : ℕ} {m : Machine} {t : ℕ} {a : Actor} {rest : Li
   touches_none (BirthLocal x h) here = next_free t a x here.core here.found (head_of here).0
   touches_none (SettleEnd x) here = dying_free m t x (head_of here).1
   touches_none (KindLoad x) here = look_free t a x here.core (head_of here)
-  touches_none (LockGate x) here = backed_free t a x here.core (head_of here).1
-  touches_none (UnlockGate x) here = backed_free t a x here.core (head_of here).1
-  touches_none (CellLoad x i) here = look_free t a x here.core (head_of here).1
+  touches_none (LockGate x) here = backed_free t a x here.core (head_of here).0
+  touches_none (UnlockGate x) here = backed_free t a x here.core (head_of here).0
+  touches_none (CellLoad x i) here = look_free t a x here.core (head_of here).0
   touches_none (CellSwap x i y h) here =
       let locked = (head_of here).0 in
-      alive_free m t x (locked_alive t a x here.core here.found locked)
+      ap (is_freed_for t) (locked_lives t a x here.core here.found locked)
   touches_none (LendSlot x) here =
       let locked = (head_of here).1 in
-      alive_free m t x (locked_alive t a x here.core here.found locked)
+      ap (is_freed_for t) (locked_lives t a x here.core here.found locked)
   touches_none (ReturnSlot x) here =
       let lent = head_of here in
-      alive_free m t x (locked_alive t a x here.core here.found ((here.core.each t a here.found).0.lent x lent))
+      ap (is_freed_for t)
+      (locked_lives t a x here.core here.found ((here.core.each t a here.found).0.lent x lent))
   touches_none _ here = refl
 
 -- ---- moves of references

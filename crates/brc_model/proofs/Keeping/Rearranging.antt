@@ -135,7 +135,6 @@ module _ {p : Accounts} {n : ℕ} {m : Machine} where
             locks = λ x e.
                 let it = old.locks x e in
                 record {
-                  counted = it.counted;
                   by = it.by;
                   held_so = omega (arith, it.held_so, new.weighs (λ d. one_if (lacks d it.by x)));
                   gate = it.gate;

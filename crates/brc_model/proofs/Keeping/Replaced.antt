@@ -144,6 +144,7 @@ module _ {p : Accounts} {n : ℕ} {m : Machine} where
     workers = core.workers;
     few_cells = core.few_cells;
     few_immortals = core.few_immortals;
+    few_numbers = core.few_numbers;
     rows =
         λ x pos. subst (λ (k : Numbers). RowInvariant (block_of m.layout x) (m.life x) k)
         (same_numbers m t a b account x found new) (core.rows x pos);
@@ -177,6 +178,7 @@ module _ {p : Accounts} {n : ℕ} {m : Machine} where
     kinds = core.kinds;
     kind_words = core.kind_words;
     immortal_words = core.immortal_words;
+    immortal_kinds = core.immortal_kinds;
     resources = λ x.
         subst (ResourcesFit (m.life x))
         (same_resources m t a b x found new.lent (λ f few. new.finalises x f few)) (core.resources x);

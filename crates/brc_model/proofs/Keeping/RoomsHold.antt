@@ -28,7 +28,8 @@ use Rattle.brc_model.proofs.Dispatch.Programs.{program_of}
 pub first_rooms : (p : Module) (states : ℕ → ℕ → Option State) (rows : ℕ) (calls : List Call)
     → RoomsFit (first_machine p states rows calls)
 first_rooms p states rows calls zero a is =
-    subst (RoomFits (first_machine p states rows calls) 0) (some_is main_actor a is) (λ e. absurd cc)
+    let m = first_machine p states rows calls in
+    subst (RoomFits m 0) (some_is (main_actor m.layout) a is) (λ e. absurd cc)
 first_rooms p states rows calls (suc t) a is =
     let call = slice_get-map worker_actor calls t a is in
     subst (RoomFits (first_machine p states rows calls) (suc t)) call.is_image (λ e. absurd cc)

@@ -1,7 +1,7 @@
 -- A silent step: a thread at rest moves some of its references. The moves are allowed, and the core invariant holds
 -- afterwards.
 use Rattle.std.proofs.Common.{◌≡◌, ◌≢◌, ℕ, ◌<◌, Bool, true, false, List, [], inl, inr, refl, sym, ap, ◌∙◌, subst, arith, ◌≤◌}
-use Rattle.std.specs.Prelude.{count_by, ◌==◌, ◌&&◌, slice_get, slice_set, sum_by, AllPairs}
+use Rattle.std.specs.Prelude.{count_by, ◌==◌, ◌&&◌, slice_get, slice_set, sum_by, AllPairs, ◌||◌, nat_lt}
 use Rattle.std.proofs.lemmas.Bool.{ne_eqb, false≢true}
 use Rattle.std.proofs.lemmas.Bool.Decides.{eqb_tells}
 use Rattle.std.proofs.lemmas.List.{length-set}
@@ -26,74 +26,81 @@ use Rattle.brc_lang.specs.declared.kind.Kind.{Kind}
 use Rattle.brc_model.specs.Kinds.{kind_number}
 use Rattle.brc_model.proofs.Frame.Others.{LeavesOthers, same_memory, each_fits}
 use Rattle.brc_model.proofs.Frame.Locks.{gate_fits_kept}
-use Rattle.brc_model.proofs.Keeping.SilentMoves.{SilentMoves, Stays, GainsNone, PassesOn, bag_after}
+use Rattle.brc_model.proofs.Keeping.SilentMoves.{SilentMoves, Stays, GainsImmortal, PassesOn, bag_after}
 use Rattle.brc_model.proofs.Keeping.Sits.{sitting, AtRest, rest_blanks, same_weight}
 use Rattle.brc_model.specs.Counting.{with_account}
 use Rattle.brc_model.proofs.Keeping.Replaced.{with_account_same, with_account_other, same_resources}
 use Rattle.brc_model.specs.Resources.{ResourcesFit}
-use Rattle.brc_model.proofs.Basics.Blocks.{counted_above}
+use Rattle.brc_model.proofs.Basics.Blocks.{immortal_apart}
 use Rattle.brc_model.specs.declared.layout.Layout.{Layout}
-use Rattle.brc_model.specs.Layout.{none_row, block_of, index_of, IsCounted}
+use Rattle.brc_model.specs.Layout.{block_of, index_of, IsCounted}
 
 -- ---- moves of references
 
-pub silent_bag : (p : AbstractState) (t : ℕ) (moves : List Move) → SilentMoves p.references t moves
+pub silent_bag : {layout : Layout} (p : AbstractState) (t : ℕ) (moves : List Move)
+    → SilentMoves layout p.references t moves
     → (moved p moves).references ≡ bag_after p.references moves
 silent_bag p t [] Stays = refl
-silent_bag p t _ (GainsNone h) = refl
+silent_bag p t _ (GainsImmortal h x immortal) = refl
 silent_bag p t _ (PassesOn from to x rest has more) =
     silent_bag (move p (PassOn (reference_of t from x) (ByThread t to))) t rest more
 
-pub silent_closed : (p : AbstractState) (t : ℕ) (moves : List Move) → SilentMoves p.references t moves
+pub silent_closed : {layout : Layout} (p : AbstractState) (t : ℕ) (moves : List Move)
+    → SilentMoves layout p.references t moves
     → (moved p moves).closed ≡ p.closed
 silent_closed p t [] Stays = refl
-silent_closed p t _ (GainsNone h) = refl
+silent_closed p t _ (GainsImmortal h x immortal) = refl
 silent_closed p t _ (PassesOn from to x rest has more) =
     silent_closed (move p (PassOn (reference_of t from x) (ByThread t to))) t rest more
 
-silent_born : (p : AbstractState) (t : ℕ) (moves : List Move) → SilentMoves p.references t moves
+silent_born : {layout : Layout} (p : AbstractState) (t : ℕ) (moves : List Move)
+    → SilentMoves layout p.references t moves
     → (moved p moves).born ≡ p.born
 silent_born p t [] Stays = refl
-silent_born p t _ (GainsNone h) = refl
+silent_born p t _ (GainsImmortal h x immortal) = refl
 silent_born p t _ (PassesOn from to x rest has more) =
     silent_born (move p (PassOn (reference_of t from x) (ByThread t to))) t rest more
 
-silent_kinds : (p : AbstractState) (t : ℕ) (moves : List Move) → SilentMoves p.references t moves
+silent_kinds : {layout : Layout} (p : AbstractState) (t : ℕ) (moves : List Move)
+    → SilentMoves layout p.references t moves
     → (moved p moves).kinds ≡ p.kinds
 silent_kinds p t [] Stays = refl
-silent_kinds p t _ (GainsNone h) = refl
+silent_kinds p t _ (GainsImmortal h x immortal) = refl
 silent_kinds p t _ (PassesOn from to x rest has more) =
     silent_kinds (move p (PassOn (reference_of t from x) (ByThread t to))) t rest more
 
 pub silent_allowed : (layout : Layout) (p : AbstractState) (t : ℕ) (moves : List Move)
-    → SilentMoves p.references t moves
+    → SilentMoves layout p.references t moves
     → are_allowed layout p moves ≡ true
 silent_allowed layout p t [] Stays = refl
-silent_allowed layout p t _ (GainsNone h) = refl
+silent_allowed layout p t _ (GainsImmortal h x immortal) =
+    ap (λ (b : Bool). (b || nat_lt 0 (references_to x p.references)) && true) immortal
 silent_allowed layout p t _ (PassesOn from to x rest has more) =
     let next = move p (PassOn (reference_of t from x) (ByThread t to)) in
     ap (λ (b : Bool). b && are_allowed layout next rest) has ∙ silent_allowed layout next t rest more
 
 -- A silent step doesn't change how many references a counted object has.
-silent_references : (p : AbstractState) (t x : ℕ) (moves : List Move) → SilentMoves p.references t moves → 0 < x
+silent_references : {layout : Layout} (p : AbstractState) (t x : ℕ) (moves : List Move)
+    → SilentMoves layout p.references t moves → IsCounted layout x
     → references_to x p.references ≡ references_to x (moved p moves).references
-silent_references p t x [] Stays pos = refl
-silent_references p t x _ (GainsNone h) pos =
-    let none : one_if (none_row == x) ≡ 0 = ap one_if (ne_eqb none_row x (λ e. absurd (omega (arith, pos, e)))) in
-    omega (arith, references_to-cons x (reference_of t h none_row) p.references, none)
-silent_references p t x _ (PassesOn from to y rest has more) pos =
+silent_references p t x [] Stays counted = refl
+silent_references {layout} p t x _ (GainsImmortal h y immortal) counted =
+    let none : one_if (y == x) ≡ 0 =
+    ap one_if (ne_eqb y x (λ e. immortal_apart layout x y counted immortal (sym e))) in
+    omega (arith, references_to-cons x (reference_of t h y) p.references, none)
+silent_references p t x _ (PassesOn from to y rest has more) counted =
     omega (
       arith,
       references_to-cons x (reference_of t to y) (without (reference_of t from y) p.references),
       references_to-without x (reference_of t from y) p.references has,
-      silent_references (move p (PassOn (reference_of t from y) (ByThread t to))) t x rest more pos,
+      silent_references (move p (PassOn (reference_of t from y) (ByThread t to))) t x rest more counted,
     )
 
 -- A silent step changes no reference of another holder.
-silent_aside : (bag : List Reference) (h : Holder) (t : ℕ) (moves : List Move) → SilentMoves bag t moves → IsNoWayOf t h
-    → AreAside h moves
+silent_aside : {layout : Layout} (bag : List Reference) (h : Holder) (t : ℕ) (moves : List Move)
+    → SilentMoves layout bag t moves → IsNoWayOf t h → AreAside h moves
 silent_aside bag h t [] Stays other = tt
-silent_aside bag h t _ (GainsNone k) other = (other k, tt)
+silent_aside bag h t _ (GainsImmortal k x immortal) other = (other k, tt)
 silent_aside bag h t _ (PassesOn from to x rest has more) other =
     ((other from, other to), silent_aside _ h t rest more other)
 
@@ -103,10 +110,10 @@ abbrev pub silenced : Machine → ℕ → Actor → List Move → Machine
 silenced m t a moves = with_moves (with_actor m t (sitting a [])) moves
 
 module _ {p : Accounts} {n : ℕ} {m : Machine} {t : ℕ} {a : Actor} where
-  same_numbers : (moves : List Move) (x : ℕ) → AtRest p n m t a → SilentMoves m.abstract.references t moves
+  same_numbers : (moves : List Move) (x : ℕ) → AtRest p n m t a → SilentMoves m.layout m.abstract.references t moves
       → IsCounted m.layout x → numbers_of m x ≡ numbers_of (silenced m t a moves) x
   same_numbers moves x rest silent pos =
-      let r = silent_references m.abstract t x moves silent (counted_above m.layout x pos) in
+      let r = silent_references m.abstract t x moves silent pos in
       let w : weight (waits x) m.actors ≡ weight (waits x) (slice_set m.actors t (sitting a [])) =
       sym (same_weight (waits x) m.actors t a [] rest.found rest.agenda refl) in
       let c : weight (carries x) m.actors ≡ weight (carries x) (slice_set m.actors t (sitting a [])) =
@@ -139,7 +146,7 @@ module _ {p : Accounts} {n : ℕ} {m : Machine} {t : ℕ} {a : Actor} where
   still_watched moves x rest (ByLook some) =
       ByLook (omega (arith, some, same_weight (looks x) m.actors t a [] rest.found rest.agenda refl))
 
-leaves : (m : Machine) (t : ℕ) (a : Actor) (moves : List Move) → SilentMoves m.abstract.references t moves
+leaves : (m : Machine) (t : ℕ) (a : Actor) (moves : List Move) → SilentMoves m.layout m.abstract.references t moves
     → LeavesOthers m (silenced m t a moves) t
 leaves m t a moves silent = record {
   memory = same_memory m (slice_set m.actors t (sitting a [])) (moved m.abstract moves) t;
@@ -152,7 +159,7 @@ leaves m t a moves silent = record {
 pub record SilentSits (m : Machine) (t : ℕ) (a : Actor) (moves : List Move) (account : Account)
     : Type 0 where
   pub alone : a.aside ≡ []
-  pub moves_fit : SilentMoves m.abstract.references t moves
+  pub moves_fit : SilentMoves m.layout m.abstract.references t moves
   pub holds : HoldsAlone (bag_after m.abstract.references moves) t account []
   pub bounded : IsBounded m.layout account
   pub locks : LocksFit account m t (sitting a [])
@@ -197,6 +204,7 @@ module _ {p : Accounts} {n : ℕ} {m : Machine} {t : ℕ} {a : Actor} where
         workers = rest.core.workers;
         few_cells = rest.core.few_cells;
         few_immortals = rest.core.few_immortals;
+        few_numbers = rest.core.few_numbers;
         rows =
             λ x pos. subst (λ (k : Numbers). RowInvariant (block_of m.layout x) (m.life x) k)
             (same_numbers moves x rest silent pos) (rest.core.rows x pos);
@@ -244,6 +252,7 @@ module _ {p : Accounts} {n : ℕ} {m : Machine} {t : ℕ} {a : Actor} where
             (sym (silent_kinds m.abstract t moves silent));
         kind_words = rest.core.kind_words;
         immortal_words = rest.core.immortal_words;
+        immortal_kinds = rest.core.immortal_kinds;
         resources = λ x.
             subst (ResourcesFit (m.life x)) (same_resources m t a (sitting a []) x rest.found refl (λ f few.
             let none : sum_by f a.agenda ≡ 0 = ap (sum_by f) rest.agenda in omega (arith, none)))

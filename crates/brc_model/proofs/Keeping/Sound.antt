@@ -9,7 +9,6 @@ use Rattle.brc_lang.specs.declared.module.Instr.{Instr}
 use Rattle.brc_lang.specs.declared.module.Instr.TheVariants.{Call}
 use Rattle.brc_lang.specs.declared.parameter.Argument.{Argument}
 use Rattle.brc_lang.specs.declared.version.Version.{Version}
-use Rattle.brc_lang.specs.declared.version.Version.TheVariants as versions
 use Rattle.brc_lang.specs.Grammar.{IsInstruction, IsFunction, depth_of, depths_below, depths, MayCall, IfFound, CallFits, CallsFit}
 use Rattle.brc_model.specs.declared.state.State.{State}
 use Rattle.brc_model.specs.Paths.{IsAcceptableFunction, IsAcceptable}
@@ -64,8 +63,7 @@ found_so (Some f) holds so = record { function = f; is_found = refl; so = so }
 pub call_fits : (version : Version) (above : List Function) (to callee : ℕ) (arguments : List Argument) (otherwise : ℕ)
     → CallFits version above (Call to callee arguments otherwise)
     → FoundSo (slice_get above callee) (MayCall (slice_index_or (depths above) callee 0) arguments)
-call_fits versions.One above to callee arguments otherwise fits = absurd fits
-call_fits versions.Two above to callee arguments otherwise fits = found_so (slice_get above callee) _ fits
+call_fits version above to callee arguments otherwise fits = found_so (slice_get above callee) _ fits.1
 
 first_few : (version : Version) (above : List Function) (i : Instr) (code : List Instr) → CallFits version above i
     → depth_of (depths above) code ≤ depth_limit → depth_of (depths above) (i ∷ code) ≤ depth_limit

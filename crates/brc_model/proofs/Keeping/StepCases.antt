@@ -31,7 +31,7 @@ pub record ShowsSteps (Q : ℕ → Machine → Machine → Type 0) (n : ℕ) : T
       → Q t (with_actor m t (sitting a agenda)) new → Q t m new
   -- Some of the thread's references move.
   pub moves : (p : Accounts) (t : ℕ) (m : Machine) (a : Actor) (moves : List Move) → Invariant p n m
-      → slice_get m.actors t ≡ Some a → SilentMoves m.abstract.references t moves
+      → slice_get m.actors t ≡ Some a → SilentMoves m.layout m.abstract.references t moves
       → Q t m (with_moves (with_actor m t a) moves)
   -- The thread does its first duty.
   pub does : (p : Accounts) (t : ℕ) (m : Machine) (a : Actor) (d : Duty) (rest : List Duty) → Doing p n m t a d rest

@@ -1,5 +1,5 @@
 -- Each event keeps the rows and cells of threads' duties in range.
-use Rattle.std.proofs.Common.{◌≡◌, ℕ, ◌+◌, List, [], ◌∷◌, length, Option, None, Some, refl, subst, arith}
+use Rattle.std.proofs.Common.{◌≡◌, ℕ, ◌+◌, List, [], ◌∷◌, length, Option, None, Some, refl, subst}
 use Rattle.std.specs.Prelude.{slice_get}
 use Rattle.brc_lang.specs.declared.module.Module.{Module}
 use Rattle.brc_model.specs.AbstractState.{Move}
@@ -11,15 +11,16 @@ use Rattle.brc_model.proofs.Basics.Lists.{written_actor}
 use Rattle.brc_model.specs.declared.state.Exit.{Exit}
 use Rattle.brc_model.specs.Actions.{StepActor, Action, Skip, Stuck, Silent, Calls, Does}
 use Rattle.brc_model.specs.Dispatch.{exit_of, action_of}
-use Rattle.brc_model.specs.StepMachine.{StepMachine, counting, of_thread, machine_by, next_machine, machine_after, first_layout, first_machine}
+use Rattle.brc_model.specs.StepMachine.{StepMachine, counting, of_thread, machine_by, next_machine, machine_after, layout_of, first_machine}
 use Rattle.brc_model.proofs.Keeping.FirstRanges.{rooted_ranges}
-use Rattle.brc_model.proofs.Keeping.FirstMachine.{first_rooted}
+use Rattle.brc_model.proofs.Keeping.FirstMachine.{first_rooted, has_lines, wide_cells, few_cells}
 use Rattle.brc_model.proofs.Dispatch.Counting.{its_found, counting_silent, counting_called, counting_done}
 use Rattle.brc_model.proofs.Keeping.CodeInvariant.{CodeInvariant}
 use Rattle.brc_model.proofs.Dispatch.Actions.{ActionFits, action_fits}
 use Rattle.brc_model.proofs.Keeping.CodeEvents.{event_keeps}
 use Rattle.brc_model.specs.Ranges.{AreSmall, Ranges}
 use Rattle.brc_model.proofs.Limits.Ranges.{head_small, duty_ranges}
+use Rattle.brc_lang.specs.Grammar.{IsModule}
 
 -- A step on no word leaves the thread's duties as they are.
 quiet_ranges : (p : Module) (n : ℕ) (m : StepMachine) (t : ℕ) (a : StepActor) (moves : List Move)
@@ -81,8 +82,10 @@ bounded_after p n m (e ∷ events) bounded = bounded_after p n (next_machine m e
 -- ---- the first machine
 
 -- The duties and kind words of the first machine are in range.
-pub first_ranges : (m : Module) (states : ℕ → ℕ → Option State) (rows : ℕ) (calls : List Call)
+pub first_ranges : (m : Module) (states : ℕ → ℕ → Option State) (rows : ℕ) (calls : List Call) → IsModule m
     → Ranges (1 + length calls) (counting (first_machine m states rows calls))
-first_ranges m states rows calls =
+first_ranges m states rows calls fits =
     subst (Ranges (1 + length calls)) (first_rooted m states rows calls)
-    (rooted_ranges (first_layout rows calls) (1 + length calls) (omega arith))
+    (rooted_ranges m.statics (layout_of m (length calls) rows) (1 + length calls)
+    (has_lines m (length calls) rows fits) (wide_cells m (length calls) rows)
+    (few_cells m (length calls) rows))

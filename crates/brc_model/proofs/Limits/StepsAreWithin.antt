@@ -196,7 +196,7 @@ reached_bounded p w r =
       whole =
           first_code_invariant p r.states r.rows r.calls r.fits r.accepted r.states_true r.calls_fit r.some_rows
           r.most_rows;
-      ranges = first_ranges p r.states r.rows r.calls;
+      ranges = first_ranges p r.states r.rows r.calls r.fits;
     })
 
 -- Each duty that a thread of a reachable world may do next is within the world's bounds.

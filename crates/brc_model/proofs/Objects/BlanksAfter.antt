@@ -15,8 +15,8 @@ use Rattle.brc_model.specs.Machine.{Machine, used_by, actor_by, machine_by_duty}
 use Rattle.brc_model.proofs.Basics.Lists.{some_is, slice_get-set_same, slice_get-set_other}
 use Rattle.brc_model.proofs.Basics.Written.{zero_written, written_load}
 use Rattle.brc_model.proofs.Basics.Blocks.{next_block, next_index}
-use Rattle.brc_model.proofs.Frame.Alive.{alive_born}
-use Rattle.brc_model.proofs.Frame.Leaves.{head_of, locked_alive}
+use Rattle.brc_model.proofs.Frame.Alive.{live_born}
+use Rattle.brc_model.proofs.Frame.Leaves.{head_of, locked_lives}
 use Rattle.brc_model.proofs.Stepping.FitsAfter.{found_by, memory_by}
 use Rattle.brc_model.specs.Accounts.{Accounts}
 use Rattle.brc_model.specs.Knowledge.{IsNext}
@@ -93,7 +93,7 @@ module _ {p : Accounts} {n : ℕ} {m : Machine} {t : ℕ} {a : Actor} {rest : Li
   lent_used u b y x here found block past =
       let lent = head_of here in
       let locked = (here.core.each t a here.found).0.lent y lent in
-      let born = alive_born m y (locked_alive t a y here.core here.found locked) in
+      let born = live_born m y (locked_lives t a y here.core here.found locked) in
       ne_eqb y x (λ e. born (ap m.life e ∙ (here.core.uses u b found).unborn x block past))
 
   own_blanks : (d : Duty) → AtDuty p n m t a d rest

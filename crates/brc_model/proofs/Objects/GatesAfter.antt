@@ -12,7 +12,7 @@ use Rattle.brc_model.specs.declared.actor.Actor.{Actor}
 use Rattle.brc_model.specs.Machine.{Life, Unborn, Live, Dying, Closed, Machine, is_locking, ended_row, actor_by, machine_by_duty}
 use Rattle.brc_model.proofs.Basics.Lists.{some_is, none_some, slice_get-set_same}
 use Rattle.brc_model.proofs.Basics.Written.{written_here, written_apart, written_load, apart_gate}
-use Rattle.brc_model.proofs.Frame.Alive.{alive_backed}
+use Rattle.brc_model.proofs.Frame.Alive.{backed_lives}
 use Rattle.brc_model.proofs.Frame.Leaves.{head_of}
 use Rattle.brc_model.proofs.Frame.Locks.{live_gate_kept, live_gate_others}
 use Rattle.brc_model.proofs.Stepping.FitsAfter.{found_by, memory_by}
@@ -40,13 +40,11 @@ module _ {p : Accounts} {n : ℕ} {m : Machine} {t : ℕ} {a : Actor} {rest : Li
   dead_gate_stays : (d : Duty) (x : ℕ) → AtDuty p n m t a d rest → (m.life x ≡ Dying t → ⊥) → (m.life x ≡ Live → ⊥)
       → memory_by m t a d (Gate x) ≡ m.memory (Gate x)
   dead_gate_stays (LockGate y) x here other dead =
-      let fits = head_of here in
       written_apart m.memory (Gate y) (Gate x) _
-      (apart_gate y x (λ e. dead (ap m.life (sym e) ∙ (alive_backed t a y here.core fits.0 fits.1).life)))
+      (apart_gate y x (λ e. dead (ap m.life (sym e) ∙ backed_lives t a y here.core (head_of here).0)))
   dead_gate_stays (UnlockGate y) x here other dead =
-      let fits = head_of here in
       written_apart m.memory (Gate y) (Gate x) _
-      (apart_gate y x (λ e. dead (ap m.life (sym e) ∙ (alive_backed t a y here.core fits.0 fits.1).life)))
+      (apart_gate y x (λ e. dead (ap m.life (sym e) ∙ backed_lives t a y here.core (head_of here).0)))
   dead_gate_stays d x here other dead = gate_stays d x here other refl
 
 ended_gate : (m : Machine) (t : ℕ) (a : Actor) (d : Duty) (x : ℕ) → ended_row d ≡ Some x
@@ -63,7 +61,7 @@ module _ {p : Accounts} {n : ℕ} {m : Machine} {t : ℕ} {a : Actor} {rest : Li
   lock_tried : (x : ℕ) → AtDuty p n m t a (LockGate x) rest → LiveGate m.actors x (m.memory (Gate x))
       → LiveGate (machine_by_duty m t a (LockGate x) rest).actors x (memory_by m t a (LockGate x) (Gate x))
   lock_tried x here live =
-      let none : a.locked ≡ None = (head_of here).2 in
+      let none : a.locked ≡ None = (head_of here).1 in
       let found = m.memory (Gate x) in
       let after = actor_by m.layout t a (LockGate x) rest found in
       let new = (machine_by_duty m t a (LockGate x) rest).actors in
@@ -86,7 +84,7 @@ module _ {p : Accounts} {n : ℕ} {m : Machine} {t : ℕ} {a : Actor} {rest : Li
       → LiveGate m.actors x (m.memory (Gate x)) → LiveGate (machine_by_duty m t a d rest).actors x
       (memory_by m t a d (Gate x))
   live_gate_after (LockGate y) x here lives live =
-      let none : a.locked ≡ None = (head_of here).2 in
+      let none : a.locked ≡ None = (head_of here).1 in
       let after = actor_by m.layout t a (LockGate y) rest (m.memory (Gate y)) in
       let new = (machine_by_duty m t a (LockGate y) rest).actors in
       elim (eqb_tells y x) [
@@ -100,7 +98,7 @@ module _ {p : Accounts} {n : ℕ} {m : Machine} {t : ℕ} {a : Actor} {rest : Li
             live)
       ]
   live_gate_after (UnlockGate y) x here lives live =
-      let mine : a.locked ≡ Some y = (head_of here).2 in
+      let mine : a.locked ≡ Some y = (head_of here).1 in
       let after = actor_by m.layout t a (UnlockGate y) rest (m.memory (Gate y)) in
       let new = (machine_by_duty m t a (UnlockGate y) rest).actors in
       elim (eqb_tells y x) [

@@ -1,20 +1,24 @@
 -- Which threads have a row's resource lent: only the one that has locked the row.
-use Rattle.std.proofs.Common.{◌≡◌, ◌≢◌, ℕ, ◌+◌, ◌≤◌, true, false, List, get_or, Option, None, Some, refl, sym, ap, ◌∙◌, arith}
+use Rattle.std.proofs.Common.{◌≡◌, ◌≢◌, ℕ, ◌+◌, ◌≤◌, true, false, List, get_or, Option, None, Some, refl, sym, ap, ◌∙◌, arith, subst, inl, inr}
 use Rattle.std.specs.Prelude.{slice_get, slice_set}
-use Rattle.std.proofs.lemmas.Bool.{eqb-true, eq-eqb}
+use Rattle.std.proofs.lemmas.Bool.{eqb-true, eq-eqb, cases_Bool, false≢true}
 use Rattle.std.proofs.lemmas.Option.{slice_get_within, get_or_from_slice_get}
 use Rattle.std.proofs.lemmas.List.Sums.{sum_by-set, get_or-le-sum_by}
 use Rattle.brc_model.specs.VarStates.{names}
 use Rattle.brc_model.specs.declared.actor.Actor.{Actor}
-use Rattle.brc_model.specs.Machine.{Live, Machine}
+use Rattle.brc_model.specs.Machine.{Live, Machine, Life}
 use Rattle.brc_model.specs.References.{one_if}
 use Rattle.brc_model.specs.Accounts.{Accounts}
 use Rattle.brc_model.specs.Invariant.{CoreInvariant}
-use Rattle.brc_model.specs.Resources.{lends, lenders}
+use Rattle.brc_model.specs.Resources.{lends, lenders, resources_at, ResourcesFit}
 use Rattle.brc_model.proofs.Basics.Lists.{some_is, none_some}
-use Rattle.brc_model.proofs.Frame.Leaves.{locked_alive}
+use Rattle.brc_model.proofs.Frame.Leaves.{locked_lives}
 use Rattle.brc_model.proofs.Frame.Items.{one_locker}
 use Rattle.brc_model.proofs.Work.Deciders.{sum_zero}
+use Rattle.brc_model.proofs.Frame.Kinds.{resource_counted}
+use Rattle.brc_model.specs.Layout.{is_immortal_row}
+use Rattle.brc_model.specs.Duties.{has_resource, resources_of}
+use Rattle.brc_model.specs.declared.address.Address.TheVariants.{KindOf}
 
 pub names_is : (o : Option ℕ) (x : ℕ) → names o x ≡ true → o ≡ Some x
 names_is None x named = absurd cc
@@ -49,7 +53,7 @@ module _ (p : Accounts) (n : ℕ) (m : Machine) (x : ℕ) where
       elim (names b.lent x) as (λ c. names b.lent x ≡ c → one_if c ≡ 0) [
         | true ↦ λ e.
             let locked = (core.each u b found).0.lent x (names_is b.lent x e) in
-            absurd (dead (locked_alive u b x core found locked).life)
+            absurd (dead (locked_lives u b x core found locked))
         | false ↦ λ e. refl
       ] refl)
 
@@ -66,3 +70,16 @@ module _ (p : Accounts) (n : ℕ) (m : Machine) (x : ℕ) where
             absurd (none_some x (sym unlent ∙ ap (λ (c : Actor). c.lent) (sym which) ∙ lent))
         | false ↦ λ e. refl
       ] refl)
+
+  -- An immortal object has no resource that could be lent.
+  pub immortal_unlent : CoreInvariant p n m → is_immortal_row m.layout x ≡ true → lenders x m.actors ≡ 0
+  immortal_unlent core immortal =
+      let placed : ResourcesFit Live (resources_at m x) =
+      subst (λ (l : Life). ResourcesFit l (resources_at m x)) (core.immortals_live x immortal) (core.resources x) in
+      let none : resources_of (m.memory (KindOf x)) ≡ 0 =
+      elim (cases_Bool (has_resource (m.memory (KindOf x)))) [
+        | inl some ↦
+            absurd (false≢true (sym (resource_counted x core some) ∙ immortal))
+        | inr none ↦ ap one_if none
+      ] in
+      omega (arith, placed.0, none)

@@ -15,7 +15,7 @@ use Rattle.brc_model.specs.OpenWork.{dies_by}
 use Rattle.brc_model.specs.Invariant.{AtDuty, CoreInvariant}
 use Rattle.brc_model.specs.Resources.{closing, resources_at, ResourcesFit}
 use Rattle.brc_model.proofs.Basics.Written.{written_here}
-use Rattle.brc_model.proofs.Frame.Leaves.{head_of, locked_alive}
+use Rattle.brc_model.proofs.Frame.Leaves.{head_of, locked_lives}
 use Rattle.brc_model.proofs.Stepping.FitsAfter.{found_by}
 use Rattle.brc_model.proofs.Objects.Finalisers.{unfinalised}
 use Rattle.brc_model.proofs.Objects.Lenders.{is_named, none_named, lenders-set, lends-le, locker_alone}
@@ -33,7 +33,7 @@ module _ (p : Accounts) (n : ℕ) (m : Machine) (t : ℕ) (a : Actor) where
   pub lending_finds : (x : ℕ) (rest : List Duty) → AtDuty p n m t a (LendSlot x) rest → m.memory (Slot x) ≡ FULL
   lending_finds x rest here =
       let head = head_of here in
-      let lives = (locked_alive t a x here.core here.found head.1).life in
+      let lives = (locked_lives t a x here.core here.found head.1) in
       let fit : ResourcesFit Live (resources_at m x) =
       subst (λ (l : Life). ResourcesFit l (resources_at m x)) lives (here.core.resources x) in
       let none : (u : ℕ) → dies_by (m.life x) u ≡ false = λ u. ap (λ (l : Life). dies_by l u) lives in
@@ -47,7 +47,7 @@ module _ (p : Accounts) (n : ℕ) (m : Machine) (t : ℕ) (a : Actor) where
       → m.memory (Slot x) ≡ EMPTY
   lent_leaves_none x core found lent =
       let locked = (core.each t a found).0.lent x lent in
-      let lives = (locked_alive t a x core found locked).life in
+      let lives = (locked_lives t a x core found locked) in
       let fit : ResourcesFit Live (resources_at m x) =
       subst (λ (l : Life). ResourcesFit l (resources_at m x)) lives (core.resources x) in
       omega (
@@ -69,7 +69,7 @@ module _ (p : Accounts) (n : ℕ) (m : Machine) (t : ℕ) (a : Actor) where
       let d : Duty = LendSlot x in
       let new = resources_at (machine_by_duty m t a d rest) x in
       let head = head_of here in
-      let lives = (locked_alive t a x here.core here.found head.1).life in
+      let lives = (locked_lives t a x here.core here.found head.1) in
       let fit : ResourcesFit Live (resources_at m x) =
       subst (λ (l : Life). ResourcesFit l (resources_at m x)) lives (here.core.resources x) in
       let after = actor_by m.layout t a d rest (found_by m t a d) in
@@ -97,7 +97,7 @@ module _ (p : Accounts) (n : ℕ) (m : Machine) (t : ℕ) (a : Actor) where
       let new = resources_at (machine_by_duty m t a d rest) x in
       let lent = head_of here in
       let locked = (here.core.each t a here.found).0.lent x lent in
-      let lives = (locked_alive t a x here.core here.found locked).life in
+      let lives = (locked_lives t a x here.core here.found locked) in
       let fit : ResourcesFit Live (resources_at m x) =
       subst (λ (l : Life). ResourcesFit l (resources_at m x)) lives (here.core.resources x) in
       let after = actor_by m.layout t a d rest (found_by m t a d) in

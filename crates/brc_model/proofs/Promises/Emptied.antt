@@ -1,5 +1,5 @@
 -- A thread with nothing left to do has an empty dying chain, if it isn't between two releases after a stop.
-use Rattle.std.proofs.Common.{◌≡◌, ℕ, zero, suc, true, false, cond, List, [], ◌∷◌, ◌++◌, Option, None, Some, refl, sym, ap, ◌∙◌, subst}
+use Rattle.std.proofs.Common.{◌≡◌, ℕ, zero, suc, true, false, cond, List, [], ◌∷◌, ◌++◌, Option, None, Some, refl, sym, ap, ◌∙◌, subst, length}
 use Rattle.std.specs.Prelude.{slice_get, slice_set, map}
 use Rattle.brc_lang.specs.declared.module.Instr.{Instr}
 use Rattle.brc_lang.specs.declared.module.Module.{Module}
@@ -19,7 +19,7 @@ use Rattle.brc_model.specs.declared.actor.Place.TheVariants.{Idle, InCall, Insid
 use Rattle.brc_model.specs.declared.state.Exit.{Exit}
 use Rattle.brc_model.specs.Actions.{StepActor, Action, Skip, Stuck, Silent, Calls, Does, always, first_context, holds_some, stopping, give_up, stop_action}
 use Rattle.brc_model.specs.Dispatch.{dispatch, may_claim, agenda_action, status_action, exit_of, action_of, may_stop, is_before_instruction}
-use Rattle.brc_model.specs.StepMachine.{StepMachine, of_thread, machine_by, next_machine, machine_after, first_machine, main_actor, worker_actor, at_place, step_actor}
+use Rattle.brc_model.specs.StepMachine.{StepMachine, of_thread, machine_by, next_machine, machine_after, first_machine, main_actor, worker_actor, at_place, step_actor, layout_of}
 use Rattle.brc_lang.specs.declared.module.Function.{Function}
 use Rattle.brc_model.proofs.Basics.Lists.{written_actor, either, some_is, slice_get-map}
 use Rattle.brc_model.proofs.Dispatch.Claims.{claimer, stopper}
@@ -204,9 +204,9 @@ emptied_after p m (e ∷ events) fits holds =
       emptied = thread_emptied p m e.0 e.1 (slice_get m.actors e.0) fits holds refl;
     })
 
-first_emptied : (calls : List Call) → AreEmptied (main_actor ∷ map worker_actor calls)
-first_emptied calls zero a is = subst IsEmptied (some_is main_actor a is) refl
-first_emptied calls (suc t) a is =
+first_emptied : (layout : Layout) (calls : List Call) → AreEmptied (main_actor layout ∷ map worker_actor calls)
+first_emptied layout calls zero a is = subst IsEmptied (some_is (main_actor layout) a is) refl
+first_emptied layout calls (suc t) a is =
     let call = slice_get-map worker_actor calls t a is in
     subst IsEmptied call.is_image refl
 
@@ -219,7 +219,7 @@ chain_empty p states rows calls events t left a fits found none idle =
     let all =
     emptied_after p (first_machine p states rows calls) events fits (record {
       turns = first_turns p states rows calls;
-      emptied = first_emptied calls;
+      emptied = first_emptied (layout_of p (length calls) rows) calls;
     }) t a found in
     no_chain a.actor.head
     (subst (λ (place : Place). Empties a.actor.head ([] ++ behind place)) idle

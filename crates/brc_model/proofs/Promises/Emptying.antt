@@ -5,7 +5,7 @@ use Rattle.std.proofs.Common.{◌≡◌, ℕ, zero, suc, Bool, true, false, cond
 use Rattle.std.specs.Prelude.{is_some, not, slice_get}
 use Rattle.std.specs.List.{list_all}
 use Rattle.brc_lang.specs.declared.module.Instr.{Instr}
-use Rattle.brc_lang.specs.declared.module.Instr.TheVariants.{Num, List as ListObject, NoneObject, Newref, Move as MoveReference, Drop, Lock, Unlock, Borrow, Fetch, Set, Put, Goto, Again, Ret, Fail, As, Open, Connect, Read, Write, Call}
+use Rattle.brc_lang.specs.declared.module.Instr.TheVariants.{Num, List as ListObject, NoneObject, Take, Newref, Move as MoveReference, Drop, Lock, Unlock, Borrow, Fetch, Set, Put, Goto, Again, Ret, Fail, As, Open, Connect, Read, Write, Call}
 use Rattle.brc_model.specs.Threads.{row_of}
 use Rattle.brc_model.specs.declared.duty.Duty.{Duty}
 use Rattle.brc_model.specs.declared.duty.Duty.TheVariants.{Die, Settle, Scan, TakeFound}
@@ -210,6 +210,7 @@ instruction_empties layout t used before context at variables (Some (Num to valu
 instruction_empties layout t used before context at variables (Some (ListObject to cells otherwise)) =
     either (ActionEmpties 0) (has_room layout t used) _ _ (λ _. refl) tt
 instruction_empties layout t used before context at variables (Some (NoneObject to)) = tt
+instruction_empties layout t used before context at variables (Some (Take to list)) = tt
 instruction_empties layout t used before context at variables (Some (Newref to from)) =
     row_empties (row_of variables from) _ (λ row. refl)
 instruction_empties layout t used before context at variables (Some (MoveReference to from)) =

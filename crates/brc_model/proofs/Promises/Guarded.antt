@@ -31,7 +31,7 @@ use Rattle.brc_model.specs.GuardLaws.{QueuedMarksAreWatched, HoldsGate, CellsAre
 use Rattle.brc_model.proofs.Basics.Blocks.{next_block, next_unborn}
 use Rattle.brc_model.proofs.Basics.Written.{written_apart, written_load, apart_local}
 use Rattle.brc_model.proofs.Frame.Alive.{Alive, alive_backed, alive_deciding, first_weighs}
-use Rattle.brc_model.proofs.Frame.Leaves.{head_of, given_alive, locked_alive}
+use Rattle.brc_model.proofs.Frame.Leaves.{head_of, given_alive, locked_lives}
 use Rattle.brc_model.proofs.Frame.Lives.{leaves_others}
 use Rattle.brc_model.proofs.Frame.Others.{dying_is, is_dying, life_kept}
 use Rattle.brc_model.proofs.Limits.StepsAreWithin.{live_owner}
@@ -97,12 +97,12 @@ module _ {p : Accounts} {n : ℕ} {m : Machine} where
       let other = (gate_of t x counts lock).gate in
       apart (omega (arith, mine, other))
   no_other t u b d x counts found apart (inl locked) (inr dies) =
-      let alive = locked_alive u b x counts.kept.core found locked in
-      let wrong : Live ≡ Dying t = sym alive.life ∙ dies.0 in
+      let lives = locked_lives u b x counts.kept.core found locked in
+      let wrong : Live ≡ Dying t = sym lives ∙ dies.0 in
       absurd cc
   no_other t u b d x counts found apart (inr chained) (inl (a, at, locked)) =
-      let alive = locked_alive t a x counts.kept.core at locked in
-      let wrong : Live ≡ Dying u = sym alive.life ∙ chained.0 in
+      let lives = locked_lives t a x counts.kept.core at locked in
+      let wrong : Live ≡ Dying u = sym lives ∙ chained.0 in
       absurd cc
   no_other t u b d x counts found apart (inr chained) (inr dies) =
       let both : Dying u ≡ Dying t = sym chained.0 ∙ dies.0 in

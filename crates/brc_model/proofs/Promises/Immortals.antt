@@ -1,15 +1,14 @@
--- The words of an immortal object never change: every duty about it is a load.
-use Rattle.std.proofs.Common.{◌≡◌, ℕ, ◌+◌, ◌-◌, ◌<◌, Bool, true, List, inl, inr, refl, sym, ap, ◌∙◌, subst, arith}
-use Rattle.std.specs.Prelude.{◌==◌, ◌&&◌}
+-- The words of an immortal object never change, but those that its lock guards: every other duty about it is a load.
+use Rattle.std.proofs.Common.{◌≡◌, ℕ, ◌+◌, ◌<◌, true, List, inl, inr, refl, sym, ap, ◌∙◌, subst, arith}
 use Rattle.std.proofs.lemmas.Bool.{cases_Bool, eqb-true, ne_eqb}
 use Rattle.brc_word.specs.declared.values.TheConstants.{UNSET}
 use Rattle.brc_lang.specs.declared.module.Module.{Module}
-use Rattle.brc_word.specs.Words.{immortal_local, local_part, is_immortal_word, dying_word, closed_word, free_word}
+use Rattle.brc_word.specs.Words.{immortal_local, local_part, is_immortal_word}
 use Rattle.brc_model.specs.declared.thread.Choice.{Choice}
 use Rattle.brc_model.specs.declared.duty.Reason.TheVariants.{Own, Handed}
 use Rattle.brc_model.specs.declared.duty.Duty.{Duty}
-use Rattle.brc_model.specs.declared.duty.Duty.TheVariants.{RetainAdd, DecideAtZero, SharedLoad, SharedExchange, MergeLoad, MergeExchange, Die, Settle, SettleKind, SettleEnd, TakeSlot, CloseResource, BirthKind, BirthSlot, KindLoad, LockGate, UnlockGate, SettleCell, CellLoad, CellSwap, LendSlot, ReturnSlot}
-use Rattle.brc_model.specs.declared.address.Address.TheVariants.{Local, Shared, Gate, KindOf, Slot, Resource, Cell}
+use Rattle.brc_model.specs.declared.duty.Duty.TheVariants.{RetainAdd, DecideAtZero, SharedLoad, SharedExchange, MergeLoad, MergeExchange, TakeSlot, CloseResource, BirthSlot, LendSlot, ReturnSlot}
+use Rattle.brc_model.specs.declared.address.Address.TheVariants.{Local, Shared, KindOf, Slot, Resource}
 use Rattle.brc_model.specs.declared.actor.Actor.{Actor}
 use Rattle.brc_model.specs.Machine.{Life, Unborn, Live, Dying, Closed, Machine, written, mark_of}
 use Rattle.brc_model.specs.StepMachine.{StepMachine, next_machine}
@@ -17,13 +16,15 @@ use Rattle.brc_model.specs.Progress.{StaysAt, ImmortalsStay}
 use Rattle.brc_model.specs.RowInvariant.{Numbers, InOwned, InSwapped, InMerged, RowInvariant}
 use Rattle.brc_model.specs.Accounts.{Accounts}
 use Rattle.brc_model.specs.Invariant.{AtDuty, numbers_of, CoreInvariant}
-use Rattle.brc_model.proofs.Basics.Written.{written_apart, written_load, apart_shared, apart_gate}
+use Rattle.brc_model.proofs.Basics.Written.{written_apart, written_load, apart_shared}
 use Rattle.brc_model.proofs.Frame.Leaves.{head_of}
 use Rattle.brc_model.proofs.Stepping.FitsAfter.{memory_by}
 use Rattle.brc_model.proofs.Keeping.CodeInvariant.{CodeInvariant}
 use Rattle.brc_model.proofs.Keeping.CodeEvents.{event_keeps}
 use Rattle.brc_model.proofs.Keeping.StepCases.{ShowsSteps, at_duty, event_shows}
 use Rattle.brc_model.proofs.Stepping.Nones.{immortal_word_left}
+use Rattle.brc_model.proofs.Frame.Kinds.{immortal_kind_left}
+use Rattle.brc_model.proofs.Objects.Lenders.{is_named, lends-le, immortal_unlent}
 use Rattle.brc_model.proofs.Basics.Blocks.{next_counted, immortal_apart}
 use Rattle.brc_model.specs.declared.layout.Layout.{Layout}
 use Rattle.brc_model.specs.Layout.{block_of, is_immortal_row, IsCounted}
@@ -61,11 +62,6 @@ shared_apart : (m : Machine) (y x v : ℕ) → IsCounted m.layout y → is_immor
 shared_apart m y x v counted immortal =
     written_apart m.memory (Shared y) (Shared x) v (apart_shared y x (immortal_apart m.layout y x counted immortal))
 
-gate_apart : (m : Machine) (y x v : ℕ) → IsCounted m.layout y → is_immortal_row m.layout x ≡ true
-    → written m.memory (Gate y) v (Gate x) ≡ m.memory (Gate x)
-gate_apart m y x v counted immortal =
-    written_apart m.memory (Gate y) (Gate x) v (apart_gate y x (immortal_apart m.layout y x counted immortal))
-
 module _ {p : Accounts} {n : ℕ} {m : Machine} {t : ℕ} {a : Actor} {rest : List Duty} where
   immortal_shared : (d : Duty) (x : ℕ) → AtDuty p n m t a d rest → is_immortal_row m.layout x ≡ true
       → memory_by m t a d (Shared x) ≡ m.memory (Shared x)
@@ -79,24 +75,6 @@ module _ {p : Accounts} {n : ℕ} {m : Machine} {t : ℕ} {a : Actor} {rest : Li
   immortal_shared (MergeExchange y c w r) x here immortal = shared_apart m y x _ (head_of here).0 immortal
   immortal_shared _ x here immortal = refl
 
-  immortal_gate : (d : Duty) (x : ℕ) → AtDuty p n m t a d rest → is_immortal_row m.layout x ≡ true
-      → memory_by m t a d (Gate x) ≡ m.memory (Gate x)
-  immortal_gate (Die y) x here immortal = gate_apart m y x (dying_word t a.head) (head_of here).0 immortal
-  immortal_gate Settle x here immortal = written_load m.memory (Gate (a.head - 1)) (Gate x)
-  immortal_gate (SettleEnd y) x here immortal = gate_apart m y x closed_word (head_of here).0 immortal
-  immortal_gate (LockGate y) x here immortal = gate_apart m y x _ (head_of here).0 immortal
-  immortal_gate (UnlockGate y) x here immortal = gate_apart m y x free_word (head_of here).0 immortal
-  immortal_gate _ x here immortal = refl
-
-  immortal_kind : (d : Duty) (x : ℕ) → AtDuty p n m t a d rest → is_immortal_row m.layout x ≡ true
-      → memory_by m t a d (KindOf x) ≡ m.memory (KindOf x)
-  immortal_kind (SettleKind y) x here immortal = written_load m.memory (KindOf y) (KindOf x)
-  immortal_kind (KindLoad y) x here immortal = written_load m.memory (KindOf y) (KindOf x)
-  immortal_kind (BirthKind y h w) x here immortal =
-      written_apart m.memory (KindOf y) (KindOf x) w
-      (ne_eqb y x (immortal_apart m.layout y x (next_counted m t a y (head_of here).0) immortal))
-  immortal_kind _ x here immortal = refl
-
   immortal_slot : (d : Duty) (x : ℕ) → AtDuty p n m t a d rest → is_immortal_row m.layout x ≡ true
       → memory_by m t a d (Slot x) ≡ m.memory (Slot x)
   immortal_slot (TakeSlot y) x here immortal =
@@ -107,10 +85,11 @@ module _ {p : Accounts} {n : ℕ} {m : Machine} {t : ℕ} {a : Actor} {rest : Li
   immortal_slot (LendSlot y) x here immortal =
       written_apart m.memory (Slot y) (Slot x) 0 (ne_eqb y x (immortal_apart m.layout y x (head_of here).0 immortal))
   immortal_slot (ReturnSlot y) x here immortal =
-      let lent = head_of here in
-      let fits = (here.core.each t a here.found).0 in
+      let lent = is_named a.lent y (head_of here) in
+      let some = lends-le y m.actors t a here.found in
       written_apart m.memory (Slot y) (Slot x) 1
-      (ne_eqb y x (immortal_apart m.layout y x (fits.locks y (fits.lent y lent)).counted immortal))
+      (ne_eqb y x (λ same. let none = immortal_unlent p n m y here.core
+      (ap (is_immortal_row m.layout) same ∙ immortal) in absurd (omega (arith, lent, some, none))))
   immortal_slot _ x here immortal = refl
 
   immortal_resource : (d : Duty) (x : ℕ) → AtDuty p n m t a d rest → is_immortal_row m.layout x ≡ true
@@ -120,30 +99,15 @@ module _ {p : Accounts} {n : ℕ} {m : Machine} {t : ℕ} {a : Actor} {rest : Li
       (ne_eqb y x (immortal_apart m.layout y x (head_of here).0 immortal))
   immortal_resource _ x here immortal = refl
 
-  immortal_cell : (d : Duty) (x i : ℕ) → AtDuty p n m t a d rest → is_immortal_row m.layout x ≡ true
-      → memory_by m t a d (Cell x i) ≡ m.memory (Cell x i)
-  immortal_cell (SettleCell y j k) x i here immortal =
-      written_apart m.memory (Cell y j) (Cell x i) 0
-      (ap (λ (b : Bool). b && (j == i)) (ne_eqb y x (immortal_apart m.layout y x (head_of here).0 immortal)))
-  immortal_cell (CellLoad y j) x i here immortal = written_load m.memory (Cell y j) (Cell x i)
-  immortal_cell (CellSwap y j z h) x i here immortal =
-      let locked = (head_of here).0 in
-      let counted = ((here.core.each t a here.found).0.locks y locked).counted in
-      written_apart m.memory (Cell y j) (Cell x i) (z + 1)
-      (ap (λ (b : Bool). b && (j == i)) (ne_eqb y x (immortal_apart m.layout y x counted immortal)))
-  immortal_cell _ x i here immortal = refl
-
 -- ---- each event
 
 record ImmortalStays (m new : Machine) (x : ℕ) : Type 0 where
   layout : new.layout ≡ m.layout
   local : new.memory (Local x) ≡ m.memory (Local x)
   shared : new.memory (Shared x) ≡ m.memory (Shared x)
-  gate : new.memory (Gate x) ≡ m.memory (Gate x)
   kind : new.memory (KindOf x) ≡ m.memory (KindOf x)
   slot : new.memory (Slot x) ≡ m.memory (Slot x)
   resource : new.memory (Resource x) ≡ m.memory (Resource x)
-  cells : (i : ℕ) → new.memory (Cell x i) ≡ m.memory (Cell x i)
 
 -- every immortal object's
 abbrev AllImmortalsStay : Machine → Machine → Type 0
@@ -155,43 +119,35 @@ immortals_shown n = record {
     layout = refl;
     local = refl;
     shared = refl;
-    gate = refl;
     kind = refl;
     slot = refl;
     resource = refl;
-    cells = λ i. refl;
   };
   sits =
       λ t m new a agenda found shown x immortal. let it = shown x immortal in record {
         layout = it.layout;
         local = it.local;
         shared = it.shared;
-        gate = it.gate;
         kind = it.kind;
         slot = it.slot;
         resource = it.resource;
-        cells = it.cells;
       };
   moves =
       λ p t m a moves kept found silent x immortal. record {
         layout = refl;
         local = refl;
         shared = refl;
-        gate = refl;
         kind = refl;
         slot = refl;
         resource = refl;
-        cells = λ i. refl;
       };
   does = λ p t m a d rest doing x immortal. record {
     layout = refl;
     local = immortal_word_left d x (at_duty doing) immortal;
     shared = immortal_shared d x (at_duty doing) immortal;
-    gate = immortal_gate d x (at_duty doing) immortal;
-    kind = immortal_kind d x (at_duty doing) immortal;
+    kind = immortal_kind_left x (at_duty doing) immortal;
     slot = immortal_slot d x (at_duty doing) immortal;
     resource = immortal_resource d x (at_duty doing) immortal;
-    cells = λ i. immortal_cell d x i (at_duty doing) immortal;
   };
 }
 
@@ -215,12 +171,10 @@ immortal_stays p n m event x whole immortal =
     record {
       local = words.local;
       shared = words.shared;
-      gate = words.gate;
       kind = words.kind;
       slot = words.slot;
       resource = words.resource;
       mark = immortal_mark x new.kept.core still ∙ sym (immortal_mark x whole.kept.core immortal);
-      cells = words.cells;
     }
 
 pub immortals_stay : (p : Module) (n : ℕ) (m : StepMachine) (event : ℕ × Choice) → CodeInvariant p n m

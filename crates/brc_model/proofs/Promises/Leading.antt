@@ -6,7 +6,7 @@ use Rattle.std.specs.Prelude.{◌==◌, nat_lt, slice_get, slice_set, is_some, c
 use Rattle.std.proofs.lemmas.Bool.{ltb-true}
 use Rattle.std.proofs.lemmas.Option.{slice_get_within}
 use Rattle.brc_lang.specs.declared.module.Instr.{Instr}
-use Rattle.brc_lang.specs.declared.module.Instr.TheVariants.{Num, List as ListObject, NoneObject, Newref, Move as MoveReference, Drop, Lock, Unlock, Borrow, Fetch, Set, Put, Goto, Again, Ret, Fail, As, Open, Connect, Read, Write, Call}
+use Rattle.brc_lang.specs.declared.module.Instr.TheVariants.{Num, List as ListObject, NoneObject, Take, Newref, Move as MoveReference, Drop, Lock, Unlock, Borrow, Fetch, Set, Put, Goto, Again, Ret, Fail, As, Open, Connect, Read, Write, Call}
 use Rattle.brc_lang.specs.Grammar.{LeadsForward}
 use Rattle.brc_word.specs.Words.{free_word}
 use Rattle.brc_model.specs.Kinds.{same_kind, kind_of_word}
@@ -26,7 +26,7 @@ use Rattle.brc_model.proofs.Basics.Lists.{either, none_some}
 use Rattle.brc_model.proofs.Dispatch.Decided.{range_decides, item_decides, exit_decides}
 use Rattle.brc_model.specs.Bounded.{times_of}
 use Rattle.brc_model.specs.declared.layout.Layout.{Layout}
-use Rattle.brc_model.specs.Layout.{none_row, row_at}
+use Rattle.brc_model.specs.Layout.{none_row, row_at, first_immortal_list}
 use Rattle.std.specs.List.{list_all, list_any}
 use Rattle.std.proofs.lemmas.List.Sums.{sum_by-cons}
 use Rattle.brc_model.specs.declared.duty.Holding.TheVariants.{ByVariable}
@@ -133,6 +133,8 @@ module _ (P : Place → Type 0) (place : Place) (code : List Instr) (forward : L
           birth_leads to (list_word cells) otherwise (forward at (ListObject to cells otherwise) otherwise is refl).0
       instruction_leads (Some (NoneObject to)) is =
           holds.on (at + 1) (slice_set variables to (Some none_row)) (omega arith)
+      instruction_leads (Some (Take to list)) is =
+          holds.on (at + 1) (slice_set variables to (Some (first_immortal_list layout + list))) (omega arith)
       instruction_leads (Some (Newref to from)) is =
           row_leads P place (row_of variables from) _
           (λ row found. holds.on (at + 1) (slice_set variables to (Some row)) (omega arith))

@@ -7,7 +7,7 @@ use Rattle.std.specs.List.{list_all}
 use Rattle.std.proofs.Math.Path.{fun_ext}
 use Rattle.std.proofs.lemmas.List.Sums.{sum_by-cons}
 use Rattle.brc_lang.specs.declared.module.Instr.{Instr}
-use Rattle.brc_lang.specs.declared.module.Instr.TheVariants.{Num, List as ListObject, NoneObject, Newref, Move as MoveReference, Drop, Lock, Unlock, Borrow, Fetch, Set, Put, Goto, Again, Ret, Fail, As, Open, Connect, Read, Write, Call}
+use Rattle.brc_lang.specs.declared.module.Instr.TheVariants.{Num, List as ListObject, NoneObject, Take, Newref, Move as MoveReference, Drop, Lock, Unlock, Borrow, Fetch, Set, Put, Goto, Again, Ret, Fail, As, Open, Connect, Read, Write, Call}
 use Rattle.brc_lang.specs.declared.module.Module.{Module}
 use Rattle.brc_lang.specs.declared.module.Function.{Function}
 use Rattle.brc_word.specs.Words.{free_word, locked_word}
@@ -74,6 +74,7 @@ instruction_waits layout t used place context at variables (Some (Num to value o
 instruction_waits layout t used place context at variables (Some (ListObject to cells otherwise)) =
     either (WaitsAt place) (has_room layout t used) _ _ (λ room. tt) tt
 instruction_waits layout t used place context at variables (Some (NoneObject to)) = tt
+instruction_waits layout t used place context at variables (Some (Take to list)) = tt
 instruction_waits layout t used place context at variables (Some (Newref to from)) =
     row_waits place (row_of variables from) _ (λ row. tt)
 instruction_waits layout t used place context at variables (Some (MoveReference to from)) =

@@ -12,7 +12,7 @@ use Rattle.brc_model.specs.declared.actor.Status.{Status}
 use Rattle.brc_model.specs.declared.actor.Status.TheVariants.{Running, Leaving, Gone}
 use Rattle.brc_model.specs.declared.actor.Actor.{Actor}
 use Rattle.brc_model.specs.Machine.{Machine}
-use Rattle.brc_model.specs.StepMachine.{StepMachine, first_machine}
+use Rattle.brc_model.specs.StepMachine.{StepMachine, layout_of, first_machine}
 use Rattle.brc_model.specs.Safety.{AreCalls, has_gone, AllGone, IsSafeNow, Safe}
 use Rattle.brc_model.specs.Accounts.{Accounts}
 use Rattle.brc_model.specs.Invariant.{CoreInvariant}
@@ -21,7 +21,7 @@ use Rattle.brc_model.specs.Knowledge.{status_word}
 use Rattle.brc_model.proofs.Basics.Lists.{list_all_found}
 use Rattle.brc_model.proofs.Promises.AtTheEnd.{AreAtEnd, left_in_lists, born_closed, closed_born, closed_free}
 use Rattle.brc_model.proofs.Promises.Agreeing.{agrees_at, is_free_of}
-use Rattle.brc_model.proofs.Keeping.FirstMachine.{first_accounts, first_kept, first_coded}
+use Rattle.brc_model.proofs.Keeping.FirstMachine.{first_accounts, has_lines, first_kept, first_coded, first_allowed}
 use Rattle.brc_model.proofs.Keeping.KindsHold.{first_holds}
 use Rattle.brc_model.proofs.Keeping.Sound.{module_sound}
 use Rattle.brc_model.proofs.Keeping.ItemsHold.{first_items}
@@ -86,16 +86,16 @@ pub first_code_invariant : (m : Module) (states : ℕ → ℕ → Option State) 
     → CodeInvariant m (1 + length calls) (first_machine m states rows calls)
 first_code_invariant m states rows calls fits accepted states_true are_calls some few = record {
   accounts = first_accounts;
-  kept = first_kept m states rows calls are_calls some few;
+  kept = first_kept m states rows calls fits are_calls some few;
   functions = refl;
   states_true = states_true;
   sound = module_sound m m.version states fits.functions fits.calls accepted states_true;
-  mortal = refl;
-  wide = omega arith;
+  lines = has_lines m (length calls) rows fits;
+  allowed = first_allowed m (length calls) rows fits.allowed;
   kinds = first_holds m states rows calls;
   items = first_items m states rows calls;
   rooms = first_rooms m states rows calls;
-  coded = λ t a is. first_coded m states calls t a are_calls is;
+  coded = λ t a is. first_coded m states (layout_of m (length calls) rows) calls t a are_calls is;
 }
 
 -- Each acceptable module is safe.

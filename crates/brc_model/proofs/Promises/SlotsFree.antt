@@ -24,9 +24,9 @@ use Rattle.brc_model.specs.SlotLaws.{Stays, Takes, Gives, use_of, needs_slot, Un
 use Rattle.brc_model.proofs.Basics.Bag.{one_if_low}
 use Rattle.brc_model.proofs.Basics.Blocks.{next_block, next_unborn}
 use Rattle.brc_model.proofs.Basics.Lists.{some_is}
-use Rattle.brc_model.proofs.Frame.Alive.{alive_backed, alive_born}
+use Rattle.brc_model.proofs.Frame.Alive.{live_born, backed_lives}
 use Rattle.brc_model.proofs.Frame.Aside.{IsOfRow}
-use Rattle.brc_model.proofs.Frame.Leaves.{head_of, locked_alive}
+use Rattle.brc_model.proofs.Frame.Leaves.{head_of, locked_lives}
 use Rattle.brc_model.proofs.Objects.Finalisers.{unfinalised, finalised_alone}
 use Rattle.brc_model.proofs.Objects.SettlingWeights.{settles, IsOfSettling, finalises}
 use Rattle.brc_model.proofs.Objects.Weights.{agenda_weight-le}
@@ -138,7 +138,7 @@ module _ (p : Accounts) (n : ℕ) (m : Machine) (x : ℕ) (core : CoreInvariant 
 
   -- Nobody has locked a row that doesn't live.
   none_locked : (m.life x ≢ Live) → (u : ℕ) (b : Actor) → slice_get m.actors u ≡ Some b → b.locked ≡ Some x → ⊥
-  none_locked dead u b found locked = dead (locked_alive u b x core found locked).life
+  none_locked dead u b found locked = dead (locked_lives u b x core found locked)
 
 -- ---- the threads that take a slot
 
@@ -147,11 +147,10 @@ module _ (p : Accounts) (n : ℕ) (m : Machine) (t : ℕ) (a : Actor) where
   locking_free : (x : ℕ) (rest : List Duty) → AtDuty p n m t a (LockGate x) rest → m.memory (Gate x) ≡ free_word
       → IsFree m x
   locking_free x rest here free =
-      let fits = head_of here in
-      let alive = alive_backed t a x here.core fits.0 fits.1 in
+      let lives = backed_lives t a x here.core (head_of here).0 in
       record {
-        settled = none_settles p n m x here.core (λ u. ap (λ (l : Life). dies_by l u) alive.life);
-        unbegun = none_bears p n m x here.core (alive_born m x alive);
+        settled = none_settles p n m x here.core (λ u. ap (λ (l : Life). dies_by l u) lives);
+        unbegun = none_bears p n m x here.core (live_born m x lives);
         unlocked = λ u b found locked.
             omega (arith, free, ((here.core.each u b found).0.locks x locked).gate);
       }
@@ -244,7 +243,7 @@ given_is y x e = cc
 pub slots_unlocked : GivenSlotsAreUnlocked
 slots_unlocked p n m t a (UnlockGate y) rest found x counts next gives =
     let here = at_next counts next in
-    let locked : a.locked ≡ Some y = (head_of here).2 in
+    let locked : a.locked ≡ Some y = (head_of here).1 in
     record {
       left = λ z is. let wrong : None ≡ Some z = is in cc;
       kept = λ z apart is.

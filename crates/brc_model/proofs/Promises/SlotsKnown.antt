@@ -25,7 +25,7 @@ use Rattle.brc_model.specs.Counting.{Counts}
 use Rattle.brc_model.specs.Ending.{HaveEnded}
 use Rattle.brc_model.specs.SlotLaws.{LockedSlotsAreFull, SlotsAreKnown, SlotsEnd}
 use Rattle.brc_model.proofs.Basics.Blocks.{next_block, next_index}
-use Rattle.brc_model.proofs.Frame.Leaves.{head_of, locked_alive}
+use Rattle.brc_model.proofs.Frame.Leaves.{head_of, locked_lives}
 use Rattle.brc_model.proofs.Objects.BlanksAfter.{blanks_here}
 use Rattle.brc_model.proofs.Objects.Finalisers.{unfinalised, finalised_alone}
 use Rattle.brc_model.proofs.Objects.Lenders.{none_named, none_lent, locker_alone}
@@ -92,7 +92,7 @@ slots_known = record {
 pub locked_full : LockedSlotsAreFull
 locked_full p n m t a x counts found locked unlent =
     let core = counts.kept.core in
-    let lives = (locked_alive t a x core found locked).life in
+    let lives = (locked_lives t a x core found locked) in
     let fit : ResourcesFit Live (resources_at m x) =
     subst (λ (l : Life). ResourcesFit l (resources_at m x)) lives (core.resources x) in
     let none_closing =

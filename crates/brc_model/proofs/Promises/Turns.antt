@@ -25,7 +25,7 @@ use Rattle.brc_model.specs.Threads.{entry_variables, function_at, function_in, f
 use Rattle.brc_model.specs.Actions.{StepActor, Action, Skip, Stuck, Silent, Calls, Does, always, first_context, turns_at, stop_action}
 use Rattle.brc_model.specs.Dispatch.{may_claim, dispatch, agenda_action, status_action, exit_of, action_of, may_stop}
 use Rattle.brc_model.specs.declared.state.Exit.{Exit}
-use Rattle.brc_model.specs.StepMachine.{StepMachine, main_actor, worker_actor, of_thread, machine_by, next_machine, first_machine, machine_after}
+use Rattle.brc_model.specs.StepMachine.{StepMachine, main_actor, worker_actor, of_thread, machine_by, next_machine, first_machine, machine_after, layout_of}
 use Rattle.brc_model.proofs.Basics.Lists.{either, some_is, none_some, written_actor, slice_get-map, all_of_found}
 use Rattle.brc_model.proofs.Promises.Leading.{Leads, LeadsTo, HoldsAtEnd, HoldsAfter, HoldsBeyond, dispatch_leads}
 use Rattle.brc_model.proofs.Dispatch.Decided.{stopping_decides, stop_decides}
@@ -224,13 +224,16 @@ turns_after p m [] fits holds = holds
 turns_after p m (event ∷ rest) fits holds =
     turns_after p (next_machine m event) rest fits (turns_next p m event fits holds)
 
-first_counts : (functions : List Function) (calls : List Work) (t : ℕ) (a : StepActor)
-    → slice_get (main_actor ∷ map worker_actor calls) t ≡ Some a → ItCounts functions a
-first_counts functions calls zero a is = subst (ItCounts functions) (some_is main_actor a is) tt
-first_counts functions calls (suc t) a is =
+first_counts : (functions : List Function) (layout : Layout) (calls : List Work) (t : ℕ) (a : StepActor)
+    → slice_get (main_actor layout ∷ map worker_actor calls) t ≡ Some a → ItCounts functions a
+first_counts functions layout calls zero a is = subst (ItCounts functions) (some_is (main_actor layout) a is) tt
+first_counts functions layout calls (suc t) a is =
     let call = slice_get-map worker_actor calls t a is in
     subst (ItCounts functions) call.is_image tt
 
 pub first_turns : (p : Module) (states : ℕ → ℕ → Option State) (rows : ℕ) (calls : List Work)
     → TurnsHold p (first_machine p states rows calls)
-first_turns p states rows calls = record { functions = refl; counts = first_counts p.functions calls }
+first_turns p states rows calls = record {
+  functions = refl;
+  counts = first_counts p.functions (layout_of p (length calls) rows) calls;
+}

@@ -18,6 +18,7 @@ use Rattle.brc_model.specs.StepMachine.{StepMachine, first_machine, machine_afte
 smallest : Module
 smallest = record {
   version = One;
+  statics = [];
   functions = record { name = 102 ∷ []; parameters = []; code = Fail ∷ [] } ∷ [];
 }
 

@@ -59,7 +59,7 @@ twice = named 102 [] (Call 1 0 [] 2 ∷ Drop 1 ∷ Again 0 1 ∷ Fail ∷ [])
 -- ---- schedules
 
 module_of : List Function → Module
-module_of functions = record { version = Two; functions = functions }
+module_of functions = record { version = Two; statics = []; functions = functions }
 
 call_to : ℕ → List Work
 call_to number = record { function = number; times = 1 } ∷ []

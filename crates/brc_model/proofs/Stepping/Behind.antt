@@ -20,7 +20,7 @@ use Rattle.brc_model.proofs.Basics.Bag.{one_if_low}
 use Rattle.brc_model.proofs.Basics.Continuation.{Continuation, Ends, Finishes, GoesOn, Frees, FreesOld, SettlesRow, Claims, ClaimsNone, Exits, Scans, Takes, TakesNone, continues}
 use Rattle.brc_model.proofs.Basics.Lists.{some_is, none_some}
 use Rattle.brc_model.proofs.Basics.Written.{written_apart, written_load, apart_gate}
-use Rattle.brc_model.proofs.Frame.Alive.{alive_backed}
+use Rattle.brc_model.proofs.Frame.Alive.{backed_lives}
 use Rattle.brc_model.proofs.Frame.Leaves.{head_of, living_clash}
 use Rattle.brc_model.proofs.Frame.Items.{word_stays}
 use Rattle.brc_model.proofs.Frame.Lives.{next_of}
@@ -64,15 +64,13 @@ module _ {p : Accounts} {n : ℕ} {m : Machine} {t : ℕ} {a : Actor} {rest : Li
   gate_stays (SettleEnd y) x here other dies =
       written_apart m.memory (Gate y) (Gate x) _ (apart_gate y x (eqb-false y x other))
   gate_stays (LockGate y) x here other dies =
-      let fits = head_of here in
       let own : dies_by (m.life x) t ≡ true = ap (λ (l : Life). dies_by l t) dies ∙ eq-eqb t t refl in
       written_apart m.memory (Gate y) (Gate x) _
-      (apart_gate y x (living_clash m t x y (alive_backed t a y here.core fits.0 fits.1) own))
+      (apart_gate y x (living_clash m t x y (backed_lives t a y here.core (head_of here).0) own))
   gate_stays (UnlockGate y) x here other dies =
-      let fits = head_of here in
       let own : dies_by (m.life x) t ≡ true = ap (λ (l : Life). dies_by l t) dies ∙ eq-eqb t t refl in
       written_apart m.memory (Gate y) (Gate x) _
-      (apart_gate y x (living_clash m t x y (alive_backed t a y here.core fits.0 fits.1) own))
+      (apart_gate y x (living_clash m t x y (backed_lives t a y here.core (head_of here).0) own))
   gate_stays _ x here other dies = refl
 
 dying_unlive : (t : ℕ) → Dying t ≡ Live → ⊥

@@ -19,8 +19,8 @@ module _ {p : Accounts} {n : ℕ} {m : Machine} {t : ℕ} {a : Actor} {rest : Li
       → (actor_by m.layout t a d rest (m.memory (address_of m.layout t a.head d))).lent ≡ Some x
       → (actor_by m.layout t a d rest (m.memory (address_of m.layout t a.head d))).locked ≡ Some x
   lent_after (LockGate y) here x e =
-      absurd (none_some x (sym (head_of here).2 ∙ (here.core.each t a here.found).0.lent x e))
-  lent_after (UnlockGate y) here x e = absurd (none_some x (sym (head_of here).4 ∙ e))
+      absurd (none_some x (sym (head_of here).1 ∙ (here.core.each t a here.found).0.lent x e))
+  lent_after (UnlockGate y) here x e = absurd (none_some x (sym (head_of here).3 ∙ e))
   lent_after (LendSlot y) here x e =
       let fits = head_of here in
       elim (m.memory (Slot y) == FULL) as (λ b. cond b (Some y) a.lent ≡ Some x → a.locked ≡ Some x) [

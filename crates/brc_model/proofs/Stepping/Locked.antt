@@ -26,7 +26,7 @@ use Rattle.brc_model.proofs.Basics.Written.{written_here, written_apart, written
 use Rattle.brc_model.proofs.Basics.Continuation.{Traits, Continuation, GoesOn, Frees, FreesOld, continues}
 use Rattle.brc_model.proofs.Objects.Weights.{IsLight, sum_by-ready}
 use Rattle.brc_model.proofs.Frame.Aside.{lacks_counted, extra_counted, gives_counted, lacks_about}
-use Rattle.brc_model.proofs.Frame.Leaves.{head_of, locked_alive, alive_apart}
+use Rattle.brc_model.proofs.Frame.Leaves.{head_of, locked_lives, live_apart}
 use Rattle.brc_model.proofs.Frame.Lives.{next_of}
 
 -- ---- the references that duties make
@@ -177,17 +177,16 @@ module _ {p : Accounts} {n : ℕ} {m : Machine} {t : ℕ} {a : Actor} {rest : Li
 
   -- The thread still holds the list after `Locks`.
   lock_taken : (x : ℕ) → AtDuty p n m t a (LockGate x) rest → m.memory (Gate x) ≡ free_word
-      → HasLocked (p t) m.layout (machine_by_duty m t a (LockGate x) rest).memory t
+      → HasLocked (p t) (machine_by_duty m t a (LockGate x) rest).memory t
       (actor_by m.layout t a (LockGate x) rest (m.memory (Gate x))) x
   lock_taken x here free =
       let fits = head_of here in
-      let holds = lock_held m t a x fits.2 fits.1 in
+      let holds = lock_held m t a x fits.1 fits.0 in
       let less = makes_less m t a (LockGate x) rest holds.by x (m.memory (Gate x)) here.agenda refl in
       let had = backed_account x here holds in
       let word : cond (m.memory (Gate x) == free_word) (locked_word t) (m.memory (Gate x)) ≡ locked_word t =
       ap (λ (b : Bool). cond b (locked_word t) (m.memory (Gate x))) (eq-eqb (m.memory (Gate x)) free_word free) in
       record {
-        counted = fits.0;
         by = holds.by;
         held_so = omega (arith, less, had);
         gate = written_here m.memory (Gate x) _ ∙ word;
@@ -200,23 +199,22 @@ module _ {p : Accounts} {n : ℕ} {m : Machine} {t : ℕ} {a : Actor} {rest : Li
       → (machine_by_duty m t a d rest).memory (Gate x) ≡ m.memory (Gate x)
   gate_kept (Die y) x here e other =
       written_apart m.memory (Gate y) (Gate x) _
-      (apart_gate y x (alive_apart m t x y (head_of here).1 (locked_alive t a x here.core here.found e)))
+      (apart_gate y x (live_apart m t x y (head_of here).1 (locked_lives t a x here.core here.found e)))
   gate_kept Settle x here e other = written_load m.memory (Gate (a.head - 1)) (Gate x)
   gate_kept (SettleEnd y) x here e other =
       written_apart m.memory (Gate y) (Gate x) _
-      (apart_gate y x (alive_apart m t x y (head_of here).1 (locked_alive t a x here.core here.found e)))
+      (apart_gate y x (live_apart m t x y (head_of here).1 (locked_lives t a x here.core here.found e)))
   gate_kept _ x here e other = cc
 
 module _ {p : Accounts} {n : ℕ} {m : Machine} {t : ℕ} {a : Actor} {d : Duty} {rest : List Duty} where
   -- The thread still holds the list after a step that neither locks nor unlocks.
   still_locked : AtDuty p n m t a d rest → is_locking d ≡ false → (x : ℕ) → a.locked ≡ Some x
-      → HasLocked (p t) m.layout (machine_by_duty m t a d rest).memory t
+      → HasLocked (p t) (machine_by_duty m t a d rest).memory t
       (actor_by m.layout t a d rest (m.memory (address_of m.layout t a.head d))) x
   still_locked here other x e =
       let it = (here.core.each t a here.found).0.locks x e in
       let less = makes_less m t a d rest it.by x (m.memory (address_of m.layout t a.head d)) here.agenda refl in
       record {
-        counted = it.counted;
         by = it.by;
         held_so = omega (arith, less, it.held_so);
         gate = gate_kept d x here e other ∙ it.gate;
@@ -230,13 +228,13 @@ module _ {p : Accounts} {n : ℕ} {m : Machine} {t : ℕ} {a : Actor} {rest : Li
       → LocksFit (p t) (machine_by_duty m t a d rest) t
       (actor_by m.layout t a d rest (m.memory (address_of m.layout t a.head d)))
   locks_after (LockGate y) here x e =
-      let none : a.locked ≡ None = (head_of here).2 in
+      let none : a.locked ≡ None = (head_of here).1 in
       let found = m.memory (Gate y) in
       let after = actor_by m.layout t a (LockGate y) rest found in
       elim (found == free_word) as (λ b. (found == free_word) ≡ b → cond b (Some y) a.locked ≡ Some x
-      → HasLocked (p t) m.layout (machine_by_duty m t a (LockGate y) rest).memory t after x) [
+      → HasLocked (p t) (machine_by_duty m t a (LockGate y) rest).memory t after x) [
         | true ↦ λ free is.
-            subst (λ (z : ℕ). HasLocked (p t) m.layout (machine_by_duty m t a (LockGate y) rest).memory t after z)
+            subst (λ (z : ℕ). HasLocked (p t) (machine_by_duty m t a (LockGate y) rest).memory t after z)
             (some_is y x is) (lock_taken y here (eqb-true found free_word free))
         | false ↦ λ held is. absurd (none_some x (sym none ∙ is))
       ] refl e

@@ -17,7 +17,7 @@ use Rattle.brc_model.specs.RowInvariant.{waits, decides, InOwned, InSwapped, InM
 use Rattle.brc_model.specs.Accounts.{Accounts}
 use Rattle.brc_model.specs.Knowledge.{MayCarry}
 use Rattle.brc_model.proofs.Objects.RowSteps.{shared_merged}
-use Rattle.brc_model.proofs.Frame.Alive.{first_weighs, Alive, alive_born, alive_waiting, alive_deciding}
+use Rattle.brc_model.proofs.Frame.Alive.{first_weighs, Alive, live_born, alive_waiting, alive_deciding}
 use Rattle.brc_model.proofs.Basics.Written.{written_here}
 use Rattle.brc_model.proofs.Frame.Leaves.{head_of, merge_alive}
 use Rattle.brc_model.proofs.Frame.Lives.{leaves_others}
@@ -48,7 +48,7 @@ module _ {p : Accounts} {n : ℕ} {m : Machine} {t : ℕ} {a : Actor} {rest : Li
       (held_same m.abstract.references t (d ∷ rest) (Look x ∷ rest) (λ k o. refl) (λ k o. refl))
       (agenda_here here alive) (λ b status head used locked. (
         head_of here,
-        (leaves_others here).memory.born x (alive_born m x (mark_alive x here)),
+        (leaves_others here).memory.born x (live_born m x (mark_alive x here).life),
       ))
 
   -- The thread fits after `OwnerRuns` and `OwnerExits`.

@@ -27,7 +27,7 @@ use Rattle.brc_model.proofs.Frame.Lives.{next_of}
 use Rattle.brc_model.proofs.Stepping.Behind.{finalised_first, still_behind}
 use Rattle.brc_model.proofs.Objects.RowsAfter.{rows_after}
 use Rattle.brc_model.proofs.Frame.Leaves.{head_of, locked_held, living_clash}
-use Rattle.brc_model.proofs.Frame.Alive.{alive_backed}
+use Rattle.brc_model.proofs.Frame.Alive.{backed_lives}
 use Rattle.brc_model.proofs.Stepping.Own.{HeldStep, holds_step, ready_is, ChainSame, chain_same, ready_first}
 use Rattle.brc_model.proofs.Stepping.FitsAfter.{found_by, bag_by, memory_by, uses_same, NotGone, FitsAfter, life_same}
 use Rattle.brc_model.proofs.Basics.Continuation.{is_inner}
@@ -86,13 +86,11 @@ module _ {p : Accounts} {n : ℕ} {m : Machine} {t : ℕ} {a : Actor} {rest : Li
   pub keeping_gates : (d : Duty) (x : ℕ) → AtDuty p n m t a d rest → is_steady d ≡ true → dies_by (m.life x) t ≡ true
       → memory_by m t a d (Gate x) ≡ m.memory (Gate x)
   keeping_gates (LockGate y) x here kept dies =
-      let fits = head_of here in
       written_apart m.memory (Gate y) (Gate x) _
-      (apart_gate y x (living_clash m t x y (alive_backed t a y here.core fits.0 fits.1) dies))
+      (apart_gate y x (living_clash m t x y (backed_lives t a y here.core (head_of here).0) dies))
   keeping_gates (UnlockGate y) x here kept dies =
-      let fits = head_of here in
       written_apart m.memory (Gate y) (Gate x) _
-      (apart_gate y x (living_clash m t x y (alive_backed t a y here.core fits.0 fits.1) dies))
+      (apart_gate y x (living_clash m t x y (backed_lives t a y here.core (head_of here).0) dies))
   keeping_gates _ x here kept dies = cc
 
 -- A step that makes a row die changes no gate.

@@ -134,6 +134,6 @@ module _ {p : Accounts} {n : ℕ} {m : Machine} {t : ℕ} {a : Actor} {rest : Li
       let next = (head_of here).0 in
       (blanks_here here).slots x (next_block m t a x next) (next_unused m t a x next) refl
   overwritten (BirthLocal x h) here = next_local x here (head_of here).0
-  overwritten (UnlockGate x) here = ((here.core.each t a here.found).0.locks x (head_of here).2).gate
+  overwritten (UnlockGate x) here = ((here.core.each t a here.found).0.locks x (head_of here).1).gate
   overwritten (ReturnSlot x) here = returning_finds p n m t a x rest here
   overwritten _ here = tt

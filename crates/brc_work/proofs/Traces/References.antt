@@ -1,4 +1,4 @@
--- `none`, `newref`, `move` and `drop`; and calls of functions, with the instructions that end one.
+-- `none`, `take`, `newref`, `move` and `drop`; and calls of functions, with the instructions that end one.
 use Rattle.std.proofs.Common.{◌≡◌, ℕ, suc, ◌+◌, Bool, true, cond, List, [], ◌∷◌, length, Option, None, Some, refl, sym, ap, ◌∙◌, subst}
 use Rattle.std.specs.Prelude.{is_some, slice_set}
 use Rattle.std.specs.List.{list_all}
@@ -7,7 +7,7 @@ use Rattle.brc_lang.specs.declared.module.Instr.{Instr}
 use Rattle.brc_lang.specs.declared.module.Instr.TheVariants as instructions
 use Rattle.brc_lang.specs.declared.parameter.Argument.{Argument}
 use Rattle.brc_model.specs.Actions.{Stuck, Silent, Does, always, with_row, by_variable, depth_of, argument_rows, passed_variables, handed_rows, callee_context, waiting_context, ret_action}
-use Rattle.brc_model.specs.Layout.{none_row}
+use Rattle.brc_model.specs.Layout.{none_row, first_immortal_list}
 use Rattle.brc_model.specs.Moves.{gain, pass_on}
 use Rattle.brc_model.specs.Threads.{row_of}
 use Rattle.brc_model.specs.declared.actor.Context.{Context}
@@ -41,6 +41,15 @@ makes_none to rows after_rows v named = λ program place context at before.
     let moves = gain v.thread (by_variable context to) none_row in
     begins_one before (goes_silently program place v (InCall context (at + 1) after_rows) moves
     (begins (instructions.NoneObject to) program place context at rows before v.layout v.thread v.actor.used
+    ∙ ap (λ (rs : List (Option ℕ)). Silent moves (InCall context (at + 1) rs)) (sym named)))
+
+pub makes_take : (to list : ℕ) (rows after_rows : List (Option ℕ)) (v : View)
+    → after_rows ≡ slice_set rows to (Some (first_immortal_list v.layout + list))
+    → Performs [] (instructions.Take to list) Success rows v after_rows v
+makes_take to list rows after_rows v named = λ program place context at before.
+    let moves = gain v.thread (by_variable context to) (first_immortal_list v.layout + list) in
+    begins_one before (goes_silently program place v (InCall context (at + 1) after_rows) moves
+    (begins (instructions.Take to list) program place context at rows before v.layout v.thread v.actor.used
     ∙ ap (λ (rs : List (Option ℕ)). Silent moves (InCall context (at + 1) rs)) (sym named)))
 
 pub makes_newref : (to from row word found : ℕ) (rows after_rows : List (Option ℕ)) (v u : View) → v.actor.agenda ≡ []

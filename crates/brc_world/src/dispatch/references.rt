@@ -10,9 +10,9 @@ ghost use Rattle.brc_world.specs.Starts.{action_at, CanDispatch, HasDispatched};
 
 use crate::dispatch::Start;
 use crate::thread::Thread;
-use brc_effect::rows::NONE_ROW;
+use brc_effect::rows::{NONE_ROW, immortal_list};
 use brc_lang::Variable;
-use brc_model::Duty;
+use brc_model::{Duty, Layout};
 
 /// Begins `none`: the variable names the object none.
 #[inline(always)]
@@ -23,6 +23,26 @@ pub(super) fn name_none(to: Variable, thread: &mut Thread, left: u32, start: &mu
 {
     let next = thread.at + 1;
     thread.set(to, Some(NONE_ROW));
+    thread.go_to(left, next);
+    *start = Start::Moved;
+}
+
+/// Begins `take`: the variable names the immortal list of the static line with this number. Nothing is counted.
+#[inline(always)]
+pub(super) fn take_list(
+    to: Variable,
+    list: u8,
+    layout: Layout,
+    thread: &mut Thread,
+    left: u32,
+    start: &mut Start,
+)
+    requires { CanDispatch thread.old }
+    ensures { (t : ℕ) → HasDispatched thread.old (action_at layout t left (Some (instructions.Take to list)) thread.old)
+        start.new thread.new }
+{
+    let next = thread.at + 1;
+    thread.set(to, Some(immortal_list(layout, list)));
     thread.go_to(left, next);
     *start = Start::Moved;
 }

@@ -1,9 +1,7 @@
-use Rattle.std.proofs.Common.{ℕ, refl, subst}
+use Rattle.std.proofs.Common.{ℕ, subst}
 use Rattle.brc_model.specs.declared.layout.Layout.{Layout}
-use Rattle.brc_model.specs.Counting.{IsPlainLayout}
 use Rattle.brc_model.specs.Layout.{root_row, IsCounted}
-use Rattle.brc_table.specs.Hands.{TableState}
-use Rattle.brc_bench.proofs.AtRest.{some_counted}
+use Rattle.brc_model.proofs.Basics.Blocks.{root_counted}
 use Rattle.brc_bench.proofs.FirstSwaps.{rests_after_birth, both_born, holds_list, holds_root, born_without, born_with}
 use Rattle.brc_bench.proofs.threads.worker_for.Goals.{in-Pairs, in-Swaps, in-SwapsAtRoot, in_default}
 use Rattle.brc_bench.proofs.threads.worker_for.Goals as goal
@@ -15,8 +13,7 @@ invariant_of-result c =
     let first = c.in_ok-hand.ensures.worker in
     let second = rests_after_birth c.birth-list.new.hand first c.birth-list.ensures.table c.birth-list.ensures.born in
     let rest = rests_after_birth c.birth-item.new.hand second c.birth-item.ensures.table c.birth-item.ensures.born in
-    let plain = subst (λ (w : TableState). IsPlainLayout w.layout) c.words.ensures c.layout_is_plain.ensures in
-    let root = some_counted {layout = c.args.heap.now.layout} root_row plain refl in
+    let root = root_counted c.args.heap.now.layout in
     let counted = subst (λ (l : Layout). IsCounted l list) first.table.1 c.birth-list.ensures.counted in
     let item_counted = subst (λ (l : Layout). IsCounted l item) second.table.1 c.birth-item.ensures.counted in
     let references =

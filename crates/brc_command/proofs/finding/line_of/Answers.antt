@@ -19,7 +19,18 @@ overflow_add-above c =
     let few = few_lines m r c.in_ok-number.number c.requires.fits c.requires.refusal found in
     let same = c.instruction_count.ensures
     ∙ ap (λ (fs : List Function). instruction_count (take c.in_ok-number.number fs)) c.as_slice-functions.ensures in
-    omega (arith, few, same)
+    omega (arith, few, same, c.len-top.ensures)
+
+pub overflow_add-above-2 : goal.overflow_add-above-2
+overflow_add-above-2 c =
+    let m = c.args.module.now in
+    let r = c.args.refused.now in
+    let found = sym (looked_up is_named m r.function _ _ _ c.as_slice-functions.ensures c.as_bytes.ensures.value
+    c.number_of.ensures) ∙ c.in_ok-number.was in
+    let few = few_lines m r c.in_ok-number.number c.requires.fits c.requires.refusal found in
+    let same = c.instruction_count.ensures
+    ∙ ap (λ (fs : List Function). instruction_count (take c.in_ok-number.number fs)) c.as_slice-functions.ensures in
+    omega (arith, few, same, c.len-top.ensures)
 
 pub overflow_add-result : goal.overflow_add-result
 overflow_add-result c =
@@ -30,7 +41,7 @@ overflow_add-result c =
     let few = few_lines m r c.in_ok-number.number c.requires.fits c.requires.refusal found in
     let same = c.instruction_count.ensures
     ∙ ap (λ (fs : List Function). instruction_count (take c.in_ok-number.number fs)) c.as_slice-functions.ensures in
-    omega (arith, few, same)
+    omega (arith, few, same, c.len-top.ensures)
 
 pub overflow_add-result-2 : goal.overflow_add-result-2
 overflow_add-result-2 c =
@@ -41,4 +52,4 @@ overflow_add-result-2 c =
     let few = few_lines m r c.in_ok-number.number c.requires.fits c.requires.refusal found in
     let same = c.instruction_count.ensures
     ∙ ap (λ (fs : List Function). instruction_count (take c.in_ok-number.number fs)) c.as_slice-functions.ensures in
-    omega (arith, few, same)
+    omega (arith, few, same, c.len-top.ensures)

@@ -5,5 +5,5 @@ use Rattle.brc_lang.proofs.instruction.instruction.Goals as goal
 pub returns-in-None : goal.returns-in-None
 returns-in-None c =
     let above = c.args.above.now in
-    c.lone_word.ensures above.version above.functions
-    ∙ ap (instruction_in above.version above.functions) (sym (rw c.in-None.is at c.split_word.ensures))
+    c.lone_word.ensures above.version above.statics above.functions
+    ∙ ap (instruction_in above.version above.statics above.functions) (sym (rw c.in-None.is at c.split_word.ensures))

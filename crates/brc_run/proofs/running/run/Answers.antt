@@ -3,6 +3,8 @@ use Rattle.std.proofs.Common.{rules, arith, Ok, Err, IfOk, OnOk, sym, ap, ◌∙
 use Rattle.std.proofs.lemmas.List.{length-map}
 use Rattle.brc_host.specs.HostCalls.{close_faults}
 use Rattle.brc_host.specs.HostCounts.{raised}
+use Rattle.brc_lang.specs.declared.module.Module.{Module}
+use Rattle.brc_model.specs.StepMachine.{layout_of}
 use Rattle.brc_report.specs.declared.tally.Tally.{Tally}
 use Rattle.brc_table.specs.Hands.{HandState}
 use Rattle.brc_table.specs.Views.{HasJoined}
@@ -28,7 +30,13 @@ returns-clause-tally g c = elim c.match-ran.branch [
       let counted = c.left-failed.ensures.counted in
       let len : length (vec_items gone) ≡ vec_len gone = search rules in
       let end = c.finished-end.result in
-      let layout = c.finished-end.ensures.layout ∙ c.in_ok-heap.ensures.layout in
+      let m = c.args.checked.now.module in
+      let opened : c.in_ok-heap.heap.layout ≡ layout_of m c.args.plan.threads c.args.plan.rows =
+      c.in_ok-heap.ensures.layout
+      ∙ ap (λ (p : Module). layout_of p c.args.plan.threads c.args.plan.rows) c.module.ensures.value in
+      let lines : c.in_ok-heap.heap.lines ≡ m.statics =
+      c.in_ok-heap.ensures.lines ∙ ap (λ (p : Module). p.statics) c.module.ensures.value in
+      let layout = c.finished-end.ensures.layout ∙ opened in
       let ok : w.joined-counted.result ≡ Ok c.in_ok-totals.totals = sym w.counted-is ∙ c.in_ok-totals.was in
       let items : vec_items c.in_ok-totals.totals ≡ totals_in (vec_items gone) =
       subst (λ r. IfOk r (λ totals. vec_items totals ≡ totals_in (vec_items gone))) ok w.joined-counted.ensures.totals
@@ -49,7 +57,8 @@ returns-clause-tally g c = elim c.match-ran.branch [
         host = counted.5;
         counted = record {
           heap = c.in_ok-heap.heap;
-          same = c.in_ok-heap.ensures.layout;
+          same = opened;
+          lines = lines;
           gone = vec_items gone;
           end = end;
           one_each = search (rules, as_many);
@@ -60,9 +69,10 @@ returns-clause-tally g c = elim c.match-ran.branch [
           counted = tally;
           created =
               ap (λ (t : Tally). t.created) tally
-              ∙ created_by_all end c.args.plan.threads c.args.plan.rows layout (totals_in (vec_items gone))
+              ∙ created_by_all m end c.args.plan.threads c.args.plan.rows layout
+              c.finished-end.ensures.ended (totals_in (vec_items gone))
               (length-map (vec_items gone) (λ (v : HandState × Ran). totals_of v.1) ∙ (len ∙ as_many))
-              c.finished-end.ensures.root (λ k d low. used_by_all end c.match-ran.main.view.joined
+              (λ k d low. used_by_all end c.match-ran.main.view.joined
               c.finished-end.ensures.joined (vec_items gone)
               (λ i v below. subst (λ (u : HandState). let hand = (get_or (vec_items gone) i v).0 in
               HasJoined u.view (record { thread = hand.view.thread; used = hand.view.actor.used })) (sym w.main-is)

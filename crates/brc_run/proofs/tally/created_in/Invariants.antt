@@ -1,6 +1,6 @@
 use Rattle.std.proofs.Common.{◌≡◌, ◌≤◌}
 use Rattle.std.specs.Prelude.{count_by}
-use Rattle.brc_heap.specs.Ends.{was_born}
+use Rattle.brc_run.specs.Tallies.{is_created}
 use Rattle.brc_run.proofs.Rows.{rows_below}
 use Rattle.brc_run.proofs.tally.created_in.Given as goal
 
@@ -8,5 +8,5 @@ use Rattle.brc_run.proofs.tally.created_in.Given as goal
 abbrev pub invariant-loop-row : goal.invariant-loop-row
 invariant-loop-row g l = record {
   first : 1 ≤ l.row;
-  counted : l.created ≡ count_by (was_born l.fn.end) (rows_below l.row);
+  counted : l.created ≡ count_by (is_created l.fn.end) (rows_below l.row);
 }

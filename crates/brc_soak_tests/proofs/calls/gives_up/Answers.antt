@@ -1,6 +1,5 @@
 use Rattle.std.proofs.Common.{ℕ, List, [], ◌∙◌, subst, arith}
 use Rattle.std.proofs.lemmas.Bool.{ne_eqb}
-use Rattle.brc_model.specs.Counting.{IsPlainLayout}
 use Rattle.brc_table.specs.Hands.{TableState, IsOf}
 use Rattle.brc_table.specs.Views.{without_one}
 use Rattle.brc_soak_tests.proofs.Resting.{some_counted, rests_after_release, settles_at_rest, rests_after_settling, lists_one_less}
@@ -31,8 +30,8 @@ returns-clause-tells g c =
     let settles = c.settle.ensures.work [] (settles_at_rest released) in
     let rows : List ℕ = c.args.hand.now.view.references in
     let row : ℕ = c.args.row in
-    let plain = subst (λ (w : TableState). IsPlainLayout w.layout) c.words.ensures c.layout_is_plain.ensures in
-    let counted = some_counted {layout = c.args.heap.now.layout} row plain (ne_eqb row 0 c.if-row-eq0.false) in
+    let none = c.requires.resting.no_lists in
+    let counted = some_counted c.args.heap.now.layout row none (ne_eqb row 0 c.if-row-eq0.false) in
     tells_equal c.less.new.self (without_one row rows) c.settle.new.hand.view.references
     (tells_less c.args.ledger.now c.less.new.self rows row c.requires.tells (omega (
       arith,

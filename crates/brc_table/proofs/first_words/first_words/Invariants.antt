@@ -1,17 +1,15 @@
-use Rattle.std.proofs.Common.{◌≡◌, ℕ, ◌+◌, ◌*◌, ◌<◌, ◌≤◌, length}
-use Rattle.std.specs.Prelude.{slice_index}
-use Rattle.brc_table.specs.Opening.{first_word}
-use Rattle.brc_table.specs.Places.{front, tile}
+use Rattle.std.proofs.Common.{◌≡◌, ◌+◌, length}
+use Rattle.brc_model.specs.FirstRows.{start}
+use Rattle.brc_model.specs.Layout.{first_immortal_list, first_number}
+use Rattle.brc_table.specs.Opening.{AreWordsOf, plain_memory, with_lists}
+use Rattle.brc_table.specs.Places.{word_count}
 use Rattle.brc_table.proofs.first_words.first_words.Given as goal
 
-abbrev pub invariant-loop-index : goal.invariant-loop-index
-invariant-loop-index l =
-    (length l.words.items ≡ l.index)
-    × ((k : ℕ) → k < l.index → slice_index l.words.items k ≡ first_word k)
-
--- All words of the tiles before this one are there, or those of all tiles, if there are fewer.
-abbrev pub invariant-loop-tile : goal.invariant-loop-tile
-invariant-loop-tile l =
-    (l._tile ≤ l.tiles → length l.words.items ≡ front + tile * l._tile)
-    × (l.tiles ≤ l._tile → length l.words.items ≡ front + tile * l.tiles)
-    × ((k : ℕ) → k < length l.words.items → slice_index l.words.items k ≡ first_word k)
+-- Each line so far is an immortal list, and the next one's rows are the next ones.
+abbrev pub invariant-loop-line : goal.invariant-loop-line
+invariant-loop-line l = record {
+  long : length l.words.items ≡ word_count l.fn.layout;
+  words : AreWordsOf l.fn.layout l.words.items (with_lists plain_memory l.lines l.fn.layout l.line-index);
+  list : l.list ≡ first_immortal_list l.fn.layout + l.line-index;
+  number : l.number ≡ first_number l.fn.layout + start l.lines l.line-index;
+}

@@ -5,6 +5,9 @@ use Rattle.brc_world.proofs.dispatch.begin.Goals as goal
 pub returns-in-NoneObject : goal.returns-in-NoneObject
 returns-in-NoneObject c = rw c.in-NoneObject.is (c.name_none.ensures c.args.layout c.args.number)
 
+pub returns-in-Take : goal.returns-in-Take
+returns-in-Take c = rw c.in-Take.is (c.take_list.ensures c.args.number)
+
 pub returns-in-Newref : goal.returns-in-Newref
 returns-in-Newref c = rw c.in-Newref.is (c.name_again.ensures c.args.layout c.args.number)
 

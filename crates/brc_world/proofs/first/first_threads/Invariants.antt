@@ -4,4 +4,5 @@ use Rattle.brc_world.specs.Actors.{actor_of}
 use Rattle.brc_world.proofs.first.first_threads.Given as goal
 
 abbrev pub invariant-loop-call : goal.invariant-loop-call
-invariant-loop-call l = map actor_of l.threads.items ≡ main_actor ∷ map worker_actor (take l.call-index l.calls)
+invariant-loop-call l =
+    map actor_of l.threads.items ≡ main_actor l.fn.layout ∷ map worker_actor (take l.call-index l.calls)

@@ -1,7 +1,5 @@
-use Rattle.std.proofs.Common.{◌≡◌, sym, ap, ◌∙◌, subst}
-use Rattle.brc_model.specs.declared.layout.Layout.{Layout}
+use Rattle.std.proofs.Common.{sym, subst}
 use Rattle.brc_model.specs.Layout.{IsCounted}
-use Rattle.brc_table.specs.Hands.{TableState}
 use Rattle.brc_heap.specs.Calls.{HasBorn}
 use Rattle.brc_heap.proofs.Bearing.{has_born}
 use Rattle.brc_heap.proofs.OwnRows.{next_is_counted}
@@ -16,7 +14,4 @@ pub returns-clause-counted : goal.returns-clause-counted
 returns-clause-counted g c =
     let v = c.args.hand.now.view in
     subst (IsCounted v.layout) (sym c.birth_steps.ensures.row)
-    (next_is_counted v c.rows_are_there.ensures
-    (subst (λ (l : Layout). l.immortal_lists ≡ 0)
-    (ap (λ (w : TableState). w.layout) c.words.ensures ∙ sym c.requires.table.1) c.layout_is_plain.ensures.immortals)
-    c.requires.room)
+    (next_is_counted v c.rows_are_there.ensures c.requires.room)

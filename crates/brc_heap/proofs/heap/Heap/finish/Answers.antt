@@ -8,7 +8,7 @@ use Rattle.brc_table.specs.declared.view.View.{View}
 use Rattle.brc_table.specs.Views.{IsJoined}
 use Rattle.brc_table.specs.Joining.{RowsAreUsed}
 use Rattle.brc_table.specs.Hands.{TableState}
-use Rattle.brc_table.specs.Ending.{HaveEnded, EndsWith, SeesEnd}
+use Rattle.brc_table.specs.Ending.{HaveEnded, EndsWith, SeesEnd, plan_at}
 use Rattle.brc_heap.specs.Ends.{AllEnded}
 use Rattle.brc_heap.proofs.Looks.{looked_more}
 use Rattle.brc_heap.proofs.heap.Heap.finish.Goals as goal
@@ -110,9 +110,10 @@ returns-clause-ended g c =
     record {
       threads = ended;
       rows = λ x counted there.
-          c.rows_end_in_every_table.ensures end.layout end.words ends.views x ends.stands ended counted there;
+          c.rows_end_in_every_table.ensures (plan_at end) end.words ends.views x ends.stands ended counted there;
       slots = λ x counted there.
           c.slots_end_in_every_table.ensures c.loop-thread.main.view end x ends ended counted there;
+      first = λ x some there. c.first_kinds_stay.ensures c.loop-thread.main.view end x ends some there;
     }
 
 pub returns-clause-closed : goal.returns-clause-closed
@@ -141,5 +142,5 @@ returns-clause-joined g c =
     let ends = c.close.ensures.ends in
     let kept = c.loop-thread.invariant in
     subst (λ (v : View). All (RowsAreUsed end.layout end.words) v.joined) kept.looked
-    (c.joined_hands_are_gone.ensures.used end.layout end.words ends.views ends.id c.loop-thread.main.view ends.stands
+    (c.joined_hands_are_gone.ensures.used (plan_at end) end.words ends.views ends.id c.loop-thread.main.view ends.stands
     ends.here)

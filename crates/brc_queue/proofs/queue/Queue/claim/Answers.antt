@@ -1,4 +1,4 @@
-use Rattle.std.proofs.Common.{◌≡◌, ℕ, ◌+◌, false, [], refl, sym, ap, ◌∙◌, subst}
+use Rattle.std.proofs.Common.{◌≡◌, ℕ, false, [], refl, sym, ap, ◌∙◌, subst}
 use Rattle.std.specs.Prelude.{◌==◌}
 use Rattle.std.proofs.lemmas.Bool.{ne_eqb}
 use Rattle.brc_host.specs.HostCalls.{NoCall}
@@ -12,36 +12,24 @@ use Rattle.brc_table.specs.Views.{view_after, claiming}
 use Rattle.brc_free.specs.Works.{HasWorked}
 use Rattle.brc_heap.proofs.Keeping.{keeps_then}
 use Rattle.brc_free.proofs.Working.{worked_first}
-use Rattle.brc_queue.proofs.Scanning.{claim_none, claim_keeps, row_of_block}
+use Rattle.brc_queue.proofs.Scanning.{claim_none, claim_keeps}
 use Rattle.brc_queue.proofs.queue.Queue.claim.Given as given
-use Rattle.brc_queue.proofs.queue.Queue.claim.Goals.{After-own_row-there, After-mark}
+use Rattle.brc_queue.proofs.queue.Queue.claim.Goals.{After-mark}
 use Rattle.brc_queue.proofs.queue.Queue.claim.Goals as goal
 
--- The sum is the row with the index.
-is_own : (g : given.Over) (c : After-own_row-there g)
-    → row_at c.args.hand.now.view.layout c.args.hand.now.view.thread c.args.index ≡ c.args.first + c.args.index
-is_own g c =
-    let v = c.args.hand.now.view in
-    let same = ap (λ (t : TableState). t.layout) (c.words-words.ensures ∙ c.requires.same) in
-    let none = subst (λ (l : Layout). l.immortal_lists ≡ 0) (same ∙ sym c.requires.table.1)
-    c.layout_is_plain.ensures.immortals in
-    row_of_block v c.args.index c.args.first c.rows_are_there.ensures none c.requires.used c.requires.first
-
--- Its mark is what was found there.
-mark_is : (g : given.Over) (c : After-mark g)
-    → row_at c.args.hand.now.view.layout c.args.hand.now.view.thread c.args.index ≡ c.args.first + c.args.index
-    → c.mark.result ≡ mark_found c.args.hand.now.view
+-- The row's mark is what was found there.
+mark_is : (g : given.Over) (c : After-mark g) → c.mark.result ≡ mark_found c.args.hand.now.view
     (row_at c.args.hand.now.view.layout c.args.hand.now.view.thread c.args.index) c.mark_claim-found.result
-mark_is g c own =
+mark_is g c =
     let v = c.args.hand.now.view in
     let same = ap (λ (t : TableState). t.layout) (c.words-words.ensures ∙ c.requires.same) ∙ sym c.requires.table.1 in
     c.mark.ensures
-    ∙ ap (λ (l : Layout). mark_at c.mark_claim-found.result (mark_bit l (c.args.first + c.args.index))) same
-    ∙ ap (λ (x : ℕ). mark_at c.mark_claim-found.result (mark_bit v.layout x)) (sym own)
+    ∙ ap (λ (l : Layout). mark_at c.mark_claim-found.result (mark_bit l c.row_of_block-row.result)) same
+    ∙ ap (λ (x : ℕ). mark_at c.mark_claim-found.result (mark_bit v.layout x)) c.row_of_block-row.ensures.row
 
 pub returns-then-mark-ne-SET-clause-keeps : goal.returns-then-mark-ne-SET-clause-keeps
 returns-then-mark-ne-SET-clause-keeps g c =
-    claim_keeps c.args.hand.now.view c.mark_claim-found.new.hand.view (c.args.first + c.args.index)
+    claim_keeps c.args.hand.now.view c.mark_claim-found.new.hand.view c.row_of_block-row.result
     c.mark_claim-found.result c.mark_claim-found.ensures.view
 
 pub returns-clause-keeps : goal.returns-clause-keeps
@@ -49,7 +37,7 @@ returns-clause-keeps g c =
     let v = c.args.hand.now.view in
     let u = c.mark_claim-found.new.hand.view in
     keeps_then
-    (claim_keeps v u (c.args.first + c.args.index) c.mark_claim-found.result c.mark_claim-found.ensures.view)
+    (claim_keeps v u c.row_of_block-row.result c.mark_claim-found.result c.mark_claim-found.ensures.view)
     c.merge_claimed.ensures.work.1.keeps
 
 pub returns-then-mark-ne-SET-clause-work : goal.returns-then-mark-ne-SET-clause-work
@@ -59,11 +47,11 @@ returns-then-mark-ne-SET-clause-work g c =
     let found = c.mark_claim-found.result in
     let at = goal.at.returns-then-mark-ne-SET-clause-work g c in
     let x = row_at v.layout v.thread c.args.index in
-    let row_is : c.args.first + c.args.index ≡ x = sym (is_own g at.After-own_row-there) in
+    let row_is : c.row_of_block-row.result ≡ x = c.row_of_block-row.ensures.row in
     let is : w ≡ view_after (claiming v x) found =
     c.mark_claim-found.ensures.view ∙ ap (λ (y : ℕ). view_after (claiming v y) found) row_is in
     let none : (mark_found v x found == 1) ≡ false =
-    ap (λ (k : ℕ). k == 1) (sym (mark_is g at.After-mark (is_own g at.After-own_row-there)))
+    ap (λ (k : ℕ). k == 1) (sym (mark_is g at.After-mark))
     ∙ ne_eqb c.mark.result 1 c.if-mark-ne-SET.true in (
       [],
       record {

@@ -27,7 +27,8 @@ settled g c = let work = c.settle-failed.ensures.work [] (comes g c) in (work.0,
 -- So it may leave.
 may : (g : given.Over) (c : After-settle-failed g) → MayLeave c.settle-failed.new.hand.view
 may g c =
-    may_leave c.requires.free c.requires.root c.release.ensures.released (settled g c).1 c.settle-failed.ensures.chain
+    may_leave c.requires.free c.requires.root c.requires.unlocked c.release.ensures.released (settled g c).1
+    c.settle-failed.ensures.chain
 
 -- It overwrites the word that it is leaving.
 says_gone : (g : given.Over) (c : After-step g)

@@ -1,6 +1,7 @@
 use Rattle.std.proofs.Common.{◌<◌, refl, subst}
 use Rattle.brc_model.specs.declared.layout.Layout.{Layout}
 use Rattle.brc_model.specs.Layout.{row_count}
+use Rattle.brc_table.specs.Hands.{plan_of}
 use Rattle.brc_table.proofs.Locking.{loading_becomes, known_low}
 use Rattle.brc_table.proofs.CellGuards.{change_there, load_changes}
 use Rattle.brc_table.proofs.Duties.{runs_on}
@@ -9,7 +10,7 @@ use Rattle.brc_table.proofs.words.Words.cell_load.Goals as goal
 pub step_from-requires-clause-begins : goal.step_from-requires-clause-begins
 step_from-requires-clause-begins g c =
     loading_becomes c.work_is_put_aside.ensures c.cell_loads_begin.ensures c.immortals_are_free.ensures
-    c.args.self.now.layout c.args.hand.now.view c.args.row c.args.cell c.requires.running c.requires.idle
+    (plan_of c.args.self.now) c.args.hand.now.view c.args.row c.args.cell c.requires.running c.requires.idle
     c.requires.loads c.requires.knows
 
 pub step_from-requires-clause-there : goal.step_from-requires-clause-there

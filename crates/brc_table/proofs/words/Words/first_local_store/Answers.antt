@@ -2,6 +2,7 @@ use Rattle.std.proofs.Common.{◌<◌, refl, subst}
 use Rattle.brc_model.specs.declared.layout.Layout.{Layout}
 use Rattle.brc_model.specs.Layout.{row_count}
 use Rattle.brc_model.specs.Duties.{resources_of}
+use Rattle.brc_table.specs.Hands.{plan_of}
 use Rattle.brc_table.proofs.Duties.{own_next, own_due, owns_first_there}
 use Rattle.brc_table.proofs.Silent.{filled_becomes, filled_alive}
 use Rattle.brc_table.proofs.SlotLists.{taken_once}
@@ -10,7 +11,7 @@ use Rattle.brc_table.proofs.words.Words.first_local_store.Goals as goal
 pub step_from-requires-clause-begins : goal.step_from-requires-clause-begins
 step_from-requires-clause-begins g c =
     let v = c.args.hand.now.view in
-    filled_becomes c.duties_are_kept.ensures c.needed_slots_are_unlocked.ensures c.args.self.now.layout c.args.row v
+    filled_becomes c.duties_are_kept.ensures c.needed_slots_are_unlocked.ensures (plan_of c.args.self.now) c.args.row v
     v.actor.agenda refl c.requires.duty c.requires.alive
     (taken_once c.args.hand.now c.args.row (resources_of c.requires.slot.word) c.slots_are_taken.ensures
     c.requires.slot.first)

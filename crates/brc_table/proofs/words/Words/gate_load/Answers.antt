@@ -1,12 +1,13 @@
 use Rattle.std.proofs.Common.{arith}
 use Rattle.brc_model.specs.Layout.{row_count}
 use Rattle.std.proofs.Common.{ap}
+use Rattle.brc_table.specs.Hands.{plan_of}
 use Rattle.brc_table.proofs.DyingDuties.{settling_becomes, settles_next, settles_alive}
 use Rattle.brc_table.proofs.words.Words.gate_load.Goals as goal
 
 pub step_from-requires-clause-begins : goal.step_from-requires-clause-begins
 step_from-requires-clause-begins g c =
-    settling_becomes c.settles_begin.ensures c.args.self.now.layout c.args.hand.now.view c.requires.settles
+    settling_becomes c.settles_begin.ensures (plan_of c.args.self.now) c.args.hand.now.view c.requires.settles
     c.requires.chain
 
 pub step_from-requires-clause-alive : goal.step_from-requires-clause-alive

@@ -76,7 +76,8 @@ invariant_of-result g c =
     let view_is = ap (λ (h : HandState). h.view) c.main.view_is in
     let may = subst (λ (v : View). MayGive v c.args.thread) (sym view_is) c.requires.may_give in
     worker_fits main.layout c.args.thread c.new.result.items c.take_spare-spare.result.carried.value
-    c.split_seat-seat.result.me may.some_worker may.known_worker c.new.ensures.items c.take_spare-spare.result.nothing
+    c.split_seat-seat.result.me c.main.invariant.5.few may.some_worker may.known_worker c.new.ensures.items
+    c.take_spare-spare.result.nothing
     (c.split_seat-seat.ensures.4 ∙ ap (λ (k : ℕ). (worker_view main.layout k, [])) (sym c.requires.number))
 
 -- It carries nothing.

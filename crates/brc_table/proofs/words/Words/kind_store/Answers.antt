@@ -3,7 +3,7 @@ use Rattle.std.proofs.lemmas.Bool.{ltb-true}
 use Rattle.brc_model.specs.declared.layout.Layout.{Layout}
 use Rattle.brc_table.specs.Accesses.{row_of}
 use Rattle.brc_model.specs.Layout.{block_size, row_at, row_count}
-use Rattle.brc_table.specs.Hands.{HandState, TableState}
+use Rattle.brc_table.specs.Hands.{HandState, TableState, plan_of}
 use Rattle.brc_table.specs.Views.{next_row}
 use Rattle.brc_model.specs.declared.duty.Duty.TheVariants.{BirthKind}
 use Rattle.brc_model.specs.declared.duty.Holding.TheVariants.{AsCaller}
@@ -14,7 +14,7 @@ use Rattle.brc_table.proofs.words.Words.kind_store.Goals as goal
 
 pub step_from-requires-clause-begins : goal.step_from-requires-clause-begins
 step_from-requires-clause-begins g c =
-    bearing_becomes c.work_is_put_aside.ensures c.births_begin.ensures c.args.self.now.layout c.args.hand.now.view
+    bearing_becomes c.work_is_put_aside.ensures c.births_begin.ensures (plan_of c.args.self.now) c.args.hand.now.view
     c.args.word c.requires.running c.requires.worker c.requires.room c.requires.kind c.requires.cells
 
 pub step_from-requires-clause-alive : goal.step_from-requires-clause-alive
@@ -44,5 +44,4 @@ step_from-requires-clause-there g c =
     subst (λ (x : ℕ). x < row_count c.args.self.now.layout) row_is
     (subst (λ (l : Layout). next_row v < row_count l) c.requires.table.1
     (low_row v.layout v.thread v.actor.used c.rows_are_there.ensures.thread
-    (subst (λ (l : Layout). l.immortal_lists ≡ 0) (sym c.requires.table.1) c.layout_is_plain.ensures.immortals)
     (ltb-true v.actor.used (block_size v.layout v.thread) c.requires.room)))

@@ -1,6 +1,5 @@
 use Rattle.std.proofs.Common.{◌≡◌, ℕ, ◌<◌, None, refl, arith, ap, sym, ◌∙◌, subst}
 use Rattle.brc_word.specs.Words.{locked_word}
-use Rattle.brc_model.specs.Layout.{IsCounted}
 use Rattle.brc_table.specs.declared.view.View.{View}
 use Rattle.brc_table.specs.Hands.{TableState, HandState, IsRunning, HasNoWork, HoldsOne}
 use Rattle.brc_table.specs.Places.{word_count, in_tile}
@@ -26,7 +25,7 @@ compare_exchange-requires g c =
           (sym (c.self.invariant.1 ∙ ap word_count layout_is)) there),
       lock_allowed c.model_laws.ensures c.work_is_put_aside.ensures c.locks_begin.ensures
           c.immortals_are_free.ensures shared.key me.0 x c.args.gate
-          (here (λ v y. IsRunning v) c.requires.running) (here (λ v y. IsCounted v.layout y) c.requires.counted)
+          (here (λ v y. IsRunning v) c.requires.running)
           (here HasNoWork c.requires.idle) (here HoldsOne c.requires.held)
           (here (λ v y. v.actor.locked ≡ None) c.requires.unlocked)
           (here (λ v y. c.args.gate ≡ locked_word v.thread) c.requires.gate) shared.table_id.slots hand.seat.id

@@ -1,13 +1,15 @@
 use Rattle.std.proofs.Common.{◌<◌, ◌+◌, refl, subst, arith}
 use Rattle.brc_model.specs.declared.layout.Layout.{Layout}
 use Rattle.brc_model.specs.Layout.{mark_words_of}
+use Rattle.brc_table.specs.Hands.{plan_of}
 use Rattle.brc_table.proofs.Duties.{runs_on}
 use Rattle.brc_table.proofs.ExitDuties.{loading_becomes}
 use Rattle.brc_table.proofs.words.Words.marks_load.Goals as goal
 
 pub step_from-requires-clause-begins : goal.step_from-requires-clause-begins
 step_from-requires-clause-begins g c =
-    loading_becomes c.mark_loads_begin.ensures c.args.self.now.layout c.args.hand.now.view c.args.word c.requires.free
+    loading_becomes c.mark_loads_begin.ensures (plan_of c.args.self.now) c.args.hand.now.view c.args.word
+    c.requires.free
     c.requires.there
 
 pub step_from-requires-clause-alive : goal.step_from-requires-clause-alive

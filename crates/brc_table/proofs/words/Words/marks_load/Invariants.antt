@@ -10,4 +10,4 @@ word_of (MarksLoad w) = w
 word_of _ = 0
 
 abbrev pub ghosts-step_from : goal.ghosts-step_from
-ghosts-step_from g a = record { begins = λ v. loading_marks v (word_of a.duty.now) }
+ghosts-step_from g a = record { begins = λ v. loading_marks v (word_of a.duty.now); lines = a.self.now.lines }

@@ -30,7 +30,7 @@ returns-clause-there g c =
     let layout = c.args.self.now.layout in
     let within = in_block v layout c.args.index c.requires.table.1 c.rows_are_there.ensures c.requires.used in
     subst (λ (x : ℕ). x < row_count layout) (sym (returns-clause-row g c))
-    (low_row layout v.thread c.args.index within.0 c.layout_is_plain.ensures.immortals within.1)
+    (low_row layout v.thread c.args.index within.0 within.1)
 
 pub returns-clause-own : goal.returns-clause-own
 returns-clause-own g c =

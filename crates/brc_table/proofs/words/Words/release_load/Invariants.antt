@@ -3,4 +3,4 @@ use Rattle.brc_table.specs.Views.{releasing}
 use Rattle.brc_table.proofs.words.Words.release_load.Given as goal
 
 abbrev pub ghosts-step_from : goal.ghosts-step_from
-ghosts-step_from g a = record { begins = λ v. releasing v (row_of a.duty.now) }
+ghosts-step_from g a = record { begins = λ v. releasing v (row_of a.duty.now); lines = a.self.now.lines }

@@ -1,7 +1,7 @@
-use Rattle.std.proofs.Common.{◌<◌, refl, sym, subst}
+use Rattle.std.proofs.Common.{◌<◌, refl, subst}
 use Rattle.brc_model.specs.declared.layout.Layout.{Layout}
 use Rattle.brc_model.specs.Layout.{row_count}
-use Rattle.brc_model.specs.Counting.{IsPlainLayout}
+use Rattle.brc_table.specs.Hands.{plan_of}
 use Rattle.brc_table.proofs.Becoming.{retaining_becomes}
 use Rattle.brc_table.proofs.Duties.{runs_on, usable_there}
 use Rattle.brc_table.proofs.words.Words.retain_load.Goals as goal
@@ -9,14 +9,14 @@ use Rattle.brc_table.proofs.words.Words.retain_load.Goals as goal
 pub step_from-requires-clause-begins : goal.step_from-requires-clause-begins
 step_from-requires-clause-begins g c =
     retaining_becomes c.work_is_put_aside.ensures c.retains_begin.ensures c.immortals_are_free.ensures
-    c.args.self.now.layout c.args.hand.now.view c.args.row c.requires.running c.requires.idle c.requires.usable
+    (plan_of c.args.self.now) c.args.hand.now.view c.args.row c.requires.running c.requires.idle c.requires.usable
     c.requires.few
 
 pub step_from-requires-clause-there : goal.step_from-requires-clause-there
 step_from-requires-clause-there g c =
     subst (λ (l : Layout). c.args.row < row_count l) c.requires.table.1
     (usable_there c.args.hand.now.view c.args.row
-    (subst IsPlainLayout (sym c.requires.table.1) c.layout_is_plain.ensures) c.rows_are_there.ensures c.requires.usable)
+    c.rows_are_there.ensures c.requires.usable)
 
 pub step_from-requires-clause-alive : goal.step_from-requires-clause-alive
 step_from-requires-clause-alive g c = runs_on c.args.hand.now.view c.requires.running.0

@@ -1,7 +1,7 @@
 use Rattle.std.specs.List.{list_any}
 use Rattle.std.specs.Prelude.{◌==◌}
 use Rattle.std.proofs.Common.{◌≡◌, ◌≢◌, ℕ, ◌<◌, ◌≤◌, Option, List, ◌^◌, Bool, [], ◌∷◌, refl, sym, ap, ◌∙◌, subst, arith}
-use Rattle.atomic_table.specs.Table.{Me}
+use Rattle.atomic_table.specs.Table.{State, Me, Allows}
 use Rattle.brc_model.specs.declared.duty.Duty.{Duty}
 use Rattle.brc_model.specs.declared.actor.Status.{Status}
 use Rattle.brc_model.specs.declared.actor.Status.TheVariants.{Gone}
@@ -19,12 +19,12 @@ use Rattle.brc_effect.specs.Accesses.{IfStored, left_by}
 use Rattle.brc_table.specs.Accesses.{HasAccess, IsNext}
 use Rattle.brc_table.specs.Begins.{KeepsButWork}
 use Rattle.brc_table.specs.DutySteps.{DueSlot, Steps, StepsBy}
-use Rattle.brc_table.specs.Hands.{HandState, TableState}
+use Rattle.brc_table.specs.Hands.{HandState, TableState, plan_of}
 use Rattle.brc_table.specs.Rule.{reading}
 use Rattle.brc_table.specs.Views.{RowsAreThere}
-use Rattle.brc_table.specs.Homes.{held_in}
-use Rattle.brc_table.specs.Places.{HasWord, place, word_count}
-use Rattle.brc_table.specs.Plays.{SuitsFirst, FirstFindsOwner, FindsKnown, overwritten_by}
+use Rattle.brc_table.specs.Homes.{held_in, TableStands}
+use Rattle.brc_table.specs.Places.{HasWord, place, word_count, FewFirstRows}
+use Rattle.brc_table.specs.Plays.{SuitsFirst, FirstFindsOwner, FindsKnown, FindsFirst, overwritten_by}
 use Rattle.brc_table.specs.Uses.{held_after, first_due}
 use Rattle.brc_table.specs.Views.{view_after}
 use Rattle.brc_table.proofs.Places.{place_within}
@@ -71,6 +71,7 @@ operate-word-requires-clause-there g c =
     (subst (λ (n : ℕ). place layout address < n) (sym (c.words_are_there.ensures ∙ ap word_count (sym layout_is)))
     (place_within layout address
     (subst IsPlainLayout (sym layout_is) c.layout_is_plain.ensures)
+    (subst FewFirstRows (c.requires.table.1 ∙ sym layout_is) c.rows_are_there.ensures.few)
     (word_here c.args.duty.now layout c.args.self.now.layout c.hand.inside.thread v.thread c.hand.inside.head
     v.actor.head
     layout_is (c.hand.invariant.1 ∙ ap (λ (h : HandState). h.view.thread) c.hand.view_is)
@@ -100,9 +101,13 @@ operate-word-requires-clause-allowed g c =
     ∙ (ap (λ (l : Layout). place l (address_of l hand.thread hand.head d)) layout
     ∙ (ap (λ (t : ℕ). place u.layout (address_of u.layout t hand.head d)) thread
     ∙ ap (λ (k : ℕ). place u.layout (address_of u.layout u.thread k d)) head))) in
-    next_permitted c.model_laws.ensures words c.args.hand.now begins
-    words.layout words.table.slots hand.seat.id c.place_at-index.result me
-    (record { layout_is = refl; view_is = ap (λ (h : HandState). h.view) view_is }) c.requires.begins
+    subst (λ (l : List (List ℕ)). Allows
+    (λ (s : State (Option g.row.T.Denot) View). TableStands (plan_of words) s.words s.homes s.views)
+    words.table.slots hand.seat.id me c.place_at-index.result (left_by access) (StepsBy l begins me))
+    (sym c.requires.lines)
+    (next_permitted c.model_laws.ensures words c.args.hand.now begins
+    (plan_of words) words.table.slots hand.seat.id c.place_at-index.result me
+    (record { plan_is = refl; view_is = ap (λ (h : HandState). h.view) view_is }) c.requires.begins
     c.hand.invariant.0 d
     c.requires.known (subst (λ (h : HandState). IsNext d (begins h.view).actor.agenda) (sym view_is) c.requires.next)
     (subst (λ (h : HandState). (begins h.view).actor.status ≢ Gone) (sym view_is) c.requires.alive) index
@@ -113,7 +118,7 @@ operate-word-requires-clause-allowed g c =
     → left_by access found ≡ new_word u.layout hand.thread k d found) head
     (subst (λ (l : Layout). (running : Bool) (n found : ℕ) → found < 2 ^ 64 → Suits hand.thread running n d found
     → left_by access found ≡ new_word l hand.thread hand.head d found) layout c.access_of-access.ensures.word)))
-    (subst (λ (h : HandState). DueSlot (use_of d 0) h.slots (begins h.view)) (sym view_is) c.requires.due)
+    (subst (λ (h : HandState). DueSlot (use_of d 0) h.slots (begins h.view)) (sym view_is) c.requires.due))
 
 pub operate-word-requires-clause-before : goal.operate-word-requires-clause-before
 operate-word-requires-clause-before g c =
@@ -162,12 +167,13 @@ operate-word-requires-clause-knows g c =
     (c.hand.invariant.1 ∙ sym (ap (λ (v : View). v.thread) same)) c.access_of-access.ensures.knows)
 
 -- What the hand has done, and what the word that it found said.
-stepped : (begins : View → View) (duty : Duty) {T : Type 0} (me after : Me (Option T) View) (word found : ℕ)
-    → IsNext duty (begins me.0).actor.agenda → HasAccess duty → StepsBy begins me word after
+stepped : (lines : List (List ℕ)) (begins : View → View) (duty : Duty) {T : Type 0} (me after : Me (Option T) View)
+    (word found : ℕ)
+    → IsNext duty (begins me.0).actor.agenda → HasAccess duty → StepsBy lines begins me word after
     → found ≡ reading (address_of (begins me.0).layout (begins me.0).thread (begins me.0).actor.head duty) word
-    → Steps begins me found after
-stepped begins duty me after word found is known steps says =
-    subst (λ (k : ℕ). Steps begins me k after)
+    → Steps lines begins me found after
+stepped lines begins duty me after word found is known steps says =
+    subst (λ (k : ℕ). Steps lines begins me k after)
     (next.said_next (begins me.0) duty is known word ∙ sym says) steps
 
 pub head_after-head-requires : goal.head_after-head-requires
@@ -176,7 +182,7 @@ head_after-head-requires g c =
     record {
       row =
           next.next_row_low c.args.self.now.layout v.thread v.actor.head c.args.duty.now c.layout_is_plain.ensures
-          c.requires.there;
+          (subst FewFirstRows c.requires.table.1 c.rows_are_there.ensures.few) c.requires.there;
     }
 
 pub used_after-used-requires : goal.used_after-used-requires
@@ -185,7 +191,8 @@ used_after-used-requires g c =
     let used = c.hand.invariant.4 ∙ ap (λ (h : HandState). h.view.actor.used) c.hand.view_is in
     let few =
     subst (λ (l : Layout). block_size l v.thread < 2 ^ 31) (sym c.requires.table.1)
-    (next.block_few c.args.self.now.layout v.thread c.layout_is_plain.ensures) in
+    (next.block_few c.args.self.now.layout v.thread c.layout_is_plain.ensures
+    (subst FewFirstRows c.requires.table.1 c.rows_are_there.ensures.few)) in
     record { room = omega (arith, used, few, c.rows_are_there.ensures.used) }
 
 pub invariant_of-hand : goal.invariant_of-hand
@@ -201,7 +208,7 @@ invariant_of-hand g c =
     let is = subst (λ (h : HandState). IsNext d (begins h.view).actor.agenda) (sym view_is) c.requires.next in
     let known = c.requires.known in
     let fits = c.hand.invariant in
-    let step = stepped begins d c.hand.inside.seat.me after c.operate-word.result found is known
+    let step = stepped g.B.Begins.lines begins d c.hand.inside.seat.me after c.operate-word.result found is known
     c.operate-word.ensures.step (c.said_by-found.ensures u.layout u.thread u.actor.head) in
     let now = step.0.0 ∙ next.view_next u d is known found in
     let thread : after.0.thread ≡ before.thread = ap (λ (v : View). v.thread) now ∙ ap (λ (v : View). v.thread) same in
@@ -233,7 +240,8 @@ pub returns-clause-carried : goal.returns-clause-carried
 returns-clause-carried g c = ap (λ (h : HandState). h.carried) c.hand.view_is
 
 -- What a caller reads off the step.
-record Made (begins : View → View) (hand : HandState) (d : Duty) (found : ℕ) (after : View) (slots : List (ℕ × ℕ))
+record Made (lines : List (List ℕ)) (begins : View → View) (hand : HandState) (d : Duty) (found : ℕ) (after : View)
+    (slots : List (ℕ × ℕ))
     : Type 0 where
   slots_are : slots ≡ held_after hand.slots (use_of d 0) (first_due (d ∷ []) found)
   view_is : after ≡ view_after (begins hand.view) found
@@ -241,16 +249,18 @@ record Made (begins : View → View) (hand : HandState) (d : Duty) (found : ℕ)
   suits : SuitsFirst (begins hand.view) (begins hand.view).actor.agenda found
   owner : FirstFindsOwner (begins hand.view) (begins hand.view).actor.agenda found
   finds : FindsKnown (begins hand.view) (begins hand.view).actor.agenda found
+  first : FindsFirst lines (begins hand.view) (begins hand.view).actor.agenda found
 
-made : (begins : View → View) (hand : HandState) (d : Duty) {T : Type 0} (me after : Me (Option T) View)
+made : (lines : List (List ℕ)) (begins : View → View) (hand : HandState) (d : Duty) {T : Type 0}
+    (me after : Me (Option T) View)
     (word found : ℕ) → me.0 ≡ hand.view → held_in me.1 ≡ hand.slots → KeepsButWork hand.view (begins hand.view)
-    → IsNext d (begins hand.view).actor.agenda → HasAccess d → StepsBy begins me word after
+    → IsNext d (begins hand.view).actor.agenda → HasAccess d → StepsBy lines begins me word after
     → ((layout : Layout) (t head : ℕ) → found ≡ reading (address_of layout t head d) word)
-    → Made begins hand d found after.0 (held_in after.1)
-made begins hand d me after word found view_is slots_is same coming known steps says =
+    → Made lines begins hand d found after.0 (held_in after.1)
+made lines begins hand d me after word found view_is slots_is same coming known steps says =
     let u = begins me.0 in
     let is = subst (λ (v : View). IsNext d (begins v).actor.agenda) (sym view_is) coming in
-    let step = stepped begins d me after word found is known steps (says u.layout u.thread u.actor.head) in
+    let step = stepped lines begins d me after word found is known steps (says u.layout u.thread u.actor.head) in
     record {
       slots_are =
           step.0.3 ∙ (next.slots_next u d is known (held_in me.1) found
@@ -263,46 +273,63 @@ made begins hand d me after word found view_is slots_is same coming known steps 
       suits = subst (λ (v : View). SuitsFirst (begins v) (begins v).actor.agenda found) view_is step.1;
       owner = subst (λ (v : View). FirstFindsOwner (begins v) (begins v).actor.agenda found) view_is step.2;
       finds = subst (λ (v : View). FindsKnown (begins v) (begins v).actor.agenda found) view_is step.3;
+      first = subst (λ (v : View). FindsFirst lines (begins v) (begins v).actor.agenda found) view_is step.5;
     }
 
 pub returns-clause-slots : goal.returns-clause-slots
 returns-clause-slots g c =
-    (made g.B.Begins.begins c.args.hand.now c.args.duty.now c.hand.inside.seat.me c.operate-word.new.seat.me
-    c.operate-word.result c.said_by-found.result (ap (λ (h : HandState). h.view) c.hand.view_is)
+    (made g.B.Begins.lines g.B.Begins.begins c.args.hand.now c.args.duty.now c.hand.inside.seat.me
+    c.operate-word.new.seat.me c.operate-word.result c.said_by-found.result
+    (ap (λ (h : HandState). h.view) c.hand.view_is)
     (ap (λ (h : HandState). h.slots) c.hand.view_is) c.requires.begins.same c.requires.next c.requires.known
     c.operate-word.ensures.step c.said_by-found.ensures).slots_are
 
 pub returns-clause-view : goal.returns-clause-view
 returns-clause-view g c =
-    (made g.B.Begins.begins c.args.hand.now c.args.duty.now c.hand.inside.seat.me c.operate-word.new.seat.me
-    c.operate-word.result c.said_by-found.result (ap (λ (h : HandState). h.view) c.hand.view_is)
+    (made g.B.Begins.lines g.B.Begins.begins c.args.hand.now c.args.duty.now c.hand.inside.seat.me
+    c.operate-word.new.seat.me c.operate-word.result c.said_by-found.result
+    (ap (λ (h : HandState). h.view) c.hand.view_is)
     (ap (λ (h : HandState). h.slots) c.hand.view_is) c.requires.begins.same c.requires.next c.requires.known
     c.operate-word.ensures.step c.said_by-found.ensures).view_is
 
 pub returns-clause-overwrites : goal.returns-clause-overwrites
 returns-clause-overwrites g c =
-    (made g.B.Begins.begins c.args.hand.now c.args.duty.now c.hand.inside.seat.me c.operate-word.new.seat.me
-    c.operate-word.result c.said_by-found.result (ap (λ (h : HandState). h.view) c.hand.view_is)
+    (made g.B.Begins.lines g.B.Begins.begins c.args.hand.now c.args.duty.now c.hand.inside.seat.me
+    c.operate-word.new.seat.me c.operate-word.result c.said_by-found.result
+    (ap (λ (h : HandState). h.view) c.hand.view_is)
     (ap (λ (h : HandState). h.slots) c.hand.view_is) c.requires.begins.same c.requires.next c.requires.known
     c.operate-word.ensures.step c.said_by-found.ensures).overwrites
 
 pub returns-clause-suits : goal.returns-clause-suits
 returns-clause-suits g c =
-    (made g.B.Begins.begins c.args.hand.now c.args.duty.now c.hand.inside.seat.me c.operate-word.new.seat.me
-    c.operate-word.result c.said_by-found.result (ap (λ (h : HandState). h.view) c.hand.view_is)
+    (made g.B.Begins.lines g.B.Begins.begins c.args.hand.now c.args.duty.now c.hand.inside.seat.me
+    c.operate-word.new.seat.me c.operate-word.result c.said_by-found.result
+    (ap (λ (h : HandState). h.view) c.hand.view_is)
     (ap (λ (h : HandState). h.slots) c.hand.view_is) c.requires.begins.same c.requires.next c.requires.known
     c.operate-word.ensures.step c.said_by-found.ensures).suits
 
 pub returns-clause-owner : goal.returns-clause-owner
 returns-clause-owner g c =
-    (made g.B.Begins.begins c.args.hand.now c.args.duty.now c.hand.inside.seat.me c.operate-word.new.seat.me
-    c.operate-word.result c.said_by-found.result (ap (λ (h : HandState). h.view) c.hand.view_is)
+    (made g.B.Begins.lines g.B.Begins.begins c.args.hand.now c.args.duty.now c.hand.inside.seat.me
+    c.operate-word.new.seat.me c.operate-word.result c.said_by-found.result
+    (ap (λ (h : HandState). h.view) c.hand.view_is)
     (ap (λ (h : HandState). h.slots) c.hand.view_is) c.requires.begins.same c.requires.next c.requires.known
     c.operate-word.ensures.step c.said_by-found.ensures).owner
 
 pub returns-clause-finds : goal.returns-clause-finds
 returns-clause-finds g c =
-    (made g.B.Begins.begins c.args.hand.now c.args.duty.now c.hand.inside.seat.me c.operate-word.new.seat.me
-    c.operate-word.result c.said_by-found.result (ap (λ (h : HandState). h.view) c.hand.view_is)
+    (made g.B.Begins.lines g.B.Begins.begins c.args.hand.now c.args.duty.now c.hand.inside.seat.me
+    c.operate-word.new.seat.me c.operate-word.result c.said_by-found.result
+    (ap (λ (h : HandState). h.view) c.hand.view_is)
     (ap (λ (h : HandState). h.slots) c.hand.view_is) c.requires.begins.same c.requires.next c.requires.known
     c.operate-word.ensures.step c.said_by-found.ensures).finds
+
+pub returns-clause-first : goal.returns-clause-first
+returns-clause-first g c =
+    let begins = g.B.Begins.begins in
+    subst (λ (l : List (List ℕ)). FindsFirst l (begins c.args.hand.now.view)
+    (begins c.args.hand.now.view).actor.agenda c.said_by-found.result) c.requires.lines
+    (made g.B.Begins.lines begins c.args.hand.now c.args.duty.now c.hand.inside.seat.me c.operate-word.new.seat.me
+    c.operate-word.result c.said_by-found.result (ap (λ (h : HandState). h.view) c.hand.view_is)
+    (ap (λ (h : HandState). h.slots) c.hand.view_is) c.requires.begins.same c.requires.next c.requires.known
+    c.operate-word.ensures.step c.said_by-found.ensures).first

@@ -27,7 +27,7 @@ swap-requires g c =
     (subst (MaySwap c.args.hand.now.view g.B.Swap.list g.B.Swap.cell) c.requires.item
     (subst (λ (i : ℕ). MaySwap c.args.hand.now.view g.B.Swap.list i c.args.item) c.requires.index
     (subst (λ (x : ℕ). MaySwap c.args.hand.now.view x c.args.cell c.args.item) c.requires.list c.requires.may))) in
-    let place_is : c.place-index.result ≡ cell_place shared.key g.B.Swap.list g.B.Swap.cell =
+    let place_is : c.place-index.result ≡ cell_place shared.key.layout g.B.Swap.list g.B.Swap.cell =
     at ∙ (ap (λ (x : ℕ). cell_place layout x c.args.cell) c.requires.list
     ∙ (ap (cell_place layout g.B.Swap.list) c.requires.index
     ∙ ap (λ (l : Layout). cell_place l g.B.Swap.list g.B.Swap.cell) (sym layout_is)))

@@ -17,7 +17,7 @@ use Rattle.brc_work.specs.Fits.{Fits}
 use Rattle.brc_work.specs.Stopping.{unchained, MakesReleases}
 use Rattle.brc_work.proofs.Counting.{asked_nothing, asked_as, asked_then}
 use Rattle.brc_work.proofs.Nesting.{point_there, point_low, point_passes, ret_names, all_named, within, callee_may, goes_on_returned, goes_on_failed, holds_still, owns_as_much, same_ends, same_runs, same_begins}
-use Rattle.brc_work.proofs.Stepping.{begins_at, ends_with, fails, goes_there}
+use Rattle.brc_work.proofs.Stepping.{begins_at, ends_with, fails, layout_allows, goes_there}
 use Rattle.brc_work.proofs.Traces.Calls.{Comes, comes_first, stops_here, comes_on, ends_returning, ends_failing}
 use Rattle.brc_work.proofs.Traces.Calls as traces
 use Rattle.brc_work.proofs.Traces.Seen.{runs_know}
@@ -159,6 +159,13 @@ pub step-at-requires-clause-form : goal.step-at-requires-clause-form
 step-at-requires-clause-form g t c κs within =
     let f = function_at c.args.checked.now.module.functions c.args.function in
     all_of_found IsInstruction f.code c.loop.at c.instruction_at-instr.result.now c.code_of-code.ensures.accepted.each
+    (ap (λ (code : List Instr). slice_get code c.loop.at) (sym c.code_of-code.ensures.value)
+    ∙ c.instruction_at-instr.ensures)
+
+pub step-at-requires-clause-allowed : goal.step-at-requires-clause-allowed
+step-at-requires-clause-allowed g t c κs within =
+    layout_allows c.args.checked.now.module c.args.self.now c.args.function c.loop.at c.instruction_at-instr.result.now
+    c.states_are_true.ensures.fits c.requires.heap c.requires.function
     (ap (λ (code : List Instr). slice_get code c.loop.at) (sym c.code_of-code.ensures.value)
     ∙ c.instruction_at-instr.ensures)
 

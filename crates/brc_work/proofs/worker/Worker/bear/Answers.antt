@@ -38,8 +38,7 @@ returns-clause-goes g c = λ base s fits can.
       is = refl;
       knows =
           HasSeen (kind_word c.args.kind c.args.arg)
-          (subst (λ (l : Layout). IsCounted l row) (sym born.keeps.layout) c.birth-row.ensures.counted)
-          (born_some c.args.kind c.args.arg c.requires.kind) c.birth-row.ensures.seen
+          (born_some hand.view.layout.cells c.args.kind c.args.arg c.requires.kind) c.birth-row.ensures.seen
           (ap kind_numbered c.birth-row.ensures.known ∙ numbered_kind c.args.kind);
     })
     (gains base.first.view.layout (var_of s c.args.to)

@@ -5,7 +5,6 @@ use Rattle.brc_free.proofs.Working.{works_close}
 use Rattle.brc_lang.specs.Limits.{function_limit}
 use Rattle.brc_model.specs.Layout.{root_row}
 use Rattle.brc_model.specs.Threads.{function_at, entry_variables}
-use Rattle.brc_model.specs.declared.layout.Layout.{Layout}
 use Rattle.brc_table.specs.Hands.{TableState}
 use Rattle.brc_work.specs.declared.end.End.TheVariants.{Returned, Failed, Stopped}
 use Rattle.brc_work.specs.Calls.{Begins}
@@ -31,14 +30,10 @@ begun : (g : given.Over) (c : After-name g)
 begun g c =
     let f = function_at c.args.checked.now.module.functions c.args.function in
     let hand = c.args.hand.now in
-    let plain =
-    subst (λ (l : Layout). l.immortal_lists ≡ 0)
-    (ap (λ (w : TableState). w.layout) (c.words.ensures ∙ c.self.view_is) ∙ sym c.requires.of.1)
-    c.layout_is_plain.ensures.immortals in
     let low : c.args.function < function_limit =
     omega (arith, c.requires.function, c.states_are_true.ensures.fits.most) in
     subst (λ (rows : List (Option ℕ)). Begins (outermost hand) f c.args.function rows hand) (sym (entered g c))
-    (begins hand f c.args.function c.requires.ready plain c.requires.parameters low)
+    (begins hand f c.args.function c.requires.ready c.requires.parameters low)
 
 pub call-requires-clause-may : goal.call-requires-clause-may
 call-requires-clause-may g c κs lives = record {

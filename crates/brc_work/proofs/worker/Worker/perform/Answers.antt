@@ -1,7 +1,7 @@
 use Rattle.std.proofs.Common.{[], sym, subst}
 use Rattle.brc_lang.specs.declared.module.Instr.{Instr}
 use Rattle.brc_model.specs.declared.state.Exit.TheVariants.{Success}
-use Rattle.brc_work.specs.Fits.{HasDone}
+use Rattle.brc_work.specs.Fits.{HasDone, LayoutAllows}
 use Rattle.brc_work.specs.Performs.{PerformsAt}
 use Rattle.brc_lang.specs.declared.module.Instr.TheVariants as instructions
 use Rattle.brc_model.specs.VarStates.{var_of, is_empty, is_borrowed, names}
@@ -24,6 +24,16 @@ returns-in-Drop-clause-done g c =
     (can_give s from (kept (is_empty (var_of s from)) met.not_empty) (kept (is_borrowed (var_of s from)) met.owned)
     (kept (names s.locked from) met.unlocked)) in
     subst (λ (i : Instr). HasDone i Success rows hand c.give_up.new.rows c.give_up.new.hand) (sym c.in-Drop.is) dropped
+
+pub list-requires-clause-few : goal.list-requires-clause-few
+list-requires-clause-few g c = subst (LayoutAllows c.args.self.now.layout) c.in-List.is c.requires.allowed
+
+pub take-requires-clause-there : goal.take-requires-clause-there
+take-requires-clause-there g c = subst (LayoutAllows c.args.self.now.layout) c.in-Take.is c.requires.allowed
+
+pub returns-in-Take-clause-asked : goal.returns-in-Take-clause-asked
+returns-in-Take-clause-asked g c =
+    asked_nothing (at_point _ _ _ _ _ _ _ _ _ c.in-Take.is c.take.ensures.made)
 
 pub returns-in-Num-clause-asked : goal.returns-in-Num-clause-asked
 returns-in-Num-clause-asked g c =

@@ -1,7 +1,6 @@
 use Rattle.std.proofs.Common.{◌≡◌, ℕ, ◌<◌, false, List, length, inl, sym, ap, ◌∙◌, refl, subst, arith}
 use Rattle.brc_model.specs.declared.layout.Layout.{Layout}
 use Rattle.brc_model.specs.declared.state.State.{State}
-use Rattle.brc_model.specs.Layout.{IsCounted}
 use Rattle.brc_model.specs.VarStates.{var_of, is_empty, names}
 use Rattle.brc_model.proofs.Basics.Lists.{first_false, second_false}
 use Rattle.brc_table.specs.Views.{without_reference}
@@ -97,12 +96,6 @@ retain-requires-clause-usable g c =
 pub retain-requires-clause-few : goal.retain-requires-clause-few
 retain-requires-clause-few g c =
     few_held _ _ _ _ (later g (goal.at.retain-requires-clause-few g c).After-size _ _ c.requires.may.fits)
-
-pub exchange-requires-clause-counted : goal.exchange-requires-clause-counted
-exchange-requires-clause-counted g c = λ κs lives.
-    let at = goal.at.exchange-requires-clause-counted g c in
-    let did = retained g at.After-retain (later g at.After-size _ _ c.requires.may.fits).rests in
-    subst (λ (l : Layout). IsCounted l c.row_in-row.result) (sym did.acts.more.layout) (on g at.After-size).counted
 
 pub exchange-requires-clause-held : goal.exchange-requires-clause-held
 exchange-requires-clause-held g c = λ κs lives.

@@ -1,4 +1,4 @@
-use Rattle.std.proofs.Common.{Bool, false, subst}
+use Rattle.std.proofs.Common.{Bool, subst}
 use Rattle.brc_work.specs.Runs.{RanBy}
 use Rattle.brc_work.specs.Traces.{program_of}
 use Rattle.brc_work.proofs.Bounds.{module_bounded, never_stops}

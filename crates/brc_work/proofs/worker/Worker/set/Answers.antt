@@ -68,6 +68,12 @@ size-requires-clause-usable g c =
     before.fits (not_false (names before.state.locked c.args.list) (kept _ (none_broken before).has_lock))
     c.row_in-row.ensures).one)
 
+pub row_in-item-requires : goal.row_in-item-requires
+row_in-item-requires g c =
+    let may = c.requires.may in
+    names_object may.base may.state c.args.rows.now c.args.hand.now may.fits c.args.from
+    (first_false (is_empty (var_of may.state c.args.from)) _ (none_broken may).not_empty)
+
 pub give_up-requires-clause-fits : goal.give_up-requires-clause-fits
 give_up-requires-clause-fits g c = λ κs lives.
     let at = (goal.at.give_up-requires-clause-fits g c).After-size in
@@ -91,7 +97,7 @@ exchange-requires-clause-held g c = λ κs lives.
     let may = c.requires.may in
     let fits = later g (goal.at.exchange-requires-clause-held g c).After-size may.base may.state may.fits in
     (on_list may.base may.state c.args.rows.now c.size.new.hand c.args.list c.row_in-row.result fits
-    (not_false (names may.state.locked c.args.list) (kept _ (none_broken may).has_lock)) c.row_in-row.ensures).held
+    (not_false (names may.state.locked c.args.list) (kept _ (none_broken may).has_lock)) c.row_in-row.ensures).one
 
 pub exchange-requires-clause-puts : goal.exchange-requires-clause-puts
 exchange-requires-clause-puts g c = λ κs lives.

@@ -2,14 +2,14 @@ use Rattle.std.proofs.Common.{◌≡◌, Bool, false, cond, ◌∷◌, None, Som
 use Rattle.std.specs.Prelude.{is_some}
 use Rattle.brc_lang.specs.declared.module.Instr.TheVariants as instructions
 use Rattle.brc_model.specs.declared.state.State.{State}
-use Rattle.brc_model.specs.VarStates.{var_of, kind_of, is_empty, is_one_of, lockable, lowest}
+use Rattle.brc_model.specs.VarStates.{var_of, is_empty, lowest}
 use Rattle.brc_model.specs.Threads.{row_of}
 use Rattle.brc_model.proofs.Dispatch.Passing.{are_met}
 use Rattle.brc_table.specs.Hands.{TableState, IsOf}
 use Rattle.brc_work.specs.Fits.{Base, Fits}
-use Rattle.brc_work.proofs.Conditions.{kept, none_is, not_false}
+use Rattle.brc_work.proofs.Conditions.{kept, none_is}
 use Rattle.brc_work.proofs.Passing.{none_broken}
-use Rattle.brc_work.proofs.Holding.{names_object, lasting_one, knows_slot, lockable_counted}
+use Rattle.brc_work.proofs.Holding.{names_object, lasting_one}
 use Rattle.brc_work.proofs.Locking.{borrows_none, no_lock, still_fits, lock_is}
 use Rattle.brc_work.proofs.Traces.Locks.{makes_lock, waits}
 use Rattle.brc_work.proofs.worker.Worker.tries_lock.Given as given
@@ -46,16 +46,6 @@ pub row_in-row-requires : goal.row_in-row-requires
 row_in-row-requires g c =
     names_object _ _ _ _ c.requires.may.fits c.args.object (used g (goal.at.row_in-row-requires g c).Start)
 
-pub try_lock-requires-clause-counted : goal.try_lock-requires-clause-counted
-try_lock-requires-clause-counted g c =
-    let slot = var_of c.requires.may.state c.args.object in
-    lockable_counted c.args.hand.now.view (kind_of slot) c.row_in-row.result
-    (knows_slot c.requires.may.base.held c.args.hand.now.view slot
-    (row_of c.args.rows.now c.args.object) c.row_in-row.result
-    (used g (goal.at.try_lock-requires-clause-counted g c).Start) (c.requires.may.fits.each c.args.object)
-    c.row_in-row.ensures)
-    (not_false (is_one_of (kind_of slot) lockable) (kept _ (none_broken c.requires.may).right_kind))
-
 pub try_lock-requires-clause-held : goal.try_lock-requires-clause-held
 try_lock-requires-clause-held g c =
     let may = c.requires.may in
@@ -83,7 +73,7 @@ returns-clause-done g c = λ wins base s fits passes.
     (c.try_lock.ensures.table.0
     ∙ ap (λ (w : TableState). w.table) (c.new.ensures ∙ c.self.view_is) ∙ sym c.requires.may.of.0)
     c.try_lock.ensures.carried c.args.object object (kept (is_empty slot) all.not_empty)
-    (not_false (is_one_of (kind_of slot) lockable) (kept _ all.right_kind)) c.row_in-row.ensures
+    c.row_in-row.ensures
     (c.try_lock.ensures.locked ∙ ap (λ (b : Bool). cond b (Some object) None) wins)
     (c.try_lock.ensures.slots
     ∙ ap (λ (b : Bool). cond b ((object, locked.view.in_slot) ∷ before.slots) before.slots) wins)

@@ -1,0 +1,7 @@
+use Rattle.std.proofs.Common.{subst}
+use Rattle.brc_model.specs.FirstRows.{HasLines}
+use Rattle.brc_table.specs.Ending.{EndState}
+use Rattle.brc_table.proofs.closed.Closed.lines_are_there.Goals as goal
+
+pub returns : goal.returns
+returns g c = subst (λ (w : EndState). HasLines w.lines w.layout) c.self.view_is c.self.invariant.7

@@ -1,0 +1,7 @@
+-- What a table is told when it is made: its size, and the lines of its immortal lists.
+use Rattle.std.specs.Prelude.{ℕ, List}
+use Rattle.brc_model.specs.declared.layout.Layout.{Layout}
+
+pub record Plan : Type 0 where
+  pub layout : Layout
+  pub lines : List (List ℕ)
