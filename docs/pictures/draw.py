@@ -460,7 +460,7 @@ def draw_tile():
         lines += part(front + tile * number, f"tile {number}: rows {line * number} to {line * number + line - 1}")
     lines += part(front + tile * 2, "and so on")
     lines += part("F", "the cells: cell i of row x at F + c x + i,")
-    lines.append(" " * 7 + "│" + " if a list may have c cells: 8 in each text".ljust(wide) + "│")
+    lines.append(" " * 7 + "│" + " if a list may have c cells: 8, in version 3 64".ljust(wide) + "│")
     lines += [" " * 7 + "└" + "─" * wide + "┘", ""]
     lines.append(f"tile k, from place {front} + {tile} k on; its rows are {line} k to {line} k + {line - 1}")
     columns = "".join(f"+ {i}".ljust(width + 1) for i in (0, 1)) + "..".ljust(7) + f"+ {line - 1}"
