@@ -1,3 +1,5 @@
 pub mod Indices
 pub mod Reciprocal
 pub mod FewNumbers
+pub mod FirstLists
+pub mod FirstListWords

@@ -1,3 +1,4 @@
 pub mod Effects
 pub mod Accesses
 pub mod Outcomes
+pub mod FirstLists

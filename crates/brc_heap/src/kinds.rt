@@ -30,8 +30,8 @@ pub(crate) fn kind_numbered(number: u32) -> Kind
 impl<T: Drop> Heap<T> {
     /// Returns the kind of an object to which the hand holds a reference, which it borrows from the list that it has
     /// locked, or which it is to finalise as the first of its dying chain. The kind word that it loads is the one that
-    /// the object's birth stored, or had at the start, and the one that the hand has seen before. If the hand has locked
-    /// the object, the word says whether the object's slot has a resource.
+    /// the object's birth stored, or had at the start, and the one that the hand has seen before. If the hand has
+    /// locked the object, the word says whether the object's slot has a resource.
     pub fn kind_of(&self, hand: &mut Hand<T>, row: u32) -> Kind
         requires table { IsOf self.now hand.old }
         requires running { IsRunning hand.old.view }

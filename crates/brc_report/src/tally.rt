@@ -7,7 +7,7 @@ pub struct Tally {
     pub threads: u64,
     /// The threads that haven't finished, main included.
     pub running: u64,
-    /// The objects created so far, without the immortal one.
+    /// The objects created so far, without the immortal ones.
     pub created: u64,
     /// The created objects that have been deallocated.
     pub closed: u64,

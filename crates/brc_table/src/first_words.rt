@@ -5,7 +5,8 @@ ghost use Rattle.brc_model.specs.declared.address.Address.{Address};
 ghost use Rattle.brc_model.specs.Counting.{IsPlainLayout};
 ghost use Rattle.brc_model.specs.FirstRows.{HasLines};
 ghost use Rattle.brc_model.specs.Layout.{row_count};
-ghost use Rattle.brc_table.specs.Opening.{blank_line, blank_word, first_word, ArePlain, AreFirst, AreWordsOf, with_list, with_number};
+ghost use Rattle.brc_effect.specs.FirstLists.{with_list, with_number};
+ghost use Rattle.brc_table.specs.Opening.{blank_line, blank_word, first_word, ArePlain, AreFirst, AreWordsOf};
 ghost use Rattle.brc_model.specs.Machine.{written};
 ghost use Rattle.brc_table.specs.Places.{word_count, FewFirstRows, HasWord};
 
@@ -72,8 +73,8 @@ fn first_word(index: usize) -> u64
     }
 }
 
-/// Returns the words of a table before any step, or `AllocError` if memory is refused. Each line is an immortal list, as
-/// long as the line, whose cells name new numbers with the line's values.
+/// Returns the words of a table before any step, or `AllocError` if memory is refused. Each line is an immortal list,
+/// as long as the line, whose cells name new numbers with the line's values.
 pub(crate) fn first_words(
     alloc: Global,
     layout: Layout,

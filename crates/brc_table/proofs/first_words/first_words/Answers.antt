@@ -7,12 +7,14 @@ use Rattle.brc_model.specs.declared.layout.Layout.{Layout}
 use Rattle.brc_model.specs.FirstRows.{start}
 use Rattle.brc_model.specs.Layout.{row_count}
 use Rattle.brc_model.proofs.Keeping.FirstRows.{line_short}
-use Rattle.brc_table.specs.Opening.{AreWordsOf, plain_memory, with_list, with_lists}
+use Rattle.brc_effect.specs.FirstLists.{with_list, with_lists}
+use Rattle.brc_effect.proofs.FirstLists.{start_next, line_within, line_length, list_next}
+use Rattle.brc_table.specs.Opening.{AreWordsOf, plain_memory}
 use Rattle.brc_table.specs.Places.{FewFirstRows, word_count}
 use Rattle.brc_table.specs.Rule.{reading}
 use Rattle.brc_table.proofs.Duties.{rows_few}
 use Rattle.brc_table.proofs.FewRows.{few_by_lines}
-use Rattle.brc_table.proofs.FirstLists.{start_next, line_within, line_length, list_next, all_words, thread_words}
+use Rattle.brc_table.proofs.FirstLists.{all_words, thread_words}
 use Rattle.brc_table.proofs.FirstWords.{plain_words_are}
 use Rattle.brc_table.proofs.first_words.first_words.Goals as goal
 

@@ -1,7 +1,8 @@
 use Rattle.std.proofs.Common.{◌≡◌, ◌+◌, length}
 use Rattle.brc_model.specs.FirstRows.{start}
 use Rattle.brc_model.specs.Layout.{first_immortal_list, first_number}
-use Rattle.brc_table.specs.Opening.{AreWordsOf, plain_memory, with_lists}
+use Rattle.brc_effect.specs.FirstLists.{with_lists}
+use Rattle.brc_table.specs.Opening.{AreWordsOf, plain_memory}
 use Rattle.brc_table.specs.Places.{word_count}
 use Rattle.brc_table.proofs.first_words.first_words.Given as goal
 

@@ -5,9 +5,10 @@ use Rattle.brc_model.specs.declared.address.Address.TheVariants.{Local, KindOf}
 use Rattle.brc_model.specs.Machine.{written}
 use Rattle.brc_word.specs.declared.values.TheConstants.{LIST}
 use Rattle.brc_word.specs.Words.{half}
-use Rattle.brc_table.specs.Opening.{AreWordsOf, with_empty_list, with_numbers}
+use Rattle.brc_effect.specs.FirstLists.{with_empty_list, with_numbers}
+use Rattle.brc_effect.proofs.FirstLists.{number_next}
+use Rattle.brc_table.specs.Opening.{AreWordsOf}
 use Rattle.brc_table.proofs.Duties.{rows_few}
-use Rattle.brc_table.proofs.FirstLists.{number_next}
 use Rattle.brc_table.proofs.first_words.put_list.Goals as goal
 
 pub loop-value-init : goal.loop-value-init

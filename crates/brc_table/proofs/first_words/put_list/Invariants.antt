@@ -1,6 +1,7 @@
 use Rattle.std.proofs.Common.{◌≡◌, ℕ, length}
 use Rattle.brc_model.specs.declared.address.Address.{Address}
-use Rattle.brc_table.specs.Opening.{AreWordsOf, with_empty_list, with_numbers}
+use Rattle.brc_effect.specs.FirstLists.{with_empty_list, with_numbers}
+use Rattle.brc_table.specs.Opening.{AreWordsOf}
 use Rattle.brc_table.specs.Places.{word_count}
 use Rattle.brc_table.proofs.first_words.put_list.Given as goal
 
