@@ -13,10 +13,11 @@ use Rattle.brc_model.specs.Machine.{is_running}
 use Rattle.brc_model.specs.Safety.{has_gone}
 use Rattle.brc_model.specs.StepMachine.{of_thread, machine_by}
 use Rattle.brc_model.specs.World.{World, world_of, machine_of, step}
-use Rattle.brc_world.specs.declared.event.Sight.{Sight}
+use Rattle.brc_machine.specs.declared.sight.Sight.{Sight}
 use Rattle.brc_world.specs.Answers.{is_gone, is_gone_at}
 use Rattle.brc_world.specs.Runs.{world_after}
-use Rattle.brc_world.specs.Sights.{sight_at, sight_by}
+use Rattle.brc_machine.specs.Sights.{sight_by}
+use Rattle.brc_world.specs.Sights.{sight_at}
 use Rattle.brc_trace.specs.declared.past.Doing.{Doing}
 use Rattle.brc_trace.specs.declared.past.Past.{Past}
 use Rattle.brc_trace.specs.TraceText.{past_by, past_after, entries_on, most_number}

@@ -7,8 +7,9 @@ use Rattle.brc_lang.specs.declared.module.Function.{Function}
 use Rattle.brc_model.specs.declared.thread.Choice.{Choice}
 use Rattle.brc_model.specs.declared.event.WordEvent.{WordEvent}
 use Rattle.brc_model.specs.World.{World, step}
-use Rattle.brc_world.specs.declared.event.Sight.{Sight}
-use Rattle.brc_world.specs.Sights.{sight_at, listed, sights_at, sights_on, words_of, words_shown, words_seen}
+use Rattle.brc_machine.specs.declared.sight.Sight.{Sight}
+use Rattle.brc_machine.specs.Sights.{listed, words_of, words_shown}
+use Rattle.brc_world.specs.Sights.{sight_at, sights_at, sights_on, words_seen}
 use Rattle.brc_trace.specs.declared.past.Past.{Past}
 use Rattle.brc_trace.specs.Shown.{entry_words, words_in}
 use Rattle.brc_trace.specs.TraceText.{past_at, entries_by, entries_at, entries_on}

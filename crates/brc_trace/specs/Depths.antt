@@ -3,9 +3,9 @@ use Rattle.std.specs.Prelude.{ℕ, ◌+◌, ◌-◌, ◌^◌, nat_lt, if◌then�
 use Rattle.brc_lang.specs.declared.module.Function.{Function}
 use Rattle.brc_lang.specs.declared.module.Instr.{Instr}
 use Rattle.brc_lang.specs.declared.module.Instr.TheVariants.{Call, Ret, Fail}
-use Rattle.brc_world.specs.declared.event.Part.{Part}
-use Rattle.brc_world.specs.declared.event.Part.TheVariants.{Instruction}
-use Rattle.brc_world.specs.declared.event.Sight.{Sight}
+use Rattle.brc_machine.specs.declared.sight.Part.{Part}
+use Rattle.brc_machine.specs.declared.sight.Part.TheVariants.{Instruction}
+use Rattle.brc_machine.specs.declared.sight.Sight.{Sight}
 use Rattle.brc_trace.specs.declared.depth.Crossing.{Crossing}
 use Rattle.brc_trace.specs.declared.depth.Crossing.TheVariants.{Stays, Enters, Returns}
 

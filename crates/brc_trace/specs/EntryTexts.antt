@@ -12,10 +12,10 @@ use Rattle.brc_model.specs.declared.duty.Duty.{Duty}
 use Rattle.brc_model.specs.declared.layout.Layout.{Layout}
 use Rattle.brc_model.specs.declared.state.Exit.{Exit}
 use Rattle.brc_model.specs.Trace.{is_word}
-use Rattle.brc_world.specs.declared.event.Event.{Event}
-use Rattle.brc_world.specs.declared.event.Event.TheVariants.{Silent, Calls, Does}
-use Rattle.brc_world.specs.declared.event.Part.{Part}
-use Rattle.brc_world.specs.declared.event.Part.TheVariants.{Instruction}
+use Rattle.brc_machine.specs.declared.sight.Event.{Event}
+use Rattle.brc_machine.specs.declared.sight.Event.TheVariants.{Silent, Calls, Does}
+use Rattle.brc_machine.specs.declared.sight.Part.{Part}
+use Rattle.brc_machine.specs.declared.sight.Part.TheVariants.{Instruction}
 use Rattle.brc_trace.specs.declared.depth.Crossing.{Crossing}
 use Rattle.brc_trace.specs.declared.depth.Crossing.TheVariants.{Stays, Enters, Returns}
 use Rattle.brc_trace.specs.declared.entry.Entry.{Entry}

@@ -3,10 +3,10 @@ use Rattle.std.specs.Prelude.{ℕ, List, [], ◌++◌, Option, None, Some, slice
 use Rattle.brc_lang.specs.declared.module.Function.{Function}
 use Rattle.brc_lang.specs.declared.module.Instr.{Instr}
 use Rattle.brc_lang.specs.Grammar.{instruction}
-use Rattle.brc_world.specs.declared.event.ExitPart.{ExitPart}
-use Rattle.brc_world.specs.declared.event.ExitPart.TheVariants.{Root, Leave, Marks, Gone}
-use Rattle.brc_world.specs.declared.event.Part.{Part}
-use Rattle.brc_world.specs.declared.event.Part.TheVariants.{Instruction, Claim, Stop, Exit}
+use Rattle.brc_machine.specs.declared.sight.ExitPart.{ExitPart}
+use Rattle.brc_machine.specs.declared.sight.ExitPart.TheVariants.{Root, Leave, Marks, Gone}
+use Rattle.brc_machine.specs.declared.sight.Part.{Part}
+use Rattle.brc_machine.specs.declared.sight.Part.TheVariants.{Instruction, Claim, Stop, Exit}
 
 -- the instruction as a module of these functions spells it
 abbrev pub instr_text : List Function → Option Instr → List ℕ

@@ -10,8 +10,8 @@ use Rattle.brc_model.specs.declared.duty.Duty.{Duty}
 use Rattle.brc_model.specs.declared.duty.Duty.TheVariants.{RetainLoad, RetainStore, RetainAdd, ReleaseLoad, ReleaseStore, DecideAtZero, SharedLoad, SharedExchange, SetMark, Look, TakeMark, MergeSwap, MergeLoad, MergeExchange, Die, Settle, SettleKind, SettleCell, TakeSlot, CloseResource, SettleEnd, Leave, Scan, TakeFound, Finish, ClaimMark, MarksLoad, BirthKind, BirthSlot, BirthLocal, KindLoad, LockGate, UnlockGate, CellLoad, CellSwap, LendSlot, ReturnSlot}
 use Rattle.brc_model.specs.declared.state.Exit.TheVariants.{Success, Fault}
 use Rattle.brc_model.specs.Duties.{counts_locally, has_resource}
-use Rattle.brc_world.specs.declared.event.Event.{Event}
-use Rattle.brc_world.specs.declared.event.Event.TheVariants as events
+use Rattle.brc_machine.specs.declared.sight.Event.{Event}
+use Rattle.brc_machine.specs.declared.sight.Event.TheVariants as events
 use Rattle.brc_trace.specs.declared.rule.Rule.{Rule}
 use Rattle.brc_trace.specs.declared.rule.Rule.TheVariants.{KindOfResource, KindOfOther, SlotFilled, Born, KindRead, Locks, LockHeld, Unlocks}
 use Rattle.brc_trace.specs.declared.rule.Rule.TheVariants.{CellRead, ItemStored, ResourceLent, ResourceReturned, RetainsImmortal, OwnerRetains, FullOwnerRetains, OtherRetains}

@@ -2,7 +2,7 @@
 use Rattle.std.specs.Prelude.{ℕ, ◌==◌, if◌then◌else◌, List, []}
 use Rattle.std.specs.List.{flat_map}
 use Rattle.brc_model.specs.declared.event.WordEvent.{WordEvent}
-use Rattle.brc_world.specs.Sights.{words_of}
+use Rattle.brc_machine.specs.Sights.{words_of}
 use Rattle.brc_trace.specs.declared.entry.Entry.{Entry}
 
 -- the word events that the entry shows, if it is the thread's

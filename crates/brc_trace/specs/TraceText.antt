@@ -8,9 +8,9 @@ use Rattle.brc_lang.specs.Written.{AppendsBeginning}
 use Rattle.brc_report.specs.declared.paint.Paint.{Paint}
 use Rattle.brc_model.specs.declared.thread.Choice.{Choice}
 use Rattle.brc_model.specs.World.{World, step}
-use Rattle.brc_world.specs.declared.event.Part.{Part}
-use Rattle.brc_world.specs.declared.event.Part.TheVariants.{Instruction}
-use Rattle.brc_world.specs.declared.event.Sight.{Sight}
+use Rattle.brc_machine.specs.declared.sight.Part.{Part}
+use Rattle.brc_machine.specs.declared.sight.Part.TheVariants.{Instruction}
+use Rattle.brc_machine.specs.declared.sight.Sight.{Sight}
 use Rattle.brc_world.specs.Runs.{world_after}
 use Rattle.brc_world.specs.Sights.{sight_at}
 use Rattle.brc_trace.specs.declared.entry.Entry.{Entry}

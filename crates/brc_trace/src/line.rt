@@ -37,6 +37,14 @@ impl Line {
         self.bytes.as_slice()
     }
 
+    /// Returns the bytes so far, and keeps none.
+    pub fn into_bytes(self) -> Vec<u8>
+        ensures { result.items ≡ self }
+    {
+        let Line { bytes } = self;
+        bytes
+    }
+
     /// Takes all bytes away. The line keeps their memory.
     pub fn clear(&mut self)
         ensures { self.new ≡ [] }

@@ -116,7 +116,7 @@ fn show_next(row: u64, some: bool, line: &mut Line) -> Result<(), AllocError>
 }
 
 /// Returns the row whose mark is in this bit of the thread's mark word with the number `word`.
-fn row_of_mark(layout: Layout, thread: u32, word: u32, bit: u32) -> u64
+pub fn row_of_mark(layout: Layout, thread: u32, word: u32, bit: u32) -> u64
     requires { bit ≤ marks_of_word }
     ensures { result ≡ row_at layout thread (marks_of_word * word + bit) }
 {

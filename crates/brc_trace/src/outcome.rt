@@ -46,7 +46,8 @@ pub enum Fate {
 }
 
 impl Fate {
-    fn text(self) -> &'static str
+    /// Returns what a trace says of the object's row, behind its number: a space, and then the words.
+    pub fn text(self) -> &'static str
         ensures { result.now ≡ fate_text self }
     {
         match self {

@@ -1,12 +1,26 @@
 //! What a step belongs to: an instruction, a claim, a stop, or a part of a thread's exit.
 
-ghost use Rattle.std.specs.Prelude.{◌≡◌, ◌++◌, OnOk, Some, slice_get};
+ghost use Rattle.std.specs.Prelude.{◌≡◌, ◌++◌, OnOk, IfOk, Some, slice_get};
 ghost use Rattle.brc_trace.specs.PartTexts.{instr_text, point_text, exit_text, part_text};
 
 use crate::line::Line;
 use brc_lang::{Function, Instr};
 use brc_world::{ExitPart, Part};
-use std::alloc::AllocError;
+use std::alloc::{AllocError, Global};
+
+/// Returns the part of the work of a thread that calls the function with the number, as a trace names it.
+pub fn part_text(
+    alloc: Global,
+    functions: &[Function],
+    number: usize,
+    part: Part,
+) -> Result<Vec<u8>, AllocError>
+    ensures { IfOk result (λ text. text.items ≡ part_text functions.now number part) }
+{
+    let mut line = Line::new(alloc);
+    show_part(functions, number, part, &mut line)?;
+    Ok(line.into_bytes())
+}
 
 /// Adds the part of the work of a thread that calls the function with the number.
 pub fn show_part(

@@ -19,7 +19,8 @@ use Rattle.brc_world.specs.declared.did.Did.TheVariants as answers
 use Rattle.brc_world.specs.declared.dispatch.Start.{Start}
 use Rattle.brc_world.specs.declared.dispatch.Start.TheVariants as starts
 use Rattle.brc_world.specs.declared.thread.Thread.{Thread}
-use Rattle.brc_world.specs.Actors.{actor_of, context_in, found_by, words_after, actor_after, CanDo, CanAct, OpensFew}
+use Rattle.brc_machine.specs.Sights.{found_by}
+use Rattle.brc_world.specs.Actors.{actor_of, context_in, words_after, actor_after, CanDo, CanAct, OpensFew}
 use Rattle.brc_world.specs.declared.host_call.HostCall.{HostCall}
 use Rattle.brc_world.specs.declared.question.Question.{Question}
 use Rattle.brc_world.specs.declared.question.Question.TheVariants as questions
@@ -27,7 +28,7 @@ use Rattle.brc_world.specs.Questions.{FindsItem, IsAbout, IsAnswerable, place_ca
 use Rattle.brc_world.specs.Starts.{first_start, unasking, place_after, answered, started, HasDispatched}
 use Rattle.brc_model.specs.declared.layout.Layout.{Layout}
 use Rattle.brc_model.specs.declared.state.Exit.{Exit}
-use Rattle.brc_world.specs.declared.faults.Faults.{Faults}
+use Rattle.brc_machine.specs.declared.faults.Faults.{Faults}
 
 -- ---- a thread that isn't gone
 

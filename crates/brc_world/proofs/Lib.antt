@@ -1,9 +1,6 @@
 pub mod Around
-pub mod Arguments
 pub mod Stopping
 pub mod Calling
-pub mod Storing
-pub mod FirstWords
 pub mod Giving
 pub mod Dispatching
 pub mod Starting

@@ -14,12 +14,12 @@ use Rattle.brc_model.specs.StepMachine.{layout_of, first_memory, main_actor, wor
 use Rattle.brc_check.specs.Accepted.{Accepted}
 use Rattle.brc_check.specs.Tables.{states_of}
 use Rattle.brc_world.specs.declared.did.Did.{Did}
-use Rattle.brc_world.specs.declared.faults.Faults.{Faults}
-use Rattle.brc_world.specs.declared.no_memory.NoMemory.{NoMemory}
+use Rattle.brc_machine.specs.declared.faults.Faults.{Faults}
+use Rattle.brc_machine.specs.declared.no_memory.NoMemory.{NoMemory}
 use Rattle.brc_world.specs.declared.thread.Thread.{Thread}
 use Rattle.brc_world.specs.Answers.{IsAnswer}
 use Rattle.brc_world.specs.Actors.{actor_of}
-use Rattle.brc_world.specs.Storage.{Columns, word_in, AreOf}
+use Rattle.brc_machine.specs.Storage.{Columns, word_in, AreOf}
 use Rattle.brc_world.specs.Worlds.{Contents, model_of, IsWorld}
 use Rattle.brc_world.proofs.Stepping.{with_words}
 use Rattle.brc_model.specs.declared.layout.Layout.{Layout}

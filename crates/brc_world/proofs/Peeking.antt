@@ -1,7 +1,5 @@
 -- The sight of a step, by the step's start.
-use Rattle.std.proofs.Common.{◌≡◌, ◌≢◌, ℕ, Bool, List, [], ◌∷◌, reverse, Option, None, Some, refl, sym, ap, ◌∙◌, subst}
-use Rattle.std.specs.List.{list_any}
-use Rattle.std.proofs.lemmas.List.Sorted.{IsPermutation-reverse, list_any-IsPermutation}
+use Rattle.std.proofs.Common.{◌≡◌, ◌≢◌, ℕ, List, [], ◌∷◌, Option, None, Some, refl, sym, ap, ◌∙◌, subst}
 use Rattle.brc_lang.specs.declared.module.Function.{Function}
 use Rattle.brc_model.specs.declared.actor.Status.TheVariants.{Gone}
 use Rattle.brc_model.specs.declared.address.Address.{Address}
@@ -13,20 +11,12 @@ use Rattle.brc_model.specs.Actions.{StepActor, Action, Skip, Stuck, Silent, Call
 use Rattle.brc_model.specs.Dispatch.{exit_of, agenda_action, status_action}
 use Rattle.brc_world.specs.declared.dispatch.Start.{Start}
 use Rattle.brc_world.specs.declared.dispatch.Start.TheVariants as starts
-use Rattle.brc_world.specs.declared.event.Event.TheVariants as events
-use Rattle.brc_world.specs.declared.event.Sight.{Sight}
+use Rattle.brc_machine.specs.declared.sight.Event.TheVariants as events
+use Rattle.brc_machine.specs.declared.sight.Sight.{Sight}
 use Rattle.brc_world.specs.Actors.{CanDo, CanAct}
-use Rattle.brc_world.specs.Sights.{duty_event, kind_born, sight_of, sight_by}
+use Rattle.brc_machine.specs.Sights.{duty_event, kind_born, sight_of, sight_by}
 use Rattle.brc_world.specs.Starts.{start_by, first_start, unasking}
 use Rattle.brc_world.proofs.Acting.{alive_action}
-
--- ---- an agenda, whose last duty is done next
-
-pub any_reversed : (test : Duty → Bool) (duties : List Duty) → list_any test duties ≡ list_any test (reverse duties)
-any_reversed test duties =
-    list_any-IsPermutation test duties (reverse duties) (IsPermutation-reverse duties)
-
--- ---- starts
 
 module _ (layout : Layout) (t : ℕ) (memory : Address → ℕ) (a : StepActor) (choice : Choice) where
   -- the sight of a step that does the duty

@@ -15,13 +15,14 @@ use Rattle.brc_world.specs.declared.did.Did.{Did}
 use Rattle.brc_world.specs.declared.did.Did.TheVariants as answers
 use Rattle.brc_world.specs.declared.dispatch.Start.{Start}
 use Rattle.brc_world.specs.declared.dispatch.Start.TheVariants as starts
-use Rattle.brc_world.specs.Actors.{found_by, words_after, actor_after, memory_by, actor_by, faults_by, answer_by, CanDo, CanAct}
+use Rattle.brc_machine.specs.Sights.{found_by}
+use Rattle.brc_world.specs.Actors.{words_after, actor_after, memory_by, actor_by, faults_by, answer_by, CanDo, CanAct}
 use Rattle.brc_world.specs.declared.host_call.HostCall.TheVariants as calls
 use Rattle.brc_world.specs.Starts.{start_by, first_start, unasking, started}
 use Rattle.brc_model.specs.declared.layout.Layout.{Layout}
 use Rattle.brc_model.specs.declared.state.Exit.{Exit}
 use Rattle.brc_model.specs.StepMachine.{counted, closes}
-use Rattle.brc_world.specs.declared.faults.Faults.{Faults}
+use Rattle.brc_machine.specs.declared.faults.Faults.{Faults}
 
 -- the counts of faults after a step that does the duty and ends by the exit
 abbrev pub duty_counted : Exit → Duty → Faults → Faults

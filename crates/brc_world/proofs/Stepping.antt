@@ -29,7 +29,7 @@ use Rattle.brc_model.specs.Dispatch.{is_before_instruction, may_claim, may_stop,
 use Rattle.brc_model.specs.Machine.{mark_of}
 use Rattle.brc_model.specs.StepMachine.{of_thread, at_place, machine_by}
 use Rattle.brc_model.specs.Within.{IsWithin, StepsWithin}
-use Rattle.brc_world.specs.declared.faults.Faults.{Faults}
+use Rattle.brc_machine.specs.declared.faults.Faults.{Faults}
 use Rattle.brc_world.specs.Worlds.{choice_of}
 use Rattle.brc_world.specs.Actors.{memory_by, actor_by, faults_by, finds_mark, memory_claimed, actor_claimed, CanDo, CanAct, CanClaim, CanStop, action_stopped, silently}
 use Rattle.brc_model.specs.declared.layout.Layout.{Layout}

@@ -1,127 +1,16 @@
--- What a thread that stops keeps of its variables, and which of them it gives up first.
-use Rattle.std.proofs.Common.{◌≡◌, ℕ, zero, suc, ◌+◌, ◌<◌, ◌≤◌, Bool, true, false, cond, List, [], ◌∷◌, ◌++◌, length, Option, None, Some, inl, inr, refl, sym, ap, ◌∙◌, subst, arith}
+-- What the open calls of a thread that stops give up.
+use Rattle.std.proofs.Common.{◌≡◌, ℕ, suc, ◌+◌, ◌<◌, ◌≤◌, true, List, [], ◌∷◌, ◌++◌, length, Option, refl, sym, ap, ◌∙◌, subst, arith}
 use Rattle.std.proofs.Common.{append_assoc, append-nil}
-use Rattle.std.specs.Prelude.{if◌then◌else◌, is_some, slice_set, map, reverse, take, drop}
+use Rattle.std.specs.Prelude.{zero, is_some, slice_set, map, reverse, take, drop}
 use Rattle.std.specs.List.{slice_index_or}
-use Rattle.std.proofs.lemmas.Bool.Decides.{eqb_tells}
-use Rattle.std.proofs.lemmas.List.{ext_get_or, length-set, reverse-append, take_all, drop_all}
+use Rattle.std.proofs.lemmas.List.{reverse-append, take_all, drop_all}
 use Rattle.brc_lang.specs.declared.module.Function.{Function}
 use Rattle.brc_model.specs.declared.actor.OpenCall.{OpenCall as ModelCall}
 use Rattle.brc_model.specs.declared.state.State.{State}
-use Rattle.brc_model.specs.declared.state.VarState.{VarState}
-use Rattle.brc_model.specs.declared.state.VarState.TheVariants.{Empty}
-use Rattle.brc_model.specs.VarStates.{is_owned}
-use Rattle.brc_model.specs.Threads.{number_under, row_of}
-use Rattle.brc_model.specs.Actions.{owned_rows, first_named, given_up, owned_by, waiting_state}
+use Rattle.brc_model.specs.Threads.{number_under}
+use Rattle.brc_model.specs.Actions.{given_up, owned_by, waiting_state}
 use Rattle.brc_world.specs.declared.open_call.OpenCall.{OpenCall}
 use Rattle.brc_world.specs.OpenCalls.{open_of, calls_around, rows_of, AreKnown}
-use Rattle.brc_model.proofs.Dispatch.Grounded.{row_of-set_same, row_of-set_other}
-
--- ---- what a thread keeps
-
--- the row that the variable keeps
-abbrev pub kept_row : List VarState → List (Option ℕ) → ℕ → Option ℕ
-kept_row vars rows v = if is_owned (slice_index_or vars v Empty) then row_of rows v else None
-
--- Of the first variables only those have their rows that own a reference; the others are as they were.
-pub record KeepsOwned (vars : List VarState) (rows owned : List (Option ℕ)) (count : ℕ) : Type 0 where
-  pub long : length owned ≡ length rows
-  pub below : (v : ℕ) → v < count → row_of owned v ≡ kept_row vars rows v
-  pub rest : (v : ℕ) → count ≤ v → row_of owned v ≡ row_of rows v
-
-pub keeps_first : (vars : List VarState) (rows : List (Option ℕ)) → KeepsOwned vars rows rows 0
-keeps_first vars rows =
-    record { long = refl; below = λ v low. absurd (omega (arith, low)); rest = λ v past. refl }
-
-keeps_next : (vars : List VarState) (rows owned after : List (Option ℕ)) (count : ℕ) → KeepsOwned vars rows owned count
-    → length after ≡ length owned → row_of after count ≡ kept_row vars rows count
-    → ((v : ℕ) → (v ≡ count → ⊥) → row_of after v ≡ row_of owned v) → KeepsOwned vars rows after (count + 1)
-keeps_next vars rows owned after count old long here others = record {
-  long = long ∙ old.long;
-  below = λ v low. elim (eqb_tells v count) [
-    | inl this ↦ subst (λ (w : ℕ). row_of after w ≡ kept_row vars rows w) (sym this.1) here
-    | inr apart ↦ others v apart.1 ∙ old.below v (omega (arith, low, apart.1))
-  ];
-  rest = λ v past. others v (λ e. omega (arith, e, past)) ∙ old.rest v (omega (arith, past));
-}
-
--- A variable that owns a reference keeps its row.
-pub keeps_owned : (vars : List VarState) (rows owned : List (Option ℕ)) (count : ℕ) → KeepsOwned vars rows owned count
-    → is_owned (slice_index_or vars count Empty) ≡ true → KeepsOwned vars rows owned (count + 1)
-keeps_owned vars rows owned count old owns =
-    keeps_next vars rows owned owned count old refl
-    (old.rest count (omega arith) ∙ sym (ap (λ (b : Bool). cond b (row_of rows count) None) owns)) (λ v apart. refl)
-
--- Any other one loses it.
-pub keeps_none : (vars : List VarState) (rows owned : List (Option ℕ)) (count : ℕ) → KeepsOwned vars rows owned count
-    → is_owned (slice_index_or vars count Empty) ≡ false → count < length rows
-    → KeepsOwned vars rows (slice_set owned count None) (count + 1)
-keeps_none vars rows owned count old owns low =
-    keeps_next vars rows owned (slice_set owned count None) count old (length-set owned count None)
-    (row_of-set_same owned count None (omega (arith, low, old.long))
-    ∙ sym (ap (λ (b : Bool). cond b (row_of rows count) None) owns))
-    (λ v apart. row_of-set_other owned count v None apart)
-
-owned_long : (vars : List VarState) (rows : List (Option ℕ)) → length vars ≡ length rows
-    → length (owned_rows vars rows) ≡ length rows
-owned_long [] [] same = refl
-owned_long [] (row ∷ rows) same = absurd (omega (arith, same))
-owned_long (var ∷ vars) [] same = absurd (omega (arith, same))
-owned_long (var ∷ vars) (row ∷ rows) same = ap suc (owned_long vars rows (omega (arith, same)))
-
-owned_at : (vars : List VarState) (rows : List (Option ℕ)) (v : ℕ) → length vars ≡ length rows → v < length rows
-    → row_of (owned_rows vars rows) v ≡ kept_row vars rows v
-owned_at [] [] v same low = absurd (omega (arith, low))
-owned_at [] (row ∷ rows) v same low = absurd (omega (arith, same))
-owned_at (var ∷ vars) [] v same low = absurd (omega (arith, same))
-owned_at (var ∷ vars) (row ∷ rows) zero same low = refl
-owned_at (var ∷ vars) (row ∷ rows) (suc v) same low =
-    owned_at vars rows v (omega (arith, same)) (omega (arith, low))
-
--- After all variables just those that own a reference have their rows.
-pub keeps_all : (vars : List VarState) (rows owned : List (Option ℕ)) (count : ℕ) → KeepsOwned vars rows owned count
-    → length vars ≡ length rows → length rows ≤ count → owned ≡ owned_rows vars rows
-keeps_all vars rows owned count keeps same all =
-    ext_get_or None owned (owned_rows vars rows) (keeps.long ∙ sym (owned_long vars rows same))
-    (λ v low.
-    let within : v < length rows = omega (arith, low, keeps.long) in
-    keeps.below v (omega (arith, within, all)) ∙ sym (owned_at vars rows v same within))
-
--- ---- the first variable that names a row
-
-abbrev pub NamesNone : List (Option ℕ) → ℕ → Type 0
-NamesNone rows count = (v : ℕ) → v < count → is_some (row_of rows v) ≡ false
-
-pub names_none_yet : (rows : List (Option ℕ)) → NamesNone rows 0
-names_none_yet rows v low = absurd (omega (arith, low))
-
-pub names_none_more : (rows : List (Option ℕ)) (count : ℕ) → NamesNone rows count
-    → is_some (row_of rows count) ≡ false → NamesNone rows (count + 1)
-names_none_more rows count none here v low = elim (eqb_tells v count) [
-  | inl this ↦ subst (λ (w : ℕ). is_some (row_of rows w) ≡ false) (sym this.1) here
-  | inr apart ↦ none v (omega (arith, low, apart.1))
-]
-
-pub first_is : (rows : List (Option ℕ)) (v : ℕ) → NamesNone rows v → is_some (row_of rows v) ≡ true
-    → v ≡ first_named rows
-first_is [] v none some = absurd cc
-first_is (Some row ∷ rows) zero none some = refl
-first_is (None ∷ rows) zero none some = absurd cc
-first_is (Some row ∷ rows) (suc v) none some =
-    absurd (let wrong : true ≡ false = none 0 (omega arith) in cc)
-first_is (None ∷ rows) (suc v) none some =
-    ap suc (first_is rows v (λ w low. none (suc w) (omega (arith, low))) some)
-
-pub first_past : (rows : List (Option ℕ)) (count : ℕ) → length rows ≤ count → NamesNone rows count
-    → length rows ≡ first_named rows
-first_past [] count all none = refl
-first_past (Some row ∷ rows) count all none =
-    absurd (let wrong : true ≡ false = none 0 (omega (arith, all)) in cc)
-first_past (None ∷ rows) (suc count) all none =
-    ap suc (first_past rows count (omega (arith, all)) (λ w low. none (suc w) (omega (arith, low))))
-first_past (None ∷ rows) zero all none = absurd (omega (arith, all))
-
--- ---- what the open calls give up
 
 -- the items, pushed one after another onto the others
 abbrev onto : {A : Type 0} → List A → List A → List A

@@ -10,8 +10,9 @@ use Rattle.brc_model.specs.StepMachine.{StepMachine, of_thread, next_machine}
 use Rattle.brc_model.specs.declared.event.WordEvent.{WordEvent}
 use Rattle.brc_model.specs.Trace.{is_word, made_by, made_at, events_on}
 use Rattle.brc_model.specs.World.{World, world_of, step}
-use Rattle.brc_world.specs.declared.event.Sight.{Sight}
-use Rattle.brc_world.specs.Sights.{sight_by, listed, sights_at, sights_on, words_of, words_shown, words_seen}
+use Rattle.brc_machine.specs.declared.sight.Sight.{Sight}
+use Rattle.brc_machine.specs.Sights.{sight_by, listed, words_of, words_shown}
+use Rattle.brc_world.specs.Sights.{sights_at, sights_on, words_seen}
 
 shown_both : (one more : List Sight) → words_shown (one ++ more) ≡ words_shown one ++ words_shown more
 shown_both [] more = refl

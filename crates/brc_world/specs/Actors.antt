@@ -5,7 +5,7 @@ use Rattle.brc_model.specs.declared.actor.Status.{Status}
 use Rattle.brc_model.specs.declared.actor.Status.TheVariants.{Running, Leaving, Gone}
 use Rattle.brc_model.specs.declared.address.Address.{Address}
 use Rattle.brc_model.specs.declared.duty.Duty.{Duty}
-use Rattle.brc_model.specs.declared.duty.Duty.TheVariants.{Settle, Scan, TakeFound, ClaimMark}
+use Rattle.brc_model.specs.declared.duty.Duty.TheVariants.{ClaimMark}
 use Rattle.brc_model.specs.declared.actor.Context.{Context}
 use Rattle.brc_model.specs.declared.actor.Place.{Place}
 use Rattle.brc_model.specs.declared.actor.Place.TheVariants.{Idle, InCall, Inside, Stopping, Exiting}
@@ -22,9 +22,10 @@ use Rattle.brc_model.specs.Actions.{StepActor, Action, Skip, Stuck, Silent, Call
 use Rattle.brc_model.specs.Dispatch.{may_claim, may_stop}
 use Rattle.brc_model.specs.StepMachine.{at_place, step_actor, counted, closes}
 use Rattle.brc_model.specs.World.{finds_locked}
+use Rattle.brc_machine.specs.declared.faults.Faults.{Faults}
+use Rattle.brc_machine.specs.Sights.{found_by}
 use Rattle.brc_world.specs.declared.did.Did.{Did}
 use Rattle.brc_world.specs.declared.did.Did.TheVariants as answers
-use Rattle.brc_world.specs.declared.faults.Faults.{Faults}
 use Rattle.brc_world.specs.declared.thread.Mode.{Mode}
 use Rattle.brc_world.specs.declared.thread.Mode.TheVariants as modes
 use Rattle.brc_world.specs.declared.thread.Thread.{Thread}
@@ -75,18 +76,7 @@ with_agenda a agenda =
       };
     }
 
--- a duty that needs no step: to settle an empty chain, to scan no rows, or to take no marks
-abbrev pub is_idle : ℕ → Duty → Bool
-is_idle head Settle = head == 0
-is_idle head (Scan w n) = n == 0
-is_idle head (TakeFound w marks) = marks == 0
-is_idle head _ = false
-
 -- ---- a step of one thread
-
--- the value that the duty finds in its word
-abbrev pub found_by : Layout → ℕ → (Address → ℕ) → StepActor → Duty → ℕ
-found_by layout t memory a d = memory (address_of layout t a.actor.head d)
 
 -- the words after a duty
 abbrev pub words_after : Layout → ℕ → (Address → ℕ) → StepActor → Duty → Address → ℕ

@@ -1,5 +1,3 @@
-pub mod Storage
-pub mod FirstWords
 pub mod OpenCalls
 pub mod Actors
 pub mod Questions

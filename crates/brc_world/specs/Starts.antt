@@ -18,6 +18,7 @@ use Rattle.brc_model.specs.Dispatch.{dispatch}
 use Rattle.brc_model.specs.Layout.{root_row}
 use Rattle.brc_model.specs.StepMachine.{at_place}
 use Rattle.brc_model.specs.Threads.{function_in}
+use Rattle.brc_machine.specs.Sights.{point_at}
 use Rattle.brc_world.specs.declared.dispatch.Start.{Start}
 use Rattle.brc_world.specs.declared.dispatch.Start.TheVariants as starts
 use Rattle.brc_world.specs.declared.thread.Thread.{Thread}
@@ -64,14 +65,6 @@ left_at (InCall context at variables) = context.left
 left_at (Inside context at variables stage) = context.left
 left_at (Stopping lock calls) = 0
 left_at Exiting = 0
-
--- the number of the place's instruction, if it is in a call
-abbrev pub point_at : Place → ℕ
-point_at (Idle left) = 0
-point_at (InCall context at variables) = at
-point_at (Inside context at variables stage) = at
-point_at (Stopping lock calls) = 0
-point_at Exiting = 0
 
 -- Returns the start of a step with the action, but for what it asks of the host or of the word found. A lock that is
 -- free leads to the place in a call that the action names.

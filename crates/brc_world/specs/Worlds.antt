@@ -10,8 +10,8 @@ use Rattle.brc_model.specs.World.{World, IsReachable}
 use Rattle.brc_model.specs.Actions.{StepActor}
 use Rattle.brc_check.specs.Accepted.{Accepted}
 use Rattle.brc_check.specs.Tables.{states_of}
-use Rattle.brc_world.specs.declared.faults.Faults.{Faults}
-use Rattle.brc_world.specs.Storage.{Columns, word_in}
+use Rattle.brc_machine.specs.declared.faults.Faults.{Faults}
+use Rattle.brc_machine.specs.Storage.{Columns, word_in}
 use Rattle.brc_model.specs.Layout.{row_count}
 use Rattle.brc_model.specs.Limits.{cell_limit, immortal_limit, number_limit}
 

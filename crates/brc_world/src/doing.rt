@@ -10,21 +10,20 @@ ghost use Rattle.brc_model.specs.Dispatch.{status_action};
 ghost use Rattle.brc_model.specs.Limits.{worker_limit, total_limit};
 ghost use Rattle.brc_model.specs.StepMachine.{at_place};
 ghost use Rattle.brc_model.specs.Within.{IsThere, Suits};
-ghost use Rattle.brc_world.specs.Storage.{word_in, AreOf, IsStored};
-ghost use Rattle.brc_world.specs.Actors.{actor_of, context_in, found_by, actor_after, memory_by, actor_by, faults_by, waits, answer_by, CanAct};
+ghost use Rattle.brc_machine.specs.Storage.{word_in, AreOf, IsStored};
+ghost use Rattle.brc_machine.specs.Sights.{found_by};
+ghost use Rattle.brc_world.specs.Actors.{actor_of, context_in, actor_after, memory_by, actor_by, faults_by, waits, answer_by, CanAct};
 ghost use Rattle.brc_world.specs.Starts.{let_in};
 
-use crate::agenda::{pass_over, push};
 use crate::did::Did;
 use crate::dispatch::{Start, dispatch};
-use crate::faults::Faults;
 use crate::host_call::end_call;
-use crate::memory::Memory;
-use crate::no_memory::NoMemory;
 use crate::question::answer;
 use crate::thread::{ROOM, Thread};
 use brc_effect::{Blocks, Doer, access_of, address_of};
 use brc_lang::Function;
+use brc_machine::agenda::{pass_over, push};
+use brc_machine::{Faults, Memory, NoMemory};
 use brc_model::{Duty, Exit, Status};
 use brc_word::values::FREE;
 

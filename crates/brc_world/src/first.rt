@@ -4,10 +4,10 @@ ghost use Rattle.brc_model.specs.Limits.{block_limit};
 ghost use Rattle.brc_model.specs.StepMachine.{main_actor, worker_actor};
 ghost use Rattle.brc_world.specs.Actors.{actor_of};
 
-use crate::no_memory::NoMemory;
 use crate::open_calls::OpenCalls;
 use crate::thread::{Mode, ROOM, Thread};
 use brc_effect::rows::block_size;
+use brc_machine::NoMemory;
 use brc_model::{Call, Layout, Status};
 use std::alloc::Global;
 

@@ -2,18 +2,13 @@
 //! one word at most.
 #![tactic(auto)]
 
-mod agenda;
 mod claim_and_stop;
 mod did;
 mod dispatch;
 mod doing;
-mod event;
-mod faults;
 mod first;
 mod host_call;
 mod laws;
-mod memory;
-mod no_memory;
 mod open_call;
 mod open_calls;
 mod peek;
@@ -22,15 +17,13 @@ mod run;
 mod scratch;
 mod tally;
 mod thread;
-mod variables;
 mod world;
 
+pub use brc_machine::{Event, ExitPart, NoMemory, Part, Sight};
 pub use brc_model::{Call, Choice};
 pub use brc_report::{Left, Tally};
 pub use brc_schedule::{PlannedCall, Schedule, Steps, read_schedule};
 pub use did::Did;
-pub use event::{Event, ExitPart, Part, Sight};
 pub use laws::{runs_follow_machines, sights_are_traces, tallies_follow_machines};
-pub use no_memory::NoMemory;
 pub use scratch::Scratch;
 pub use world::World;

@@ -7,9 +7,9 @@ ghost use Rattle.brc_lang.specs.Limits.{depth_limit};
 ghost use Rattle.brc_model.specs.Threads.{number_under};
 ghost use Rattle.brc_world.specs.OpenCalls.{open_of, rows_of, names_row};
 
-use crate::no_memory::NoMemory;
 use crate::open_call::OpenCall;
-use crate::variables::names_some;
+use brc_machine::NoMemory;
+use brc_machine::variables::names_some;
 use std::alloc::Global;
 use std::fmt;
 use std::marker::Model;

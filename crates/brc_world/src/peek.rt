@@ -1,22 +1,18 @@
 //! A look at a thread's next step: what the step does is found out without taking it.
 
-ghost use Rattle.std.specs.Prelude.{◌≡◌, ◌<◌, ◌≤◌, length, reverse, IfOk, None};
-ghost use Rattle.std.specs.List.{list_any};
+ghost use Rattle.std.specs.Prelude.{◌≡◌, ◌<◌, ◌≤◌, length, IfOk, None};
 ghost use Rattle.brc_model.specs.Dispatch.{action_of, status_action};
 ghost use Rattle.brc_model.specs.Duties.{address_of};
 ghost use Rattle.brc_model.specs.Threads.{number_in};
 ghost use Rattle.brc_model.specs.Limits.{worker_limit, total_limit};
 ghost use Rattle.brc_model.specs.Within.{IsThere};
 ghost use Rattle.brc_world.specs.Actors.{actor_of, CanDo, CanAct};
-ghost use Rattle.brc_world.specs.Sights.{is_leave, is_scan, leaves_next, exit_part, next_part, begins_at, duty_event, kind_born, sight_of, sight_by};
-ghost use Rattle.brc_world.specs.Storage.{word_in, AreOf};
+ghost use Rattle.brc_machine.specs.Sights.{next_part, begins_at, duty_event, kind_born, sight_of, sight_by};
+ghost use Rattle.brc_machine.specs.Storage.{word_in, AreOf};
 ghost use Rattle.brc_check.specs.Tables.{states_of};
 
 use crate::claim_and_stop::{may_claim, stops};
 use crate::dispatch::{Start, first_duty};
-use crate::event::{Event, ExitPart, Part, Sight};
-use crate::memory::Memory;
-use crate::no_memory::NoMemory;
 use crate::scratch::copy_thread;
 use crate::tally::kind_numbered;
 use crate::thread::{Mode, Thread};
@@ -24,6 +20,8 @@ use crate::world::exit_of;
 use brc_check::Checked;
 use brc_effect::{Blocks, access_of, address_of};
 use brc_lang::{Function, Kind};
+use brc_machine::exits::exit_part;
+use brc_machine::{Event, ExitPart, Memory, NoMemory, Part, Sight};
 use brc_model::{Address, Choice, Duty, Layout, Status};
 use brc_word::kind_number;
 
@@ -241,53 +239,4 @@ fn next_part(thread: &Thread) -> Option<Part>
         Mode::InCall | Mode::Inside(_) if rests => Some(Part::Instruction { at: thread.at }),
         _ => None,
     }
-}
-
-/// Returns the part of its exit in which a thread with this agenda is. The last duty is done next.
-#[tactic(auto, using(crate::proofs::Peeking::any_reversed))]
-fn exit_part(agenda: &[Duty]) -> ExitPart
-    ensures { result ≡ exit_part (reverse agenda.now) }
-{
-    if leaves_next(agenda) {
-        ExitPart::Leave
-    } else if leaves_later(agenda) {
-        ExitPart::Root
-    } else if scans(agenda) {
-        ExitPart::Marks
-    } else {
-        ExitPart::Gone
-    }
-}
-
-fn leaves_next(agenda: &[Duty]) -> bool
-    ensures { result ≡ leaves_next (reverse agenda.now) }
-{
-    match agenda.last() {
-        Some(duty) => is_leave(*duty),
-        None => false,
-    }
-}
-
-fn leaves_later(agenda: &[Duty]) -> bool
-    ensures { result ≡ list_any is_leave agenda.now }
-{
-    agenda.iter().any(|duty| is_leave(*duty))
-}
-
-fn scans(agenda: &[Duty]) -> bool
-    ensures { result ≡ list_any is_scan agenda.now }
-{
-    agenda.iter().any(|duty| is_scan(*duty))
-}
-
-fn is_leave(duty: Duty) -> bool
-    ensures { result ≡ is_leave duty }
-{
-    matches!(duty, Duty::Leave { .. })
-}
-
-fn is_scan(duty: Duty) -> bool
-    ensures { result ≡ is_scan duty }
-{
-    matches!(duty, Duty::Scan { .. })
 }

@@ -6,8 +6,8 @@ ghost use Rattle.brc_world.specs.Worlds.{model_of};
 ghost use Rattle.brc_world.specs.Runs.{world_after, events_of_line, events_of, StandsWithin};
 
 use crate::did::Did;
-use crate::no_memory::NoMemory;
 use crate::world::World;
+use brc_machine::NoMemory;
 use brc_schedule::{Schedule, Steps};
 
 impl World<'_> {

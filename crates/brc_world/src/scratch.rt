@@ -3,9 +3,9 @@
 ghost use Rattle.std.specs.Prelude.{◌≡◌, ◌+◌, ◌≤◌, vec_len, vec_capacity, OnOk};
 ghost use Rattle.brc_world.specs.Actors.{actor_of};
 
-use crate::no_memory::NoMemory;
 use crate::open_calls::OpenCalls;
 use crate::thread::{Mode, ROOM, Thread};
+use brc_machine::NoMemory;
 use brc_model::Status;
 use std::alloc::Global;
 

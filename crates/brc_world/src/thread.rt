@@ -10,9 +10,9 @@ ghost use Rattle.brc_world.specs.OpenCalls.{open_of, all_rows, mode_stopped, hol
 
 use crate::open_call::{OpenCall, Turns};
 use crate::open_calls::OpenCalls;
-use crate::variables::{Variables, entry_variables, names_some, row_of};
 use brc_effect::Change;
 use brc_lang::Variable;
+use brc_machine::variables::{Variables, entry_variables, names_some, row_of};
 use brc_model::{Duty, Holding, Stage, Status};
 use std::fmt;
 

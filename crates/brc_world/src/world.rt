@@ -16,12 +16,8 @@ ghost use Rattle.brc_model.specs.Layout.{row_count};
 use crate::claim_and_stop::{claim, stop};
 use crate::did::Did;
 use crate::doing::act;
-use crate::event::Sight;
-use crate::faults::Faults;
 use crate::first::first_threads;
 use crate::laws::tallies_follow_machines;
-use crate::memory::{Memory, first_memory};
-use crate::no_memory::NoMemory;
 use crate::peek::peek;
 use crate::scratch::Scratch;
 use crate::tally::{kind_numbered, running_in};
@@ -30,6 +26,7 @@ use brc_check::Checked;
 use brc_effect::rows::is_immortal_row;
 use brc_effect::{Blocks, layout_of};
 use brc_lang::Sequence;
+use brc_machine::{Faults, Memory, NoMemory, Sight, first_memory};
 use brc_model::{
     Address, Call, Choice, Exit, Status, steps_are_within, steps_move, stops_give_up_what_is_owned,
     worlds_are_small, worlds_lead_on,

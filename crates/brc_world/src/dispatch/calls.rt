@@ -11,8 +11,8 @@ use crate::dispatch::Start;
 use crate::dispatch::references::release;
 use crate::open_call::OpenCall;
 use crate::thread::Thread;
-use crate::variables::{all_named, kept_rows, passed_variables};
 use brc_lang::{Arguments, Variable};
+use brc_machine::variables::{all_named, kept_rows, passed_variables};
 
 /// Begins `call`: the thread is before the first instruction of the function called. What the call steals is the
 /// function's from then on, so it is no longer in the caller's variables (C API manual, Reference Count Details: the

@@ -8,8 +8,8 @@ ghost use Rattle.brc_world.specs.Starts.{stopped_action, HasDispatched};
 
 use crate::dispatch::Start;
 use crate::thread::Thread;
-use crate::variables::{first_named, names_some};
 use brc_lang::Variable;
+use brc_machine::variables::{first_named, names_some};
 use brc_model::Duty;
 
 /// Goes on after a stop: the thread unlocks the row, if there is one, and else gives up its next reference. It unlocks

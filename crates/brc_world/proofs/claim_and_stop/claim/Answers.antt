@@ -1,6 +1,6 @@
 -- A claim that finds a mark takes it.
 use Rattle.std.proofs.Common.{◌≡◌, true, sym, ◌∙◌}
-use Rattle.brc_world.specs.Storage.{word_in}
+use Rattle.brc_machine.specs.Storage.{word_in}
 use Rattle.brc_world.specs.Actors.{actor_of, finds_mark}
 use Rattle.brc_world.proofs.Claiming.{claim_did, claim_words, claim_actor}
 use Rattle.brc_world.proofs.claim_and_stop.claim.Goals as goal

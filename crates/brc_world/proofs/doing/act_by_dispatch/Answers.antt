@@ -7,7 +7,7 @@ use Rattle.brc_world.proofs.Acting.{agenda_few, HasStarted, dispatched, stuck_st
 use Rattle.brc_world.specs.declared.dispatch.Start.{Start}
 use Rattle.brc_world.specs.declared.dispatch.Start.TheVariants as starts
 use Rattle.brc_model.specs.StepMachine.{at_place}
-use Rattle.brc_world.specs.Storage.{word_in}
+use Rattle.brc_machine.specs.Storage.{word_in}
 use Rattle.brc_world.specs.Actors.{actor_of, actor_after, CanDo}
 use Rattle.brc_world.specs.Starts.{place_after}
 use Rattle.brc_world.proofs.doing.act_by_dispatch.Goals.{After-dispatch}

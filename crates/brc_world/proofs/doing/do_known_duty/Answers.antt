@@ -3,9 +3,9 @@ use Rattle.std.specs.Prelude.{length}
 use Rattle.std.proofs.Common.{ℕ, ap, sym, ◌∙◌, subst, arith}
 use Rattle.brc_model.specs.Machine.{is_running}
 use Rattle.brc_model.specs.Within.{Suits}
-use Rattle.brc_world.specs.Storage.{word_in}
+use Rattle.brc_machine.specs.Storage.{word_in}
 use Rattle.brc_effect.proofs.Indices.{indexed}
-use Rattle.brc_world.proofs.Storing.{has_word}
+use Rattle.brc_machine.proofs.Storing.{has_word}
 use Rattle.brc_world.proofs.doing.do_known_duty.Goals as goal
 
 pub address_of-address-requires : goal.address_of-address-requires

@@ -5,7 +5,7 @@ use Rattle.brc_model.specs.Dispatch.{agenda_action}
 use Rattle.brc_world.specs.declared.dispatch.Start.TheVariants.{Doing, Asking}
 use Rattle.brc_world.specs.Actors.{actor_of, OpensFew}
 use Rattle.brc_world.specs.Starts.{first_start}
-use Rattle.brc_world.specs.Storage.{word_in}
+use Rattle.brc_machine.specs.Storage.{word_in}
 use Rattle.brc_world.proofs.Acting.{agenda_few}
 use Rattle.brc_world.proofs.Peeking.{start_seen, start_can}
 use Rattle.brc_world.proofs.peek.peek_ahead.Goals.{In-Doing, In-Asking}

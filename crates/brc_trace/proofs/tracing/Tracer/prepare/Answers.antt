@@ -1,5 +1,5 @@
 use Rattle.std.proofs.Common.{ℕ, ◌∙◌, ap, Option}
-use Rattle.brc_world.specs.declared.event.Sight.{Sight}
+use Rattle.brc_machine.specs.declared.sight.Sight.{Sight}
 use Rattle.brc_world.specs.Sights.{sight_at}
 use Rattle.brc_world.specs.Worlds.{model_of}
 use Rattle.brc_trace.specs.TraceText.{past_by, entries_by, lines_text}

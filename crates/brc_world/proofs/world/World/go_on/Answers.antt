@@ -4,7 +4,7 @@ use Rattle.brc_model.specs.declared.actor.Status.TheVariants.{Gone}
 use Rattle.brc_model.specs.declared.thread.Choice.TheVariants.{Ok}
 use Rattle.brc_model.specs.Dispatch.{status_action}
 use Rattle.brc_world.specs.Actors.{actor_of, memory_by, actor_by, faults_by, waits}
-use Rattle.brc_world.specs.Storage.{word_in}
+use Rattle.brc_machine.specs.Storage.{word_in}
 use Rattle.brc_world.specs.Worlds.{model_of, choice_of}
 use Rattle.brc_world.proofs.Outcomes.{contents, are_of, Turned, Outcome, outcome, answered, refusal, thread_at}
 use Rattle.brc_world.proofs.Answering.{going_answers}

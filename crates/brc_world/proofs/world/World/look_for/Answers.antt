@@ -3,7 +3,7 @@ use Rattle.std.specs.Prelude.{slice_get}
 use Rattle.brc_model.specs.World.{World, step}
 use Rattle.brc_model.specs.declared.thread.Choice.TheVariants.{Claim}
 use Rattle.brc_world.specs.Actors.{actor_of, finds_mark, memory_claimed, actor_claimed}
-use Rattle.brc_world.specs.Storage.{word_in}
+use Rattle.brc_machine.specs.Storage.{word_in}
 use Rattle.brc_world.specs.Worlds.{model_of}
 use Rattle.brc_world.proofs.Outcomes.{contents, are_of, Turned, Outcome, outcome, on_ok, on_err, answered, refusal, thread_at}
 use Rattle.brc_world.proofs.Answering.{claim_answers}

@@ -4,10 +4,10 @@ use Rattle.std.specs.Prelude.{slice_get}
 use Rattle.brc_model.specs.Actions.{StepActor}
 use Rattle.brc_model.specs.Dispatch.{action_of}
 use Rattle.brc_model.specs.StepMachine.{of_thread}
-use Rattle.brc_world.specs.declared.event.Sight.{Sight}
-use Rattle.brc_world.specs.declared.no_memory.NoMemory.{NoMemory}
+use Rattle.brc_machine.specs.declared.sight.Sight.{Sight}
+use Rattle.brc_machine.specs.declared.no_memory.NoMemory.{NoMemory}
 use Rattle.brc_world.specs.Actors.{actor_of}
-use Rattle.brc_world.specs.Sights.{sight_by}
+use Rattle.brc_machine.specs.Sights.{sight_by}
 use Rattle.brc_world.specs.Worlds.{model_of}
 use Rattle.brc_world.proofs.Outcomes.{contents, are_of, thread_at}
 use Rattle.brc_model.specs.World.{step}

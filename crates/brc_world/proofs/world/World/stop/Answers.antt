@@ -3,7 +3,7 @@ use Rattle.std.specs.Prelude.{slice_get}
 use Rattle.brc_model.specs.declared.thread.Choice.TheVariants.{Stop}
 use Rattle.brc_model.specs.World.{World}
 use Rattle.brc_world.specs.Actors.{actor_of, action_stopped, silently}
-use Rattle.brc_world.specs.Storage.{word_in}
+use Rattle.brc_machine.specs.Storage.{word_in}
 use Rattle.brc_world.specs.Worlds.{model_of}
 use Rattle.brc_world.proofs.Outcomes.{contents, Turned, Outcome, outcome, answered, thread_at}
 use Rattle.brc_world.proofs.Answering.{stop_answers}

@@ -1,0 +1,5 @@
+pub mod Storing
+pub mod FirstWords
+pub mod Arguments
+pub mod OwnedRows
+pub mod Agendas

@@ -1,0 +1,4 @@
+pub mod Storage
+pub mod FirstWords
+pub mod Agendas
+pub mod Sights

@@ -1,0 +1,18 @@
+//! What step machines are made of: the words that threads share, in columns; agendas, variables and the counts of
+//! faults; and what a step looks like from outside.
+//!
+//! The step world is made of these, and so is the plain machine, which steps refused modules too.
+#![tactic(auto)]
+
+pub mod agenda;
+pub mod exits;
+mod faults;
+mod memory;
+mod no_memory;
+mod sight;
+pub mod variables;
+
+pub use faults::Faults;
+pub use memory::{Memory, first_memory};
+pub use no_memory::NoMemory;
+pub use sight::{Event, ExitPart, Part, Sight};

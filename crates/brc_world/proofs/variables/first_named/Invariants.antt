@@ -1,5 +1,0 @@
-use Rattle.brc_world.proofs.Stopping.{NamesNone}
-use Rattle.brc_world.proofs.variables.first_named.Given as goal
-
-abbrev pub invariant-loop-variable : goal.invariant-loop-variable
-invariant-loop-variable l = NamesNone l.variables l.variable

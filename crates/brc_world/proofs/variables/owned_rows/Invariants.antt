@@ -1,5 +1,0 @@
-use Rattle.brc_world.proofs.Stopping.{KeepsOwned}
-use Rattle.brc_world.proofs.variables.owned_rows.Given as goal
-
-abbrev pub invariant-loop-variable : goal.invariant-loop-variable
-invariant-loop-variable l = KeepsOwned l.vars l.variables l.owned l.variable

@@ -1,6 +1,0 @@
-use Rattle.std.proofs.Common.{◌≡◌}
-use Rattle.brc_world.proofs.Arguments.{passed_to}
-use Rattle.brc_world.proofs.variables.passed_variables.Given as goal
-
-abbrev pub invariant-loop-number : goal.invariant-loop-number
-invariant-loop-number l = l.passed ≡ passed_to l.number l.variables l.arguments
