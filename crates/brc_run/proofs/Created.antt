@@ -41,7 +41,7 @@ all_pass p a zero low each =
 all_pass p a (suc n) low each =
     let next : a + suc n ≡ (a + n) + 1 = omega arith in
     let before = all_pass p a n low (λ i below. each i (omega (arith, below))) in
-    let more = one_more p (a + n) (omega (arith, low)) (each n (omega arith)) in
+    let more = one_more p root_row (a + n) (omega (arith, low)) (each n (omega arith)) in
     ap (λ (k : ℕ). count_by p (rows_below k)) next ∙ omega (arith, before, more)
 
 -- and rows that all fail it count nothing.
@@ -51,7 +51,7 @@ none_pass p a zero low each = let here : a + 0 ≡ a = omega arith in ap (λ (k 
 none_pass p a (suc n) low each =
     let next : a + suc n ≡ (a + n) + 1 = omega arith in
     let before = none_pass p a n low (λ i below. each i (omega (arith, below))) in
-    let same = none_more p (a + n) (omega (arith, low)) (each n (omega arith)) in
+    let same = none_more p root_row (a + n) (omega (arith, low)) (each n (omega arith)) in
     ap (λ (k : ℕ). count_by p (rows_below k)) next ∙ omega (arith, before, same)
 
 -- Of n rows from a on exactly the first `used` pass.
@@ -148,7 +148,7 @@ module _ (m : Module) (end : EndState) (workers rows : ℕ) (same : end.layout �
   blocks : (d : Totals) (k : ℕ) → k ≤ workers → counts (2 + k * rows) ≡ 1 + sum_by created (take k totals)
   blocks d zero low =
       let here : 2 + 0 * rows ≡ 1 + 1 = omega arith in
-      ap counts here ∙ one_more (is_created end) 1 (omega arith) (first root_row (inl refl) (omega arith))
+      ap counts here ∙ one_more (is_created end) root_row 1 (omega arith) (first root_row (inl refl) (omega arith))
   blocks d (suc k) low =
       let before = blocks d k (omega (arith, low)) in
       let here = block k d low in

@@ -1,3 +1,4 @@
 mod Rows
+mod Tallied
 mod Created
 pub mod Opening

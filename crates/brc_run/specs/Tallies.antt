@@ -10,9 +10,13 @@ use Rattle.brc_report.specs.declared.tally.Tally.{Tally}
 use Rattle.brc_report.specs.declared.tally.Left.{Left}
 use Rattle.brc_work.specs.declared.totals.Totals.{Totals}
 
+-- the rows from the first on that are below the last
+abbrev pub rows_between : ℕ → ℕ → List ℕ
+rows_between first last = range_with_len first (last - first)
+
 -- all rows but none's
 abbrev pub rows_behind_none : EndState → List ℕ
-rows_behind_none end = range_with_len root_row (row_count end.layout - root_row)
+rows_behind_none end = rows_between root_row (row_count end.layout)
 
 -- Says whether the row's object is counted, and was born or was there from the start.
 abbrev pub is_created : EndState → ℕ → Bool
@@ -22,7 +26,11 @@ is_created end row = not (is_immortal_row end.layout row) && was_born end row
 abbrev pub has_closed : EndState → ℕ → Bool
 has_closed end row = not (is_immortal_row end.layout row) && is_closed end row
 
--- Says whether it was created and isn't closed.
+-- Says whether an object was born in the row, or was there from the start, and isn't closed.
+abbrev pub is_open : EndState → ℕ → Bool
+is_open end row = was_born end row && not (is_closed end row)
+
+-- Says whether the row's object is counted, was created and isn't closed.
 abbrev pub is_left : EndState → ℕ → Bool
 is_left end row = is_created end row && not (is_closed end row)
 

@@ -12,6 +12,7 @@ use crate::error::RunFault;
 use crate::plan::Plan;
 use crate::tally::tally_of;
 use brc_check::Checked;
+use brc_effect::layout_of;
 use brc_heap::{Hand, Heap};
 use brc_host::Host;
 use brc_report::Tally;
@@ -70,7 +71,8 @@ pub fn run<R: Threads + Wait + Sync, T: Send + Drop, H: Host<Res = T> + Send, G:
     let end = finished(rt, heap, main);
     let totals = counted?;
     let threads = u32::from(plan.threads);
-    Ok(tally_of(alloc, &end, threads, totals.as_slice(), failed)?)
+    let layout = layout_of(checked.module(), plan.threads, plan.rows);
+    Ok(tally_of(alloc, &end, layout, threads, totals.as_slice(), failed)?)
 }
 
 /// Joins the hands of workers that are gone. Returns what each worker has counted.
