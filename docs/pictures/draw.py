@@ -492,6 +492,8 @@ WAY = {
     "brc_pages": ("for `brc explain --code`: what it means if v1 owns none", "crates/brc_pages/src/check_pages.rt"),
     "brc_trace": ("for `brc step --trace`: a line for each of its steps", "crates/brc_trace/src/tracing.rt"),
     "brc_world": ("for `brc step`: dispatches it, and does it step by step", "crates/brc_world/src/dispatch.rt"),
+    "brc_explore": ("not on the way: finds a run that goes wrong", "crates/brc_explore/src/search.rt"),
+    "brc_machine": ("has the words and the agenda of the step world", "crates/brc_machine/src/memory.rt"),
     "brc_effect": ("says of each such step what it stores and what follows", "crates/brc_effect/src/effect/release.rt"),
     "brc_schedule": ("for `brc step`: reads which thread takes the steps", "crates/brc_schedule/src/line.rt"),
     "brc_run": ("for `brc run`: lets workers run, and reads the heap's end", "crates/brc_run/src/running.rt"),

@@ -1,0 +1,9 @@
+pub mod WrongRuns
+pub mod Places
+pub mod Bags
+pub mod Acts
+pub mod Heres
+pub mod Lives
+pub mod Threads
+pub mod Plains
+pub mod Sights
