@@ -1,0 +1,182 @@
+//! The bars of a picture: the objects that its steps touch.
+
+use crate::life::{Life, Lives, touched_row, turn_of};
+use crate::note::{Note, left_by};
+use brc_effect::rows::block_of;
+use brc_model::{Duty, Layout};
+use brc_trace::Entry;
+use brc_world::Event;
+use std::alloc::{AllocError, Global};
+
+/// The bar of an object.
+#[derive(Drop)]
+pub struct Bar {
+    pub row: u32,
+    /// The thread that owns the object until its counts are merged.
+    pub owner: u32,
+    /// Its first line.
+    pub first: u32,
+    /// The first line below it.
+    pub end: u32,
+    /// Which column it is in, from 0, or `None` if there are too many beside it.
+    pub column: Option<u32>,
+    pub bands: Vec<Band>,
+    pub notes: Vec<Note>,
+    life: Life,
+    since: u32,
+}
+
+/// Some lines in which an object has one state.
+#[derive(Clone, Copy, Debug)]
+pub struct Band {
+    pub life: Life,
+    pub first: u32,
+    pub end: u32,
+}
+
+impl Bar {
+    /// Returns the bar of an object that the entry's step, in this line, is the first to touch. The object is as old as
+    /// the picture, unless the step is of its birth.
+    fn new(alloc: Global, row: u32, line: u32, entry: &Entry, before: &Lives) -> Bar {
+        let (first, life) = if is_birth(&entry.sight.event) {
+            (line, Life::Unborn)
+        } else {
+            (0, before.of(row))
+        };
+        Bar {
+            row,
+            owner: owner_of(entry.sight.layout, row),
+            first,
+            end: first,
+            column: None,
+            bands: Vec::new(alloc),
+            notes: Vec::new(alloc),
+            life,
+            since: first,
+        }
+    }
+
+    /// From this line on the object has this state.
+    fn turn(&mut self, line: u32, life: Life) -> Result<(), AllocError> {
+        self.finish(line)?;
+        self.life = life;
+        self.since = line;
+        Ok(())
+    }
+
+    /// Ends the band of the object's state above this line.
+    fn finish(&mut self, line: u32) -> Result<(), AllocError> {
+        if self.since < line {
+            let band = Band {
+                life: self.life,
+                first: self.since,
+                end: line,
+            };
+            self.bands.push(band)?;
+        }
+        self.end = line;
+        Ok(())
+    }
+}
+
+fn is_birth(event: &Event) -> bool {
+    match event {
+        Event::Does { duty, .. } => matches!(
+            *duty,
+            Duty::BirthKind { .. } | Duty::BirthSlot { .. } | Duty::BirthLocal { .. }
+        ),
+        Event::Silent | Event::Calls(_) => false,
+    }
+}
+
+/// Returns the thread in whose block the row is.
+fn owner_of(layout: Layout, row: u32) -> u32 {
+    if layout.rows == 0 {
+        return 0;
+    }
+    block_of(layout, row)
+}
+
+/// The bars, as they grow by the steps.
+#[derive(Drop)]
+pub struct Bars {
+    bars: Vec<Bar>,
+}
+
+impl Bars {
+    pub fn new(alloc: Global) -> Bars {
+        Bars {
+            bars: Vec::new(alloc),
+        }
+    }
+
+    /// Shows what the entry's step, in this line, does with objects.
+    pub fn add(
+        &mut self,
+        alloc: Global,
+        line: u32,
+        entry: &Entry,
+        before: &Lives,
+    ) -> Result<(), AllocError> {
+        let event = &entry.sight.event;
+        if let Some(row) = touched_row(event) {
+            self.want(alloc, row, line, entry, before)?;
+        }
+        if let Some((row, left)) = left_by(entry.thread, event) {
+            self.note(row, Note { line, left })?;
+        }
+        if let Some((row, life)) = turn_of(entry.sight.exit, event) {
+            self.turn(row, line, life)?;
+        }
+        Ok(())
+    }
+
+    /// Sees that the row has a bar.
+    fn want(
+        &mut self,
+        alloc: Global,
+        row: u32,
+        line: u32,
+        entry: &Entry,
+        before: &Lives,
+    ) -> Result<(), AllocError> {
+        if self.bars.as_slice().iter().any(|bar| bar.row == row) {
+            return Ok(());
+        }
+        self.bars.push(Bar::new(alloc, row, line, entry, before))?;
+        Ok(())
+    }
+
+    fn note(&mut self, row: u32, note: Note) -> Result<(), AllocError> {
+        for bar in self.bars.as_mut_slice().iter_mut() {
+            if bar.row == row {
+                bar.notes.push(note)?;
+            }
+        }
+        Ok(())
+    }
+
+    fn turn(&mut self, row: u32, line: u32, life: Life) -> Result<(), AllocError> {
+        for bar in self.bars.as_mut_slice().iter_mut() {
+            if bar.row == row {
+                bar.turn(line, life)?;
+            }
+        }
+        Ok(())
+    }
+
+    /// Returns the bars, which end at the picture's end. That of a closed object ends with the line in which it is
+    /// closed.
+    pub fn into_bars(self, lines: u32) -> Result<Vec<Bar>, AllocError> {
+        let Bars { mut bars } = self;
+        for bar in bars.as_mut_slice().iter_mut() {
+            let end = if bar.life == Life::Closed {
+                bar.since.saturating_add(1)
+            } else {
+                lines
+            };
+            bar.finish(end)?;
+        }
+        Ok(bars)
+    }
+}

@@ -1,0 +1,41 @@
+//! The lanes of a picture.
+
+use brc_trace::Entry;
+use std::alloc::{AllocError, Global};
+
+/// The least characters of a line in a lane.
+const LEAST_WIDTH: usize = 14;
+
+/// The most characters of a line in a lane.
+pub const MOST_WIDTH: usize = 46;
+
+/// A thread's lane.
+#[derive(Clone, Copy, Debug)]
+pub struct Lane {
+    pub thread: u8,
+    /// How many characters a line of it has.
+    pub width: usize,
+}
+
+/// Returns the lanes of the threads that take these steps, main's first.
+pub fn lanes_of(alloc: Global, entries: &[Entry]) -> Result<Vec<Lane>, AllocError> {
+    let mut lanes = Vec::new(alloc);
+    for thread in 0..u8::MAX {
+        if entries.iter().any(|entry| entry.thread == thread) {
+            lanes.push(Lane {
+                thread,
+                width: LEAST_WIDTH,
+            })?;
+        }
+    }
+    Ok(lanes)
+}
+
+/// Makes the thread's lane as wide as a line of so many characters needs.
+pub fn widen(lanes: &mut [Lane], thread: u8, characters: usize) {
+    for lane in lanes.iter_mut() {
+        if lane.thread == thread && lane.width < characters {
+            lane.width = characters.min(MOST_WIDTH);
+        }
+    }
+}
