@@ -30,7 +30,11 @@ PAGES = [DOCS / "LANGUAGE.md", DOCS / "FROM_C.md", DOCS / "C_API.md"]
 EXAMPLES = ROOT / "examples"
 FROM_C = EXAMPLES / "from_c"
 PROGRAM = ROOT / "crates" / "brc" / "out" / "brc"
-STATUSES = {"refused": 1, "unreadable": 2, "no function": 2, "cannot write": 2, "no memory": 3, "no thread": 3}
+STATUSES = {
+    "refused": 1, "wrong": 1,
+    "unreadable": 2, "no function": 2, "out of bounds": 2, "cannot write": 2,
+    "no memory": 3, "no thread": 3,
+}
 
 
 class Example:
@@ -43,7 +47,7 @@ class Example:
         lines = printed.splitlines()
         if self.words[0] == "explain":
             lines = lines[-1:]
-        means = max(map(status_of, lines), default=0) if self.words[0] in ("check", "explain") else status_of(printed)
+        means = max(map(status_of, lines), default=0) if self.words[0] != "run" else status_of(printed)
         same = f"\n{self.wanted}" in f"\n{printed}" if self.is_part else self.wanted == printed
         return same and status == means
 

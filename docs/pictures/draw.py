@@ -1,8 +1,11 @@
 #!/usr/bin/env python3
 """Draws the pictures of docs/PICTURES.md, and checks them against the definitions.
 
-    python3 docs/pictures/draw.py           writes the drawings into docs/PICTURES.md
-    python3 docs/pictures/draw.py --check   changes nothing; fails if a drawing there is out of date
+    python3 docs/pictures/draw.py           writes the drawings into docs/PICTURES.md, and the pictures of runs
+    python3 docs/pictures/draw.py --check   changes nothing; fails if a drawing or a picture is out of date
+
+The pictures of runs, the .svg files of this folder, are those that the program at crates/brc/out/brc saves. If it isn't
+there, they are left as they are.
 
 What is read: the rules of the step relation (crates/brc_model/specs/Rules.antt), the word of each duty (Duties.antt
 there), the numbers of the words (crates/brc_word/specs/Words.antt and src/values.rt), the kinds (Kinds.antt), the
@@ -10,11 +13,15 @@ places of a table's words (crates/brc_table/specs/Places.antt), the limits (Limi
 arrows are no longer the rules is an error.
 """
 import re
+import subprocess
 import sys
+import tempfile
 import textwrap
 from pathlib import Path
 
 ROOT = Path(__file__).resolve().parents[2]
+PROGRAM = ROOT / "crates" / "brc" / "out" / "brc"
+EXAMPLES = ROOT / "examples"
 PAGE = ROOT / "docs" / "PICTURES.md"
 MODEL = ROOT / "crates" / "brc_model" / "specs"
 WORD = ROOT / "crates" / "brc_word"
@@ -491,6 +498,7 @@ WAY = {
     "brc_explain": ("for `brc explain`: shows the states before and after it", "crates/brc_explain/src/accepted.rt"),
     "brc_pages": ("for `brc explain --code`: what it means if v1 owns none", "crates/brc_pages/src/check_pages.rt"),
     "brc_trace": ("for `brc step --trace`: a line for each of its steps", "crates/brc_trace/src/tracing.rt"),
+    "brc_picture": ("for `brc step --svg`: a box in its thread's lane", "crates/brc_picture/src/boxes.rt"),
     "brc_world": ("for `brc step`: dispatches it, and does it step by step", "crates/brc_world/src/dispatch.rt"),
     "brc_explore": ("not on the way: finds a run that goes wrong", "crates/brc_explore/src/search.rt"),
     "brc_machine": ("has the words and the agenda of the step world", "crates/brc_machine/src/memory.rt"),
@@ -551,6 +559,42 @@ def short(names):
     return ", ".join(name.removeprefix("brc_") for name in names)
 
 
+# ---- the pictures of runs
+
+
+# Each picture: the options of `brc step`, the module and the schedule, both of examples/, and the status.
+RUNS = {
+    "queued": ([], "smallest.brc", "queued.schedule", 0),
+    "between_mark_and_look": ([], "swap.brc", "between_mark_and_look.schedule", 0),
+    "leaked": (["--unchecked"], "from_c/own_reference_kept.brc", "one_worker.schedule", 1),
+}
+
+
+def draw_run(name):
+    """The picture that the program saves of a run."""
+    options, module, schedule, status = RUNS[name]
+    with tempfile.TemporaryDirectory() as folder:
+        saved = Path(folder) / "run.svg"
+        line = [PROGRAM, "step", "--trace", "--svg", saved, *options, EXAMPLES / module, EXAMPLES / schedule]
+        done = subprocess.run(line, capture_output=True, text=True)
+        want(done.returncode == status, f"the run {name} ends with status {done.returncode}: {done.stderr}")
+        return saved.read_text()
+
+
+def draw_runs(check):
+    """Writes the picture of each run, or compares it with the one that is there."""
+    if not PROGRAM.exists():
+        print(f"draw.py: no program at {PROGRAM.relative_to(ROOT)}, so the pictures of runs are left as they are")
+        return
+    for name in RUNS:
+        path = Path(__file__).with_name(f"{name}.svg")
+        picture = draw_run(name)
+        if check:
+            want(path.exists() and path.read_text() == picture, f"{path.name} is out of date: run draw.py")
+        else:
+            path.write_text(picture)
+
+
 # ---- the page
 
 
@@ -596,6 +640,9 @@ def main():
         PAGE.write_text(page)
     missing = [name for name in RULES if not re.search(rf"\b{name}\b", page)]
     want(not missing, f"PICTURES.md doesn't name the rules {missing}")
+    unnamed = [name for name in RUNS if f"pictures/{name}.svg" not in page]
+    want(not unnamed, f"PICTURES.md doesn't show the pictures {unnamed}")
+    draw_runs("--check" in sys.argv[1:])
 
 
 main()

@@ -1,10 +1,10 @@
 ghost use Rattle.std.specs.Prelude.{⊤};
 
-use brc_command::{Load, LoadError, STANDARD_INPUT};
+use brc_command::{Load, LoadError, STANDARD_INPUT, Save, SaveError};
 use std::fs::File;
-use std::io;
 use std::io::{ErrorKind, Input, Read};
 use std::rt::Files;
+use std::{fs, io};
 
 /// How many bytes the first piece of a file has. Each further piece has as many as all before it.
 const FIRST_PIECE: usize = 65_536;
@@ -51,6 +51,15 @@ impl<R: Files + Input> Load for Disk<'_, R> {
             Ok(_) => Ok(bytes.len() < before.saturating_add(most)),
             Err(error) if error.kind() == ErrorKind::OutOfMemory => Err(LoadError::NoMemory),
             Err(_) => Err(LoadError::Unreadable),
+        }
+    }
+}
+
+impl<R: Files + Input> Save for Disk<'_, R> {
+    fn save(&mut self, path: &str, bytes: &[u8]) -> Result<(), SaveError> {
+        match fs::write(self.rt, path, bytes) {
+            Ok(()) => Ok(()),
+            Err(_) => Err(SaveError),
         }
     }
 }

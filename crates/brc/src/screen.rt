@@ -105,6 +105,19 @@ impl<R: Eprint + Clock + Sync> Terminal for Screen<'_, R> {
         }
     }
 
+    fn visited(&mut self, states: u64) {
+        if self.watched {
+            self.show(states, "states");
+        }
+    }
+
+    fn passed(&self) -> u64 {
+        match (self.began, Instant::now(self.rt)) {
+            (Some(began), Ok(now)) => now.duration_since(began).as_secs(),
+            _ => 0,
+        }
+    }
+
     fn clear(&mut self) {
         if self.shown.swap(false, Ordering::SeqCst) {
             let _ = eprint!(self.rt; "{WIPED}");

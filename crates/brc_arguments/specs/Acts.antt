@@ -9,6 +9,8 @@ use Rattle.brc_command.specs.declared.files.Format.{Format}
 use Rattle.brc_command.specs.Commands.{HasReport, IsReason, ProgramLeaves, IsDone, IsStopped}
 use Rattle.brc_command.specs.Files.{AreWritten, IsOutcome, are_several}
 use Rattle.brc_command.specs.Lines.{fault_text}
+use Rattle.brc_command.specs.declared.unchecked.Unchecked.{Unchecked}
+use Rattle.brc_command.specs.WrongRuns.{EndsUnchecked}
 
 -- the command line asks for one report, and `act` writes it
 pub record IsDoneAsking (gives : List ℕ → List ℕ → Type 0) (paint : Paint) (old new err_old err_new : Option (List ℕ))
@@ -30,6 +32,12 @@ pub record ChecksFiles (gives : List ℕ → List ℕ → Type 0) (lacks : List 
   pub written : AreWritten (IsOutcome gives lacks (are_several files) format) (map (λ file. file.now) files) old new
       err_old err_new status
 
+-- the command line asks for a run of any module
+pub record EndsAskingUnchecked (gives : List ℕ → List ℕ → Type 0) (old new : Option (List ℕ)) (status : ℕ)
+    : Type 0 where
+  pub asked : Unchecked
+  pub ended : EndsUnchecked gives asked old new status
+
 -- the command line is wrong or asks for help, and the status is 2; or memory was refused, and the status is 3
 abbrev pub IsRefused : Option (List ℕ) → Option (List ℕ) → ℕ → Type 0
 IsRefused err_old err_new status = (status ≡ 2) ⊎ ((status ≡ 3)
@@ -39,10 +47,12 @@ abbrev pub Ends : (List ℕ → List ℕ → Type 0) → (List ℕ → Type 0) �
     → Option (List ℕ) → Option (List ℕ) → ℕ → Type 0
 Ends gives lacks paint old new err_old err_new status =
     IsDoneAsking gives paint old new err_old err_new ⊎ ChecksFiles gives lacks old new err_old err_new status
+    ⊎ EndsAskingUnchecked gives old new status
 
 abbrev pub Stops : (List ℕ → List ℕ → Type 0) → (List ℕ → Type 0) → Paint → Option (List ℕ) → Option (List ℕ)
     → Option (List ℕ) → Option (List ℕ) → ℕ → Type 0
 Stops gives lacks paint old new err_old err_new status =
     IsStoppedAsking gives lacks paint old new err_old err_new status
     ⊎ ChecksFiles gives lacks old new err_old err_new status
+    ⊎ EndsAskingUnchecked gives old new status
     ⊎ ((new ≡ old) × IsRefused err_old err_new status)

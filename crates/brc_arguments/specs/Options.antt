@@ -4,7 +4,7 @@ use Rattle.std.specs.Str.Parse.{digits_value, without_leading_plus}
 use Rattle.clap.specs.declared.parser.matches.ArgMatches.{ArgMatches}
 use Rattle.clap.specs.Words.{found_of, first_value, matched_of, one_text, raw_values}
 use Rattle.brc_command.specs.declared.asked.Asked.{Asked}
-use Rattle.brc_command.specs.declared.asked.Asked.TheVariants.{Run as ToRun, Check as ToCheck, Step as ToStep}
+use Rattle.brc_command.specs.declared.asked.Asked.TheVariants.{Run as ToRun, Check as ToCheck, Step as ToStep, Draw as ToDraw}
 use Rattle.brc_command.specs.declared.asked.Run.{Run}
 use Rattle.brc_command.specs.declared.asked.TheConstants.{NO_BOUND}
 use Rattle.brc_command.specs.declared.files.Format.TheVariants.{Text, Json}
@@ -48,6 +48,8 @@ AsksToRun m _ = ⊥
 abbrev pub AsksToStep : ArgMatches → Asked → Type 0
 AsksToStep m (ToStep file schedule trace) =
     (word_of m (codes "FILE") ≡ Some file.now) × (word_of m (codes "SCHEDULE") ≡ Some schedule.now)
+AsksToStep m (ToDraw file schedule picture) = (word_of m (codes "FILE") ≡ Some file.now)
+    × (word_of m (codes "SCHEDULE") ≡ Some schedule.now) × (word_of m (codes "svg") ≡ Some picture.now)
 AsksToStep m _ = ⊥
 
 abbrev pub AsksForJson : ArgMatches → Type 0

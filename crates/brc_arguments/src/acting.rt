@@ -8,7 +8,8 @@ use crate::command::parse;
 use crate::not_asked::NotAsked;
 use crate::request::Request;
 use brc_command::{
-    Load, NoTerminal, StepFault, Stop, Terminal, check_files, execute_on, write_stop,
+    Load, NoTerminal, Save, StepFault, Stop, Terminal, check_files, execute_on, execute_unchecked,
+    write_stop,
 };
 use brc_lang::write_bytes;
 use brc_run::System;
@@ -26,7 +27,7 @@ const USAGE: u8 = 2;
 /// The status is 2 for a wrong command line or a call for help, 3 if memory is refused, and otherwise that of
 /// `execute` or `check_files`. If it isn't 0, standard error has the reason, unless the object of a file gives it. An
 /// error of standard error is ignored. Nobody watches: no text is coloured, and no progress is shown.
-pub fn act<R: System, S: AsStr, L: Load, W: Write, E: Write>(
+pub fn act<R: System, S: AsStr, L: Load + Save, W: Write, E: Write>(
     rt: &R,
     alloc: Global,
     words: &[S],
@@ -44,7 +45,7 @@ pub fn act<R: System, S: AsStr, L: Load, W: Write, E: Write>(
 }
 
 /// Does what `act` does, before somebody at a terminal.
-pub fn act_on<R: System, S: AsStr, L: Load, T: Terminal, W: Write, E: Write>(
+pub fn act_on<R: System, S: AsStr, L: Load + Save, T: Terminal, W: Write, E: Write>(
     rt: &R,
     alloc: Global,
     words: &[S],
@@ -65,6 +66,9 @@ pub fn act_on<R: System, S: AsStr, L: Load, T: Terminal, W: Write, E: Write>(
             Some(Request::Files(files, format)) => check_files(
                 alloc, files, format, load, out, err,
             ),
+            Some(Request::Unchecked(asked)) => {
+                execute_unchecked(alloc, &asked, load, terminal, out, err)
+            }
             None => {
                 let _ = write_bytes(b"error: a command is required\n", err);
                 USAGE

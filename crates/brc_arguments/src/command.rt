@@ -3,9 +3,10 @@ ghost use Rattle.brc_arguments.specs.Options.{AsksForJson, AsksToCheck, AsksToRu
 
 use crate::not_asked::NotAsked;
 use crate::request::Request;
+use crate::unchecked::{unchecked_step_of, with_schedule, wrong_run_of};
 use brc_command::{
-    Asked, Format, MOST_NAMES, MOST_ROWS, MOST_STEPS, MOST_THREADS, MOST_TIMES, NO_BOUND, Run,
-    VERSION,
+    Asked, Bounds, Format, MOST_NAMES, MOST_ROWS, MOST_SECONDS, MOST_STATES, MOST_STEPS,
+    MOST_THREADS, MOST_TIMES, NO_BOUND, Run, Unchecked, VERSION,
 };
 use brc_lang::number;
 use brc_pages::topic_named;
@@ -154,7 +155,9 @@ fn run_command<'a>(alloc: Global) -> Result<Command<'a>, AllocError> {
 fn step_command<'a>(alloc: Global) -> Result<Command<'a>, AllocError> {
     Command::new(alloc, "step")
         .about("Checks a module and takes the steps of a schedule over it")
-        .after_help("Example: brc step module.brc steps.schedule")
+        .after_help(
+            "Example: brc step module.brc steps.schedule\n         brc step --unchecked module.brc wrong.schedule",
+        )
         .arg(file_argument(alloc))?
         .arg(
             Arg::new(alloc, "SCHEDULE")
@@ -166,13 +169,31 @@ fn step_command<'a>(alloc: Global) -> Result<Command<'a>, AllocError> {
                 .long("trace")
                 .action(ArgAction::SetTrue)
                 .help("Writes a line for each step before the report"),
+        )?
+        .arg(
+            Arg::new(alloc, "unchecked")
+                .long("unchecked")
+                .action(ArgAction::SetTrue)
+                .help(
+                    "Takes the steps also if the module is refused, up to the first that is wrong",
+                ),
+        )?
+        .arg(
+            Arg::new(alloc, "svg")
+                .long("svg")
+                .value_name("SVG")
+                .requires_arg("trace")?
+                .help("Also saves a picture of the run in this file"),
         )
 }
 
 fn explain_command<'a>(alloc: Global) -> Result<Command<'a>, AllocError> {
-    Command::new(alloc, "explain")
+    let command = Command::new(alloc, "explain")
         .about("Explains what the checker says of a module, or a code")
-        .after_help("Example: brc explain module.brc --function f\n         brc explain --code C5")
+        .after_help(
+            "Example: brc explain module.brc --function f\n         brc explain module.brc --schedule\n         \
+             brc explain --code C5",
+        )
         .arg(
             Arg::new(alloc, "FILE")
                 .required_unless_present("code")?
@@ -193,7 +214,8 @@ fn explain_command<'a>(alloc: Global) -> Result<Command<'a>, AllocError> {
                 .conflicts_with("format")?
                 .help("A code to explain: C1 to C12, or L1 to L10"),
         )?
-        .arg(format_argument(alloc))
+        .arg(format_argument(alloc))?;
+    with_schedule(alloc, command)
 }
 
 fn format_argument<'a>(alloc: Global) -> Arg<'a> {
@@ -218,11 +240,11 @@ fn asked_in<'m>(matches: &'m ArgMatches<'_>) -> Option<Request<'m>> {
     if let Some(explain) = matches.subcommand_matches("explain") {
         return explanation_in(explain);
     }
-    let asked = match matches.subcommand_matches("step") {
-        Some(step) => step_of(step)?,
-        None => run_of(matches.subcommand_matches("run")?)?,
-    };
-    Some(Request::One(asked))
+    match matches.subcommand_matches("step") {
+        Some(step) if step.get_flag("unchecked") => unchecked_step_of(step),
+        Some(step) => Some(Request::One(step_of(step)?)),
+        None => Some(Request::One(run_of(matches.subcommand_matches("run")?)?)),
+    }
 }
 
 fn check_of<'m>(check: &'m ArgMatches<'_>) -> Option<Request<'m>>
@@ -250,6 +272,13 @@ fn step_of<'m>(step: &'m ArgMatches<'_>) -> Option<Asked<'m>>
 {
     let file = step.get_str("FILE")?;
     let schedule = step.get_str("SCHEDULE")?;
+    if let Some(picture) = step.get_str("svg") {
+        return Some(Asked::Draw {
+            file,
+            schedule,
+            picture,
+        });
+    }
     let trace = step.get_flag("trace");
     Some(Asked::Step {
         file,
@@ -262,6 +291,9 @@ fn explanation_in<'m>(explain: &'m ArgMatches<'_>) -> Option<Request<'m>> {
     if let Some(code) = explain.get_str("code") {
         let topic = topic_named(code.as_bytes())?;
         return Some(Request::One(Asked::Page { topic }));
+    }
+    if explain.get_flag("schedule") {
+        return wrong_run_of(explain);
     }
     let function = explain.get_str("function");
     if is_json(explain) {
@@ -284,6 +316,12 @@ fn has_known_code(matches: &ArgMatches) -> bool {
 
 // Numbers have the same form as in texts; clap also takes signs and leading zeros.
 fn has_plain_numbers(matches: &ArgMatches) -> bool {
+    if let Some(explain) = matches.subcommand_matches("explain") {
+        return is_plain(explain, "workers")
+            && is_plain(explain, "rows")
+            && is_plain(explain, "states")
+            && is_plain(explain, "seconds");
+    }
     match matches.subcommand_matches("run") {
         Some(run) => {
             is_plain(run, "threads")
@@ -295,8 +333,8 @@ fn has_plain_numbers(matches: &ArgMatches) -> bool {
     }
 }
 
-fn is_plain(run: &ArgMatches, name: &str) -> bool {
-    match run.get_str(name) {
+fn is_plain(matches: &ArgMatches, name: &str) -> bool {
+    match matches.get_str(name) {
         Some(text) => number(u32::MAX, text.as_bytes()).is_ok(),
         None => true,
     }

@@ -5,5 +5,6 @@ mod acting;
 mod command;
 mod not_asked;
 mod request;
+mod unchecked;
 
 pub use acting::{act, act_on};

@@ -1,4 +1,4 @@
-use brc_command::{Asked, Format};
+use brc_command::{Asked, Format, Unchecked};
 
 /// What a command line asks for.
 #[derive(Clone, Copy, Debug)]
@@ -7,4 +7,6 @@ pub enum Request<'a> {
     One(Asked<'a>),
     /// The check of files, and how what is found of them is written.
     Files(&'a [&'a str], Format<'a>),
+    /// A run of a module that the checker may refuse.
+    Unchecked(Unchecked<'a>),
 }

@@ -1,5 +1,7 @@
 mod Accepting
 mod Calling
+mod Drawn
+mod EventsListed
 mod FilesLater
 mod FilesWritten
 mod Found
@@ -7,6 +9,8 @@ mod GivenTexts
 mod LastTally
 mod Leaving
 mod ReadFiles
+mod Rerunning
+mod RunsFound
 mod Machines
 mod ObjectTexts
 mod Outputs

@@ -13,7 +13,8 @@ use Rattle.brc_report.specs.Report.{tally_text}
 use Rattle.brc_run.specs.Runs.{IsTallyOfRun}
 use Rattle.brc_schedule.specs.declared.schedule.Schedule.{Schedule}
 use Rattle.brc_command.specs.declared.asked.Asked.{Asked}
-use Rattle.brc_command.specs.declared.asked.Asked.TheVariants.{Run as ToRun, Check as ToCheck, Step as ToStep, Version}
+use Rattle.brc_command.specs.declared.asked.Asked.TheVariants.{Run as ToRun, Check as ToCheck, Step as ToStep, Draw as ToDraw}
+use Rattle.brc_command.specs.declared.asked.Asked.TheVariants.{Version}
 use Rattle.brc_command.specs.declared.asked.Asked.TheVariants.{Explain as ToExplain, Page as ToPage}
 use Rattle.brc_command.specs.declared.asked.Run.{Run}
 use Rattle.brc_command.specs.declared.step_fault.StepFault.{StepFault}
@@ -93,6 +94,7 @@ HasReportBy says gives paint (ToRun asked) text = HasRunReport gives asked text
 HasReportBy says gives paint (ToCheck file) text = HasCheckReport gives file.now text
 HasReportBy says gives paint (ToStep file schedule false) text = HasStepReport gives file.now schedule.now text
 HasReportBy says gives paint (ToStep file schedule true) text = HasTraceReport gives paint file.now schedule.now text
+HasReportBy says gives paint (ToDraw file schedule picture) text = HasTraceReport gives paint file.now schedule.now text
 HasReportBy says gives paint (ToExplain file function) text =
     HasExplanation says gives file.now (option_map (λ name. name.now) function) None text
 HasReportBy says gives paint (ToPage topic) text = says (Code topic) text
@@ -168,6 +170,7 @@ abbrev pub IsReason : (List ℕ → List ℕ → Type 0) → (List ℕ → Type 
 IsReason gives lacks (ToRun asked) stop = IsRunReason gives lacks asked stop
 IsReason gives lacks (ToCheck file) stop = IsModuleReason gives lacks file.now stop
 IsReason gives lacks (ToStep file schedule trace) stop = IsStepReason gives lacks file.now schedule.now stop
+IsReason gives lacks (ToDraw file schedule picture) stop = IsStepReason gives lacks file.now schedule.now stop
 IsReason gives lacks (ToExplain file function) stop =
     IsExplainReason gives lacks file.now (option_map (λ name. name.now) function) stop
 IsReason gives lacks (ToPage topic) stop = IsPageReason stop
@@ -214,6 +217,8 @@ abbrev pub LeavesBy : (Subject → List ℕ → Type 0) → (List ℕ → List �
 LeavesBy says gives paint (ToExplain file function) stop old new =
     LeavesExplanation (HasExplanation says gives file.now (option_map (λ name. name.now) function)) stop old new
 LeavesBy says gives paint (ToStep file schedule true) stop old new =
+    LeavesTrace (HasTraceReport gives paint file.now schedule.now) stop old new
+LeavesBy says gives paint (ToDraw file schedule picture) stop old new =
     LeavesTrace (HasTraceReport gives paint file.now schedule.now) stop old new
 LeavesBy says gives paint asked stop old new = LeavesReport (HasReportBy says gives paint asked) stop old new
 

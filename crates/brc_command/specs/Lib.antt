@@ -9,3 +9,5 @@ pub mod Loading
 pub mod Objects
 pub mod Texts
 pub mod Traces
+pub mod Reruns
+pub mod WrongRuns

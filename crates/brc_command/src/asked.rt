@@ -37,6 +37,12 @@ pub enum Asked<'a> {
         schedule: &'a str,
         trace: bool,
     },
+    /// Step the schedule of the second file over the module of the first, with a trace, and save a picture of the run.
+    Draw {
+        file: &'a str,
+        schedule: &'a str,
+        picture: &'a str,
+    },
     /// Explain what the checker says of the module of the file, or of its function of this name.
     Explain {
         file: &'a str,

@@ -18,11 +18,13 @@ ghost use Rattle.brc_report.specs.declared.paint.Paint.TheVariants.{Plain};
 use crate::accepted::write_accepted;
 use crate::asked::{Asked, Run};
 use crate::calls::number_of_callable;
+use crate::drawing::draw_files;
 use crate::explainer::{Explain, Explainer};
 use crate::explaining::{Explanation, explanation_of};
 use crate::lines::{write_stop, write_version};
 use crate::load::{Load, STANDARD_INPUT};
 use crate::loading::{load_module, load_schedule};
+use crate::save::Save;
 use crate::step_fault::StepFault;
 use crate::stepping::step_text_on;
 use crate::stop::Stop;
@@ -42,7 +44,7 @@ use std::io::Write;
 /// coloured, and no progress is shown.
 ///
 /// If the status isn't 0, a line on standard error gives the reason. An error of standard error is ignored.
-pub fn execute<R: System, L: Load, W: Write, E: Write>(
+pub fn execute<R: System, L: Load + Save, W: Write, E: Write>(
     rt: &R,
     alloc: Global,
     asked: &Asked<'_>,
@@ -62,7 +64,7 @@ pub fn execute<R: System, L: Load, W: Write, E: Write>(
 }
 
 /// Does what `execute` does, before somebody at a terminal.
-pub fn execute_on<R: System, L: Load, T: Terminal, W: Write, E: Write>(
+pub fn execute_on<R: System, L: Load + Save, T: Terminal, W: Write, E: Write>(
     rt: &R,
     alloc: Global,
     asked: &Asked<'_>,
@@ -92,7 +94,7 @@ pub fn execute_on<R: System, L: Load, T: Terminal, W: Write, E: Write>(
 /// Carries out the request and writes its report. What it explains is the whole text that the explainer gives.
 ///
 /// Returns the first reason from the top why it can't: a file, the texts, the check, a function's name, memory, output.
-pub fn carry_out<'a, R: System, L: Load, T: Terminal, X: Explain, W: Write>(
+pub fn carry_out<'a, R: System, L: Load + Save, T: Terminal, X: Explain, W: Write>(
     rt: &R,
     alloc: Global,
     asked: &Asked<'a>,
@@ -119,6 +121,11 @@ pub fn carry_out<'a, R: System, L: Load, T: Terminal, X: Explain, W: Write>(
         Asked::Step { file, schedule, .. } => {
             trace_files(alloc, file, schedule, paint, load, out)
         }
+        Asked::Draw {
+            file,
+            schedule,
+            picture,
+        } => draw_files(alloc, file, schedule, picture, paint, load, out),
         Asked::Explain { file, function } => {
             explain_file(alloc, file, *function, paint, load, explainer, out)
         }
@@ -199,7 +206,7 @@ fn check_file<'a, L: Load, W: Write>(
 }
 
 // Returns whether both files are standard input, which can be loaded only once.
-fn read_standard_input_twice(file: &str, schedule: &str) -> bool
+pub fn read_standard_input_twice(file: &str, schedule: &str) -> bool
     ensures twice { result ≡ true → IsStandardInput file.now × IsStandardInput schedule.now }
     ensures apart { result ≡ false → IsStandardInput file.now → IsStandardInput schedule.now → ⊥ }
 {

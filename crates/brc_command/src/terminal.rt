@@ -22,6 +22,12 @@ pub trait Terminal: Gate + Sync {
     /// Shows how many steps a schedule has made so far. `brc step` calls it once in some 65,536 steps.
     fn made(&mut self, steps: u64);
 
+    /// Shows how many states a search has visited so far. `brc explain --schedule` calls it once in some 256 states.
+    fn visited(&mut self, states: u64);
+
+    /// Returns how many seconds the command has taken so far, or 0 if there is no clock.
+    fn passed(&self) -> u64;
+
     /// Takes away what it has shown. A command calls it once nothing more is made, before anything is written.
     fn clear(&mut self);
 }
@@ -44,6 +50,12 @@ impl Terminal for NoTerminal {
     }
 
     fn made(&mut self, _steps: u64) {}
+
+    fn visited(&mut self, _states: u64) {}
+
+    fn passed(&self) -> u64 {
+        0
+    }
 
     fn clear(&mut self) {}
 }

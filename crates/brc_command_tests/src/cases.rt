@@ -2,7 +2,7 @@
 
 ghost use Rattle.std.specs.Prelude.{◌<◌, ◌≤◌, ⊤};
 
-use brc_command::{Asked, Load, LoadError, NO_BOUND, Run, execute};
+use brc_command::{Asked, Load, LoadError, NO_BOUND, Run, Save, SaveError, execute};
 use brc_run::System;
 use std::process::Abort;
 
@@ -76,6 +76,17 @@ impl Load for Shelf<'_> {
         match bytes.extend_from_slice(text) {
             Ok(()) => Ok(true),
             Err(_) => Err(LoadError::NoMemory),
+        }
+    }
+}
+
+// Any file can be written but `full`.
+impl Save for Shelf<'_> {
+    fn save(&mut self, path: &str, _bytes: &[u8]) -> Result<(), SaveError> {
+        if path == "full" {
+            Err(SaveError)
+        } else {
+            Ok(())
         }
     }
 }

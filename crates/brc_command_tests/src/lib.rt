@@ -30,6 +30,8 @@ mod pieces;
 #[cfg(test)]
 mod reasons;
 #[cfg(test)]
+mod refused_lines;
+#[cfg(test)]
 mod runs;
 #[cfg(test)]
 mod statics;

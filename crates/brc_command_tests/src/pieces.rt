@@ -5,7 +5,7 @@ ghost use Rattle.std.specs.Prelude.{⊤};
 use crate::cases::{FIRST, LEAKING, MISSPELT, SMALLEST};
 use crate::command_lines::acts;
 use brc_arguments::act;
-use brc_command::{Load, LoadError};
+use brc_command::{Load, LoadError, Save, SaveError};
 use brc_run::System;
 use std::process::Abort;
 
@@ -46,6 +46,12 @@ impl Load for Pieces<'_> {
             }
         }
         Ok(bytes.len() <= before)
+    }
+}
+
+impl Save for Pieces<'_> {
+    fn save(&mut self, _path: &str, _bytes: &[u8]) -> Result<(), SaveError> {
+        Err(SaveError)
     }
 }
 

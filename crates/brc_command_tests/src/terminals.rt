@@ -44,6 +44,12 @@ impl Terminal for Notes {
         self.last = steps;
     }
 
+    fn visited(&mut self, _states: u64) {}
+
+    fn passed(&self) -> u64 {
+        0
+    }
+
     fn clear(&mut self) {
         self.clears = self.clears.saturating_add(1);
     }

@@ -1,7 +1,8 @@
-use crate::cases::SMALLEST;
+use crate::cases::{SMALLEST, contains};
 use crate::command_lines::acts;
 use crate::statics::FETCHED;
-use brc_command::trace_text;
+use brc_command::{picture_text, trace_text};
+use std::test::Fail;
 
 // Worker 1 calls `f` once and exits. Main then claims the root, which the worker has queued.
 const PLAN: &[u8] =
@@ -167,4 +168,71 @@ fn traces_modules(rt: HostRuntime) {
     let result = trace_text(rt.alloc(), b"module 1\nfunc f\n", PLAN, &mut untraced);
     assert!(rt; result.is_err());
     assert!(rt; untraced.is_empty());
+}
+
+// A module and a schedule, and parts of the picture of the run: lanes, instructions, rules, and what the steps have left
+// in the objects' words.
+const PICTURES: &[(&[u8], &[u8], &[&[u8]])] = &[
+    (
+        SMALLEST,
+        PLAN,
+        &[
+            b">main</text>",
+            b">worker 1</text>",
+            b">f @0 fail</text>",
+            b">claim of row 1</text>",
+            b">Queues<tspan",
+            b">row 1 given up</tspan>",
+            b">row 1, root</text>",
+            b">0 queued</text>",
+            b">marked</text>",
+            b">2 merged</text>",
+            // The reference that the worker puts into main's queue, and main takes out of it.
+            b"class=\"moves\"",
+        ],
+    ),
+    (
+        TWO_OWNED,
+        STOP_PLAN,
+        &[
+            b">stop</text>",
+            b">row 2</text>",
+            b">list 1</text>",
+            b">locked by 1</text>",
+            b">unlocked</text>",
+            b">row 3 dies</tspan>",
+            b">closed</text>",
+        ],
+    ),
+    (
+        HANDED_BACK,
+        CALL_PLAN,
+        &[
+            b">give @0 ret v1</text>",
+            b">num 7</text>",
+            b">local 0</text>",
+        ],
+    ),
+    (
+        FETCHED,
+        STATICS_PLAN,
+        &[
+            b">row 6</text>",
+            b">row 8 gained</tspan>",
+            b">1 shared</text>",
+        ],
+    ),
+];
+
+#[test]
+fn draws_pictures(rt: HostRuntime) -> Result<(), Fail> {
+    for (module, plan, parts) in PICTURES {
+        let picture = picture_text(rt.alloc(), module, plan)?;
+        assert!(rt; picture.as_slice().starts_with(b"<svg "));
+        assert!(rt; picture.as_slice().ends_with(b"</svg>\n"));
+        for part in *parts {
+            assert!(rt; contains(picture.as_slice(), part), "{part:?}");
+        }
+    }
+    Ok(())
 }

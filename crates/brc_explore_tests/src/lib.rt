@@ -1,8 +1,11 @@
-//! Tests of runs that go wrong: each refused example has one, or says why not, and no accepted example has one.
+//! Tests of runs that go wrong: each refused example has one, or says why not; no accepted example has one; and on
+//! accepted modules the plain machine takes the same steps as the step world.
 #![tactic(auto)]
 
 #[cfg(test)]
 mod accepted_examples;
+#[cfg(test)]
+mod agreeing;
 #[cfg(test)]
 mod from_c_examples;
 #[cfg(test)]
@@ -11,3 +14,5 @@ mod mended_examples;
 mod refused_examples;
 #[cfg(test)]
 mod runs;
+#[cfg(test)]
+mod shelf;

@@ -4,10 +4,11 @@ use crate::accepted_examples::ACCEPTED;
 use crate::from_c_examples::FROM_C;
 use crate::mended_examples::MENDED;
 use crate::refused_examples::REFUSED;
-use brc_check::check;
-use brc_explore::{Bounds, Watch, find_run, goes_wrong};
-use brc_lang::{Module, Name, read};
-use std::alloc::Global;
+use crate::shelf::{explained, replayed};
+use brc_explore::{Bounds, Watch, find_run};
+use brc_lang::read;
+use brc_run::System;
+use std::process::Abort;
 
 /// A refused module.
 #[derive(Clone, Copy)]
@@ -19,15 +20,69 @@ pub struct Case {
     pub wrong: Option<&'static str>,
 }
 
-/// How far a search goes. The runs of the examples are found within these bounds.
-const BOUNDS: Bounds = Bounds {
-    workers: 2,
-    rows: 4,
-    states: 2000,
-};
+/// The most states of a search. The runs of the examples are found among fewer.
+const STATES: u32 = 2000;
 
 /// The most states of each search for a run of an accepted module's function.
 const ACCEPTED_STATES: usize = 500;
+
+const NONE: &[u8] = b"no run goes wrong with 2 workers of 4 rows within 2000 states\n";
+
+#[test]
+fn refused_modules_go_wrong(rt: HostRuntime) {
+    for case in REFUSED {
+        assert_case(&rt, case);
+    }
+}
+
+#[test]
+fn refused_modules_from_c_go_wrong(rt: HostRuntime) {
+    for case in FROM_C {
+        assert_case(&rt, case);
+    }
+}
+
+/// Asserts that the case's run is found, that its schedule is shown, and that the schedule's steps end in what is wrong;
+/// or that none is found.
+fn assert_case<R: System + Abort + AllocGlobal>(rt: &R, case: &Case) {
+    let name = case.name;
+    let shown = explained(rt, case.text, STATES);
+    assert_eq!(rt; shown.status, 1, "{name}");
+    assert!(rt; shown.err.as_slice().starts_with(b"refused "), "{name}");
+    let Some(wrong) = case.wrong else {
+        assert!(rt; shown.out.as_slice() == NONE, "{name}");
+        return;
+    };
+    let schedule = schedule_in(shown.out.as_slice());
+    assert!(rt; has(shown.out.as_slice(), wrong.as_bytes()), "{name}");
+    let run = replayed(rt, case.text, schedule);
+    assert_eq!(rt; run.status, 1, "{name}");
+    assert!(rt; has(run.err.as_slice(), wrong.as_bytes()), "{name}");
+}
+
+/// Returns the text from the first line of a schedule on, up to an empty line.
+fn schedule_in(text: &[u8]) -> &[u8] {
+    for from in 0..text.len() {
+        if text[from..].starts_with(b"schedule 1\n") {
+            for to in from..text.len() {
+                if text[to..].starts_with(b"\n\n") {
+                    return &text[from..to + 1];
+                }
+            }
+        }
+    }
+    b""
+}
+
+/// Returns whether the text has the words in it.
+fn has(text: &[u8], words: &[u8]) -> bool {
+    for from in 0..text.len() {
+        if text[from..].starts_with(words) {
+            return true;
+        }
+    }
+    false
+}
 
 #[derive(Drop)]
 struct Patient;
@@ -38,115 +93,37 @@ impl Watch for Patient {
     }
 }
 
-/// What a search says of a module.
-#[derive(Clone, Copy, Debug, PartialEq, Eq)]
-enum Search {
-    /// Its text can't be read, it is accepted, or memory is refused.
-    Impossible,
-    /// No run is found.
-    Nothing,
-    /// A run is found, and whether it goes wrong as a whole, and without its last event.
-    Found { whole: bool, cut: bool },
-}
-
-/// Looks for a run of the module that calls the function at which it is refused, and replays it.
-fn searched(alloc: Global, text: &[u8]) -> Search {
-    let Ok(module) = read(alloc, text) else {
-        return Search::Impossible;
-    };
-    let Err(refused) = check(alloc, module) else {
-        return Search::Impossible;
-    };
-    let Ok(again) = read(alloc, text) else {
-        return Search::Impossible;
-    };
-    let Some(function) = number_of(&again, &refused.function) else {
-        return Search::Impossible;
-    };
-    let Ok(found) = find_run(alloc, &again, function, BOUNDS, &mut Patient) else {
-        return Search::Impossible;
-    };
-    let Some(run) = found else {
-        return Search::Nothing;
-    };
-    let calls = run.calls.as_slice();
-    let events = run.events.as_slice();
-    let whole = goes_wrong(alloc, &again, run.rows, calls, events);
-    let before = &events[..events.len().saturating_sub(1)];
-    let cut = goes_wrong(alloc, &again, run.rows, calls, before);
-    Search::Found {
-        whole: matches!(whole, Ok(true)),
-        cut: matches!(cut, Ok(true)),
-    }
-}
-
-fn number_of(module: &Module, name: &Name) -> Option<usize> {
-    module
-        .functions
-        .as_slice()
-        .iter()
-        .position(|f| f.name.as_bytes() == name.as_bytes())
-}
-
-/// Returns what a search has to say of the case: the run that it finds goes wrong, and at its last event.
-fn expected(case: &Case) -> Search {
-    match case.wrong {
-        None => Search::Nothing,
-        Some(_) => Search::Found {
-            whole: true,
-            cut: false,
-        },
-    }
-}
-
-#[test]
-fn refused_modules_go_wrong(rt: HostRuntime) {
-    for case in REFUSED {
-        assert_eq!(rt;
-            searched(rt.alloc(), case.text),
-            expected(case),
-            "{}",
-            case.name
-        );
-    }
-}
-
-#[test]
-fn refused_modules_from_c_go_wrong(rt: HostRuntime) {
-    for case in FROM_C {
-        assert_eq!(rt;
-            searched(rt.alloc(), case.text),
-            expected(case),
-            "{}",
-            case.name
-        );
-    }
-}
-
 #[test]
 fn accepted_modules_never_go_wrong(rt: HostRuntime) {
     for (name, text) in ACCEPTED {
-        assert!(rt; never_goes_wrong(rt.alloc(), text), "{name}");
+        assert_safe(&rt, name, text);
     }
     for (name, text) in MENDED {
-        assert!(rt; never_goes_wrong(rt.alloc(), text), "{name}");
+        assert_safe(&rt, name, text);
     }
 }
 
-/// Returns whether no run of the module is found that goes wrong, whichever of its functions is called.
-fn never_goes_wrong(alloc: Global, text: &[u8]) -> bool {
-    let Ok(module) = read(alloc, text) else {
-        return false;
-    };
-    let bounds = Bounds {
-        states: ACCEPTED_STATES,
-        ..BOUNDS
+/// Asserts that no run of the module is found that goes wrong, whichever of its functions is called.
+fn assert_safe<R: System + Abort + AllocGlobal>(rt: &R, name: &str, text: &[u8]) {
+    let shown = explained(rt, text, STATES);
+    assert_eq!(rt; shown.status, 0, "{name}");
+    assert!(rt;
+        has(shown.out.as_slice(), b"no run of it goes wrong\n"),
+        "{name}"
+    );
+    let Ok(module) = read(rt.alloc(), text) else {
+        assert!(rt; false, "{name}");
+        return;
     };
     for function in 0..module.functions.len() {
-        match find_run(alloc, &module, function, bounds, &mut Patient) {
-            Ok(None) => {}
-            Ok(Some(_)) | Err(_) => return false,
+        let bounds = Bounds {
+            workers: 2,
+            rows: 4,
+            states: ACCEPTED_STATES,
+        };
+        match find_run(rt.alloc(), &module, function, bounds, &mut Patient) {
+            Ok(found) => assert!(rt; found.is_none(), "{name}"),
+            Err(refused) => assert!(rt; false, "{name}: {refused}"),
         }
     }
-    true
 }
