@@ -24,7 +24,7 @@ pub struct Case {
 const STATES: u32 = 2000;
 
 /// The most states of each search for a run of an accepted module's function.
-const ACCEPTED_STATES: usize = 500;
+const ACCEPTED_STATES: usize = 20_000;
 
 const NONE: &[u8] = b"no run goes wrong with 2 workers of 4 rows within 2000 states\n";
 
