@@ -5,13 +5,13 @@ use crate::not_asked::NotAsked;
 use crate::request::Request;
 use crate::unchecked::{unchecked_step_of, with_schedule, wrong_run_of};
 use brc_command::{
-    Asked, Bounds, Format, MOST_NAMES, MOST_ROWS, MOST_SECONDS, MOST_STATES, MOST_STEPS,
-    MOST_THREADS, MOST_TIMES, NO_BOUND, Run, Unchecked, VERSION,
+    Asked, Format, MOST_NAMES, MOST_ROWS, MOST_STEPS, MOST_THREADS, MOST_TIMES, NO_BOUND, Run,
+    VERSION,
 };
 use brc_lang::number;
 use brc_pages::topic_named;
 use clap::error::ErrorKind;
-use clap::{Arg, ArgAction, ArgMatches, Command, Error, value_parser};
+use clap::{Arg, ArgAction, ArgMatches, Command, value_parser};
 use std::alloc::{AllocError, Global};
 use std::convert::AsStr;
 

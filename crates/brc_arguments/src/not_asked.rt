@@ -1,5 +1,4 @@
 use clap::Error;
-use clap::error::ErrorKind;
 use std::alloc::AllocError;
 use thiserror::Error as IsError;
 

@@ -1,5 +1,5 @@
 -- What the trace leaves if its picture can't be made or saved.
-use Rattle.std.proofs.Common.{◌≡◌, ℕ, List, [], Option, inl, refl, sym, append-nil}
+use Rattle.std.proofs.Common.{ℕ, List, [], Option, inl, refl, sym, append-nil}
 use Rattle.brc_report.specs.declared.paint.Paint.{Paint}
 use Rattle.brc_command.specs.declared.step_fault.StepFault.{StepFault}
 use Rattle.brc_command.specs.declared.step_fault.StepFault.TheVariants.{Text, Plan, Refused, NoFunction, NoMemory}

@@ -1,5 +1,5 @@
 -- What is written of the runs of a file's module.
-use Rattle.std.proofs.Common.{◌≡◌, ℕ, List, Option, Some, sym, subst, inl, inr, ◌⊎◌, arith}
+use Rattle.std.proofs.Common.{◌≡◌, ℕ, List, Option, Some, inl, inr, ◌⊎◌, arith}
 use Rattle.std.specs.Prelude.{None}
 use Rattle.std.specs.Io.KnownBytes.{Appends}
 use Rattle.brc_command.specs.declared.step_fault.StepFault.{StepFault}
@@ -41,10 +41,6 @@ module _ (gives : List ℕ → List ℕ → Type 0) (file bytes : List ℕ) (wor
   leaves_nothing Output old new unread same = absurd unread
 
   -- the whole text is written
-  pub reports_none : (text : List ℕ) (old new : Option (List ℕ)) → IsFoundBy bytes workers rows None text
-      → Appends old new text → Reports (HasNone gives file) old new
-  reports_none text old new none appended = (text, has_none text none, appended)
-
   pub leaves_found : (e : StepFault) (text : List ℕ) (old new : Option (List ℕ))
       → IsFoundBy bytes workers rows (Some e) text → Appends old new text
       → LeavesFound (HasNone gives file) (HasFound gives file workers rows) (Fault e) old new

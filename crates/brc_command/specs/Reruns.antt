@@ -1,5 +1,5 @@
 -- A run of a module of which nothing is known before.
-use Rattle.std.specs.Prelude.{ℕ, ◌<◌, ◌≤◌, List, take, map}
+use Rattle.std.specs.Prelude.{ℕ, ◌<◌, ◌≤◌, take, map}
 use Rattle.brc_lang.specs.Grammar.{IsModule}
 use Rattle.brc_model.specs.Limits.{row_limit}
 use Rattle.brc_model.specs.Safety.{AreCalls}

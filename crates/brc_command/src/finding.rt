@@ -4,7 +4,6 @@
 ghost use Rattle.std.specs.Prelude.{◌≡◌, ◌≤◌, ℕ, List, MatchResult, option_map};
 ghost use Rattle.brc_lang.specs.declared.module.Module.{Module};
 ghost use Rattle.brc_lang.specs.Grammar.{IsModule, Spells};
-ghost use Rattle.brc_lang.specs.Limits.{instruction_limit};
 ghost use Rattle.brc_check.specs.Refusal.{IsRefusedFor};
 ghost use Rattle.brc_command.specs.declared.finding.Finding.TheVariants.{Stopped};
 ghost use Rattle.brc_command.specs.declared.step_fault.StepFault.TheVariants.{NoMemory as MemoryRefused};

@@ -15,7 +15,7 @@ use brc_lang::{Function, Module, write_bytes};
 use brc_model::Choice;
 use brc_pages::write_heading;
 use brc_report::Paint;
-use brc_schedule::{Schedule, Steps};
+use brc_schedule::Steps;
 use brc_world::NoMemory;
 use std::alloc::Global;
 use std::io;

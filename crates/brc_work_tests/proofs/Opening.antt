@@ -1,5 +1,5 @@
 -- A heap of an accepted module.
-use Rattle.std.proofs.Common.{◌≡◌, ℕ, length, ap}
+use Rattle.std.proofs.Common.{◌≡◌, ℕ, ap}
 use Rattle.brc_lang.specs.Grammar.{IsModule}
 use Rattle.brc_lang.specs.declared.module.Module.{Module}
 use Rattle.brc_model.specs.declared.layout.Layout.{Layout}

@@ -1,8 +1,8 @@
-use Rattle.std.proofs.Common.{List, ℕ, Option, subst, sym, rules}
+use Rattle.std.proofs.Common.{Option, subst, sym, rules}
 use Rattle.brc_command.specs.declared.step_fault.StepFault.{StepFault}
 use Rattle.brc_command.specs.Loading.{ReadsAsModule}
 use Rattle.brc_command.specs.WrongRuns.{IsFoundBy}
-use Rattle.brc_command.proofs.RunsFound.{leaves_nothing, reports_none, leaves_found, leaves_beginning}
+use Rattle.brc_command.proofs.RunsFound.{leaves_nothing, leaves_found, leaves_beginning}
 use Rattle.brc_command.proofs.explaining_runs.explain_run.Goals as goal
 
 pub returns-then-is_err-clause-left : goal.returns-then-is_err-clause-left
