@@ -1,5 +1,6 @@
 -- The outputs and the status of `act`, for any words of a command line.
-use Rattle.std.specs.Prelude.{◌≡◌, ◌⊎◌, ℕ, List, map, Option}
+use Rattle.std.specs.Prelude.{◌≡◌, ◌⊎◌, ℕ, Bool, true, ◌||◌, List, map, codes, Option}
+use Rattle.std.specs.Str.{bytes_eq}
 use Rattle.std.specs.Borrow.{Bor}
 use Rattle.brc_lang.specs.Written.{AppendsBeginning}
 use Rattle.brc_report.specs.declared.paint.Paint.{Paint}
@@ -32,9 +33,14 @@ pub record ChecksFiles (gives : List ℕ → List ℕ → Type 0) (lacks : List 
   pub written : AreWritten (IsOutcome gives lacks (are_several files) format) (map (λ file. file.now) files) old new
       err_old err_new status
 
--- the command line asks for a run of any module
-pub record EndsAskingUnchecked (gives : List ℕ → List ℕ → Type 0) (old new : Option (List ℕ)) (status : ℕ)
-    : Type 0 where
+-- the word asks for a run of a module that need not be accepted
+abbrev pub asks_for_run : List ℕ → Bool
+asks_for_run word = bytes_eq word (codes "--schedule") || bytes_eq word (codes "--unchecked")
+
+-- the command line asks for such a run, by one of its words
+pub record EndsAskingUnchecked (asks : Bool) (gives : List ℕ → List ℕ → Type 0) (old new : Option (List ℕ))
+    (status : ℕ) : Type 0 where
+  pub word : asks ≡ true
   pub asked : Unchecked
   pub ended : EndsUnchecked gives asked old new status
 
@@ -43,16 +49,16 @@ abbrev pub IsRefused : Option (List ℕ) → Option (List ℕ) → ℕ → Type 
 IsRefused err_old err_new status = (status ≡ 2) ⊎ ((status ≡ 3)
     × AppendsBeginning err_old err_new (fault_text NoMemory))
 
-abbrev pub Ends : (List ℕ → List ℕ → Type 0) → (List ℕ → Type 0) → Paint → Option (List ℕ) → Option (List ℕ)
+abbrev pub Ends : Bool → (List ℕ → List ℕ → Type 0) → (List ℕ → Type 0) → Paint → Option (List ℕ) → Option (List ℕ)
     → Option (List ℕ) → Option (List ℕ) → ℕ → Type 0
-Ends gives lacks paint old new err_old err_new status =
+Ends asks gives lacks paint old new err_old err_new status =
     IsDoneAsking gives paint old new err_old err_new ⊎ ChecksFiles gives lacks old new err_old err_new status
-    ⊎ EndsAskingUnchecked gives old new status
+    ⊎ EndsAskingUnchecked asks gives old new status
 
-abbrev pub Stops : (List ℕ → List ℕ → Type 0) → (List ℕ → Type 0) → Paint → Option (List ℕ) → Option (List ℕ)
+abbrev pub Stops : Bool → (List ℕ → List ℕ → Type 0) → (List ℕ → Type 0) → Paint → Option (List ℕ) → Option (List ℕ)
     → Option (List ℕ) → Option (List ℕ) → ℕ → Type 0
-Stops gives lacks paint old new err_old err_new status =
+Stops asks gives lacks paint old new err_old err_new status =
     IsStoppedAsking gives lacks paint old new err_old err_new status
     ⊎ ChecksFiles gives lacks old new err_old err_new status
-    ⊎ EndsAskingUnchecked gives old new status
+    ⊎ EndsAskingUnchecked asks gives old new status
     ⊎ ((new ≡ old) × IsRefused err_old err_new status)

@@ -1,6 +1,7 @@
 ghost use Rattle.std.specs.Prelude.{◌≡◌, ◌≢◌, ◌≤◌};
+ghost use Rattle.std.specs.List.{list_any};
 ghost use Rattle.brc_report.specs.declared.paint.Paint.TheVariants.{Plain};
-ghost use Rattle.brc_arguments.specs.Acts.{Ends, Stops, IsRefused};
+ghost use Rattle.brc_arguments.specs.Acts.{Ends, Stops, IsRefused, asks_for_run};
 ghost use Rattle.clap.specs.Words.{kind_of};
 ghost use Rattle.clap.specs.declared.error.kind.ErrorKind.TheVariants.{OutOfMemory};
 
@@ -36,10 +37,12 @@ pub fn act<R: System, S: AsStr, L: Load + Save, W: Write, E: Write>(
     err: &mut E,
 ) -> u8
     ensures known { result ≤ 3 }
-    ensures done { result ≡ 0 → Ends (L.may_give load.old) (L.may_lack load.old) Plain (W.contents out.old)
-        (W.contents out.new) (E.contents err.old) (E.contents err.new) result }
-    ensures stopped { result ≢ 0 → Stops (L.may_give load.old) (L.may_lack load.old) Plain (W.contents out.old)
-        (W.contents out.new) (E.contents err.old) (E.contents err.new) result }
+    ensures done { result ≡ 0 → Ends (list_any (λ word. asks_for_run (S.text word)) words.now)
+        (L.may_give load.old) (L.may_lack load.old) Plain (W.contents out.old) (W.contents out.new)
+        (E.contents err.old) (E.contents err.new) result }
+    ensures stopped { result ≢ 0 → Stops (list_any (λ word. asks_for_run (S.text word)) words.now)
+        (L.may_give load.old) (L.may_lack load.old) Plain (W.contents out.old) (W.contents out.new)
+        (E.contents err.old) (E.contents err.new) result }
 {
     act_on(rt, alloc, words, load, &mut NoTerminal, out, err)
 }
@@ -55,9 +58,11 @@ pub fn act_on<R: System, S: AsStr, L: Load + Save, T: Terminal, W: Write, E: Wri
     err: &mut E,
 ) -> u8
     ensures known { result ≤ 3 }
-    ensures done { result ≡ 0 → Ends (L.may_give load.old) (L.may_lack load.old) (T.paint_of terminal.old)
+    ensures done { result ≡ 0 → Ends (list_any (λ word. asks_for_run (S.text word)) words.now)
+        (L.may_give load.old) (L.may_lack load.old) (T.paint_of terminal.old)
         (W.contents out.old) (W.contents out.new) (E.contents err.old) (E.contents err.new) result }
-    ensures stopped { result ≢ 0 → Stops (L.may_give load.old) (L.may_lack load.old) (T.paint_of terminal.old)
+    ensures stopped { result ≢ 0 → Stops (list_any (λ word. asks_for_run (S.text word)) words.now)
+        (L.may_give load.old) (L.may_lack load.old) (T.paint_of terminal.old)
         (W.contents out.old) (W.contents out.new) (E.contents err.old) (E.contents err.new) result }
 {
     match parse(alloc, words) {
@@ -66,10 +71,11 @@ pub fn act_on<R: System, S: AsStr, L: Load + Save, T: Terminal, W: Write, E: Wri
             Some(Request::Files(files, format)) => check_files(
                 alloc, files, format, load, out, err,
             ),
-            Some(Request::Unchecked(asked)) => {
+            // Clap takes no other word for the two options.
+            Some(Request::Unchecked(asked)) if any_asks_for_run(words) => {
                 execute_unchecked(alloc, &asked, load, terminal, out, err)
             }
-            None => {
+            _ => {
                 let _ = write_bytes(b"error: a command is required\n", err);
                 USAGE
             }
@@ -97,4 +103,21 @@ fn refuse<E: Write>(error: &Error, err: &mut E) -> u8
         let _ = write!(err, "{error}");
         USAGE
     }
+}
+
+/// Returns whether one of the words asks for a run of a module that need not be accepted.
+fn any_asks_for_run<S: AsStr>(words: &[S]) -> bool
+    ensures { result ≡ list_any (λ word. asks_for_run (S.text word)) words.now }
+{
+    words
+        .iter()
+        .any(|word| asks_for_run(word.as_str().as_bytes()))
+}
+
+fn asks_for_run(word: &[u8]) -> bool
+    ensures { result ≡ asks_for_run word.now }
+{
+    let schedule: &[u8] = b"--schedule";
+    let unchecked: &[u8] = b"--unchecked";
+    word == schedule || word == unchecked
 }
