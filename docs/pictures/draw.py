@@ -501,6 +501,8 @@ WAY = {
     "brc_picture": ("for `brc step --svg`: a box in its thread's lane", "crates/brc_picture/src/boxes.rt"),
     "brc_world": ("for `brc step`: dispatches it, and does it step by step", "crates/brc_world/src/dispatch.rt"),
     "brc_explore": ("not on the way: finds a run that goes wrong", "crates/brc_explore/src/search.rt"),
+    "brc_replay": ("not on the way: makes a run that goes wrong again", "crates/brc_replay/src/wrong.rt"),
+    "brc_plain": ("for `brc step --unchecked`: takes any module's steps", "crates/brc_plain/src/plain.rt"),
     "brc_machine": ("has the words and the agenda of the step world", "crates/brc_machine/src/memory.rt"),
     "brc_effect": ("says of each such step what it stores and what follows", "crates/brc_effect/src/effect/release.rt"),
     "brc_schedule": ("for `brc step`: reads which thread takes the steps", "crates/brc_schedule/src/line.rt"),

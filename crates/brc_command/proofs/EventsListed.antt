@@ -9,8 +9,8 @@ use Rattle.brc_model.specs.declared.thread.Choice.{Choice}
 use Rattle.brc_schedule.specs.declared.schedule.Schedule.{Schedule}
 use Rattle.brc_schedule.specs.declared.schedule.Steps.{Steps}
 use Rattle.brc_schedule.specs.Text.{Spells}
-use Rattle.brc_explore.specs.declared.event.Event.{Event}
-use Rattle.brc_explore.specs.WrongRuns.{event_in, IsWrongRun}
+use Rattle.brc_replay.specs.declared.event.Event.{Event}
+use Rattle.brc_replay.specs.WrongRuns.{event_in, IsWrongRun}
 use Rattle.brc_world.specs.Runs.{events_of, events_of_line}
 use Rattle.brc_command.specs.Calls.{calls_of}
 use Rattle.brc_command.specs.WrongRuns.{SpellsWrongRun}

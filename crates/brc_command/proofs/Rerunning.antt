@@ -3,19 +3,18 @@ use Rattle.std.proofs.Common.{◌≡◌, ℕ, List, ◌++◌, take, drop, map, s
 use Rattle.std.specs.Prelude.{Result, IfOk}
 use Rattle.std.proofs.lemmas.List.{map-append, take-append-drop}
 use Rattle.brc_lang.specs.declared.module.Module.{Module}
-use Rattle.brc_lang.specs.Grammar as modules
 use Rattle.brc_model.specs.declared.thread.Call.{Call}
 use Rattle.brc_model.specs.declared.thread.Choice.{Choice}
 use Rattle.brc_schedule.specs.declared.schedule.Schedule.{Schedule}
 use Rattle.brc_schedule.specs.Text as schedules
-use Rattle.brc_explore.specs.declared.event.Event.{Event}
-use Rattle.brc_explore.specs.WrongRuns.{event_in, IsWrongRun}
+use Rattle.brc_replay.specs.declared.event.Event.{Event}
+use Rattle.brc_replay.specs.WrongRuns.{event_in, IsWrongRun}
 use Rattle.brc_world.specs.Runs.{events_of}
 use Rattle.brc_command.specs.declared.replaying.Ending.{Ending}
 use Rattle.brc_command.specs.declared.replaying.Ending.TheVariants.{Whole, Wrong, Beyond}
 use Rattle.brc_command.specs.Calls.{calls_of}
 use Rattle.brc_command.specs.Loading.{ReadsAsModule, ReadsAsSchedule}
-use Rattle.brc_command.specs.WrongRuns.{GoesWrong, IsEnding, IsWrongEnding, TextsGoWrong}
+use Rattle.brc_command.specs.WrongRuns.{GoesWrong, IsEnding, IsWrongEnding, PlanGoesWrong, TextsGoWrong}
 
 -- What is wrong by one account is wrong by another.
 pub as_wrong : {one other : Type 0} → (one → other) → (ending : Ending) → IsEnding one ending → IsEnding other ending
@@ -29,12 +28,17 @@ as_said Whole said is = absurd said
 as_said (Wrong text) said is = is
 as_said (Beyond number) said is = absurd said
 
+-- What is wrong by one account of a run is wrong by another.
+pub ended_by : {one other E : Type 0} (r : Result Ending E) → IfOk r (IsEnding one) → (one → other)
+    → IfOk r (IsEnding other)
+ended_by (Ok ending) is by = as_wrong by ending is
+ended_by (Err e) is by = tt
+
 -- the same ending is handed on
-pub handed_on : {one other E : Type 0} (r : Result Ending E) (ending : Ending) → IfOk r (λ same. same ≡ ending)
-    → IsEnding one ending → (one → other) → IfOk r (IsEnding other)
-handed_on {one} {other} (Ok same) ending is wrong by =
-    as_wrong by same (subst (λ (e : Ending). IsEnding one e) (sym is) wrong)
-handed_on (Err e) ending is wrong by = tt
+pub handed_on : {E : Type 0} (wrong : Type 0) (r : Result Ending E) (ending : Ending)
+    → IfOk r (λ same. same ≡ ending) → IsEnding wrong ending → IfOk r (IsEnding wrong)
+handed_on wrong (Ok same) ending is said = subst (λ (e : Ending). IsEnding wrong e) (sym is) said
+handed_on wrong (Err e) ending is said = tt
 
 -- all events are the first ones and the rest
 all_events : (events : List Event) (n : ℕ) (all : List (ℕ × Choice)) → map event_in events ≡ all
@@ -42,14 +46,11 @@ all_events : (events : List Event) (n : ℕ) (all : List (ℕ × Choice)) → ma
 all_events events n all are =
     sym are ∙ ap (map event_in) (sym (take-append-drop n events)) ∙ map-append event_in (take n events) (drop n events)
 
-pub texts_wrong : (bytes plan : List ℕ) (m : Module) (s : Schedule) (calls : List Call) (events : List Event) (n : ℕ)
-    → modules.Spells bytes m → schedules.Spells plan s → calls ≡ calls_of m s.calls
-    → map event_in events ≡ events_of s.steps
-    → IsWrongRun m s.rows calls (map event_in (take n events)) → TextsGoWrong bytes plan
-texts_wrong bytes plan m s calls events n spelled listed found are wrong = record {
-  m = m;
+pub plan_wrong : (plan : List ℕ) (m : Module) (s : Schedule) (calls : List Call) (events : List Event) (n : ℕ)
+    → schedules.Spells plan s → calls ≡ calls_of m s.calls → map event_in events ≡ events_of s.steps
+    → IsWrongRun m s.rows calls (map event_in (take n events)) → PlanGoesWrong m plan
+plan_wrong plan m s calls events n listed found are wrong = record {
   s = s;
-  module_read = spelled;
   schedule_read = listed;
   made = map event_in (take n events);
   rest = map event_in (drop n events);
@@ -57,8 +58,9 @@ texts_wrong bytes plan m s calls events n spelled listed found are wrong = recor
   wrong = subst (λ (cs : List Call). IsWrongRun m s.rows cs (map event_in (take n events))) found wrong;
 }
 
-pub files_wrong : (gives : List ℕ → List ℕ → Type 0) (file schedule bytes plan : List ℕ) → ReadsAsModule gives file bytes
-    → ReadsAsSchedule gives schedule plan → TextsGoWrong bytes plan → GoesWrong gives file schedule
+pub files_wrong : (gives : List ℕ → List ℕ → Type 0) (file schedule bytes plan : List ℕ)
+    → ReadsAsModule gives file bytes → ReadsAsSchedule gives schedule plan → TextsGoWrong bytes plan
+    → GoesWrong gives file schedule
 files_wrong gives file schedule bytes plan read planned wrong = record {
   module_text = read.text;
   schedule_text = planned.text;
@@ -66,12 +68,14 @@ files_wrong gives file schedule bytes plan read planned wrong = record {
   schedule_given = planned.given;
   wrong = record {
     m = wrong.m;
-    s = wrong.s;
     module_read = read.spelled wrong.m wrong.module_read;
-    schedule_read = planned.spelled wrong.s wrong.schedule_read;
-    made = wrong.made;
-    rest = wrong.rest;
-    parts = wrong.parts;
-    wrong = wrong.wrong;
+    wrong = record {
+      s = wrong.wrong.s;
+      schedule_read = planned.spelled wrong.wrong.s wrong.wrong.schedule_read;
+      made = wrong.wrong.made;
+      rest = wrong.wrong.rest;
+      parts = wrong.wrong.parts;
+      wrong = wrong.wrong.wrong;
+    };
   };
 }

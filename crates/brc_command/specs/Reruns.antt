@@ -3,7 +3,7 @@ use Rattle.std.specs.Prelude.{ℕ, ◌<◌, ◌≤◌, take, map}
 use Rattle.brc_lang.specs.Grammar.{IsModule}
 use Rattle.brc_model.specs.Limits.{row_limit}
 use Rattle.brc_model.specs.Safety.{AreCalls}
-use Rattle.brc_explore.specs.WrongRuns.{event_in, IsWrongRun}
+use Rattle.brc_replay.specs.WrongRuns.{event_in, IsWrongRun}
 use Rattle.brc_command.specs.declared.replaying.Rerun.{Rerun}
 
 -- its module, rows and calls are within the limits

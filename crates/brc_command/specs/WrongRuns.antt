@@ -6,7 +6,7 @@ use Rattle.brc_model.specs.declared.thread.Choice.{Choice}
 use Rattle.brc_schedule.specs.declared.schedule.Schedule.{Schedule}
 use Rattle.brc_schedule.specs.Text as schedules
 use Rattle.brc_world.specs.Runs.{events_of}
-use Rattle.brc_explore.specs.WrongRuns.{IsWrongRun}
+use Rattle.brc_replay.specs.WrongRuns.{IsWrongRun}
 use Rattle.brc_command.specs.declared.unchecked.Unchecked.{Unchecked}
 use Rattle.brc_command.specs.declared.unchecked.Unchecked.TheVariants.{Explain, Step}
 use Rattle.brc_command.specs.declared.replaying.Ending.{Ending}
@@ -97,16 +97,20 @@ LeavesFound is_none is_found stop old new = new ≡ old
 
 -- ---- what `step --unchecked` finds
 
--- The texts spell a module and a schedule whose first events are a wrong run of the module.
-pub record TextsGoWrong (module_text schedule_text : List ℕ) : Type 0 where
-  pub m : Module
+-- The text spells a schedule whose first events are a wrong run of the module.
+pub record PlanGoesWrong (m : Module) (schedule_text : List ℕ) : Type 0 where
   pub s : Schedule
-  pub module_read : modules.Spells module_text m
   pub schedule_read : schedules.Spells schedule_text s
   pub made : List (ℕ × Choice)
   pub rest : List (ℕ × Choice)
   pub parts : events_of s.steps ≡ made ++ rest
   pub wrong : IsWrongRun m s.rows (calls_of m s.calls) made
+
+-- The texts spell a module and such a schedule.
+pub record TextsGoWrong (module_text schedule_text : List ℕ) : Type 0 where
+  pub m : Module
+  pub module_read : modules.Spells module_text m
+  pub wrong : PlanGoesWrong m schedule_text
 
 -- the same of texts that the files may have
 pub record GoesWrong (gives : List ℕ → List ℕ → Type 0) (file schedule : List ℕ) : Type 0 where

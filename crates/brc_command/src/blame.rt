@@ -1,8 +1,8 @@
 //! What is wrong about a run, in words.
 
-use brc_explore::{Complaint, Plain, Use};
 use brc_lang::{Instr, Kind, Module, write_bytes, write_instruction};
 use brc_model::Holding;
+use brc_plain::{Complaint, Plain, Use};
 use std::io;
 use std::io::Write;
 

@@ -10,14 +10,13 @@ ghost use Rattle.brc_command.specs.Commands.{Reports, HasTraceReport, IsStepReas
 ghost use Rattle.brc_command.specs.Texts.{IsFaultOfTexts};
 ghost use Rattle.brc_command.specs.Traces.{TracesTo, LeavesTraceOf};
 
-use crate::calls::calls_of;
 use crate::carrying::read_standard_input_twice;
 use crate::load::Load;
 use crate::loading::{load_module, load_schedule};
+use crate::ready::ready_of;
 use crate::save::Save;
 use crate::step_fault::StepFault;
 use crate::stop::Stop;
-use crate::texts::{accepted, module_of, schedule_of};
 use crate::tracing::trace_text_in;
 use brc_check::Checked;
 use brc_model::Call;
@@ -104,12 +103,10 @@ fn draw_texts<S: Save, W: Write>(
 pub fn picture_text(alloc: Global, module: &[u8], schedule: &[u8]) -> Result<Vec<u8>, StepFault>
     ensures { IfErr result (λ e. IsFaultOfTexts module.now schedule.now e) }
 {
-    let module = module_of(alloc, module)?;
-    let schedule = schedule_of(alloc, schedule)?;
-    let checked = accepted(alloc, module)?;
-    checked.states_are_true();
-    let calls = calls_of(alloc, checked.module(), &schedule)?;
-    Ok(drawn(alloc, &checked, &schedule, calls.as_slice())?)
+    let ready = ready_of(alloc, module, schedule)?;
+    let calls = ready.calls.as_slice();
+    let svg = drawn(alloc, &ready.checked, &ready.schedule, calls)?;
+    Ok(svg)
 }
 
 fn drawn(

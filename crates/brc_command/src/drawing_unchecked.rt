@@ -7,9 +7,10 @@ use crate::replaying::{Ending, Rerun, take_step};
 use crate::save::Save;
 use crate::step_fault::StepFault;
 use crate::stop::Stop;
-use brc_explore::{Event, Plain, Refused};
 use brc_lang::Function;
 use brc_picture::{Seen, Wrong, svg_text, touched_row};
+use brc_plain::{Plain, Refused};
+use brc_replay::Event;
 use brc_world::{NoMemory, Sight};
 use std::alloc::Global;
 

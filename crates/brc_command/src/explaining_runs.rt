@@ -3,7 +3,7 @@
 ghost use Rattle.std.specs.Prelude.{◌≡◌, map, IfOk, IfErr, IfSome, OnOk};
 ghost use Rattle.std.specs.Io.KnownBytes.{Appends};
 ghost use Rattle.brc_lang.specs.Grammar.{IsModule};
-ghost use Rattle.brc_explore.specs.WrongRuns.{event_in, IsWrongRun};
+ghost use Rattle.brc_replay.specs.WrongRuns.{event_in, IsWrongRun};
 ghost use Rattle.brc_command.specs.Commands.{Reports};
 ghost use Rattle.brc_command.specs.WrongRuns.{no_run_text, none_line, none_text, HasFound, HasNone, IsFound, IsFoundBy};
 ghost use Rattle.brc_command.specs.WrongRuns.{IsFoundOf, IsUnread, LeavesFound};
@@ -190,8 +190,8 @@ fn look_for<T: Terminal>(
     waiting.terminal.clear();
     match found {
         Ok(found) => Ok(found),
-        Err(brc_explore::Refused::OutOfBounds) => Ok(None),
-        Err(brc_explore::Refused::NoMemory) => Err(NoMemory),
+        Err(brc_plain::Refused::OutOfBounds) => Ok(None),
+        Err(brc_plain::Refused::NoMemory) => Err(NoMemory),
     }
 }
 

@@ -1,24 +1,25 @@
 //! The steps of a schedule over any module, up to the first that is wrong.
 
 ghost use Rattle.std.specs.Prelude.{◌≡◌, ◌<◌, ◌≤◌, length, IfOk, IfSome};
+ghost use Rattle.brc_lang.specs.Grammar.{IsModule};
 ghost use Rattle.brc_command.specs.Reruns.{Fits, HasWrongBeginning};
-ghost use Rattle.brc_command.specs.WrongRuns.{GoesWrong, IsEnding, IsWrongEnding, TextsGoWrong};
+ghost use Rattle.brc_command.specs.WrongRuns.{GoesWrong, IsEnding, IsWrongEnding, PlanGoesWrong, TextsGoWrong};
 
 use crate::blame::{write_complaint, write_lost};
-use crate::calls::calls_of;
 use crate::drawing_unchecked::with_picture;
+use crate::listed::listed_of;
 use crate::load::{Load, STANDARD_INPUT};
 use crate::loading::{load_module, load_schedule};
 use crate::retelling::tell_step;
-use crate::run_text::events_of;
 use crate::save::Save;
 use crate::step_fault::StepFault;
 use crate::stop::Stop;
 use crate::terminal::{Terminal, more_made};
-use crate::texts::{module_of, schedule_of};
-use brc_explore::{Event, Plain, Refused, goes_wrong};
+use crate::texts::module_of;
 use brc_lang::{Module, write_bytes};
 use brc_model::Call;
+use brc_plain::{Plain, Refused};
+use brc_replay::{Event, goes_wrong};
 use brc_report::{Paint, write_tally};
 use brc_trace::Teller;
 use std::alloc::Global;
@@ -33,8 +34,8 @@ pub enum Ending {
     /// The last step that is taken is wrong; or all are taken, the report is written, and an object is lost. The text
     /// says it in a line.
     Wrong(Vec<u8>),
-    /// The step of this number leaves the machine's bounds, or it stops its thread: what a stopped thread gives up is known
-    /// for accepted modules alone.
+    /// The step of this number leaves the machine's bounds, or it stops its thread: what a stopped thread gives up is
+    /// known for accepted modules alone.
     Beyond(u64),
 }
 
@@ -107,21 +108,48 @@ fn replay_texts<'a, S: Save, T: Terminal, W: Write>(
     ensures { IfOk result (IsEnding (TextsGoWrong text.now plan.now)) }
 {
     let module = module_of(alloc, text)?;
-    let schedule = schedule_of(alloc, plan)?;
-    let calls = calls_of(alloc, &module, &schedule)?;
-    let steps = schedule.steps.as_slice();
-    let events = events_of(alloc, steps)?;
-    let listed = calls.as_slice();
-    let made = events.as_slice();
+    replay_plan(alloc, &module, plan, trace, picture, save, terminal, out)
+}
+
+/// Does what `replay` does, of the module and the schedule's text.
+fn replay_plan<'a, S: Save, T: Terminal, W: Write>(
+    alloc: Global,
+    module: &Module,
+    plan: &[u8],
+    trace: bool,
+    picture: Option<&str>,
+    save: &mut S,
+    terminal: &mut T,
+    out: &mut W,
+) -> Result<Ending, Stop<'a>>
+    requires fits { IsModule «module».now }
+    ensures { IfOk result (IsEnding (PlanGoesWrong «module».now plan.now)) }
+{
+    let listed = listed_of(alloc, module, plan)?;
     let rerun = Rerun {
-        module: &module,
-        rows: schedule.rows,
-        calls: listed,
-        events: made,
+        module,
+        rows: listed.schedule.rows,
+        calls: listed.calls.as_slice(),
+        events: listed.events.as_slice(),
         trace: if trace { Some(terminal.paint()) } else { None },
     };
-    let ending = rerun_to_end(alloc, &rerun, terminal, out)?;
-    with_picture(alloc, &rerun, ending, picture, save)
+    replay_run(alloc, &rerun, picture, save, terminal, out)
+}
+
+/// Does what `replay` does, of the run.
+fn replay_run<'a, S: Save, T: Terminal, W: Write>(
+    alloc: Global,
+    rerun: &Rerun<'_>,
+    picture: Option<&str>,
+    save: &mut S,
+    terminal: &mut T,
+    out: &mut W,
+) -> Result<Ending, Stop<'a>>
+    requires fits { Fits rerun.now }
+    ensures { IfOk result (IsEnding (HasWrongBeginning rerun.now)) }
+{
+    let ending = rerun_to_end(alloc, rerun, terminal, out)?;
+    with_picture(alloc, rerun, ending, picture, save)
 }
 
 fn rerun_to_end<T: Terminal, W: Write>(

@@ -2,9 +2,10 @@
 //! end.
 
 use crate::blame::{write_complaint, write_lost};
-use brc_explore::{Event, Plain, Refused};
 use brc_lang::{Function, Module, write_bytes};
 use brc_pages::write_heading;
+use brc_plain::{Plain, Refused};
+use brc_replay::Event;
 use brc_report::Paint;
 use brc_trace::Teller;
 use brc_world::{NoMemory, Sight};
@@ -29,41 +30,67 @@ pub struct Told {
 pub fn tell(
     alloc: Global,
     module: &Module,
-    plain: Plain<'_>,
+    plain: &mut Plain<'_>,
     events: &[Event],
     paint: Paint,
 ) -> Result<Told, NoMemory> {
-    let mut plain = plain;
-    let mut teller = Teller::new(alloc, plain.threads())?;
-    let functions = module.functions.as_slice();
     let mut told = Told {
         lines: Vec::new(alloc),
         wrong: Vec::new(alloc),
     };
+    let mut teller = Teller::new(alloc, plain.threads())?;
+    tell_events(alloc, module, plain, events, paint, &mut teller, &mut told)?;
+    Ok(told)
+}
+
+/// Makes the events, and adds their lines and what is wrong to the words.
+fn tell_events(
+    alloc: Global,
+    module: &Module,
+    plain: &mut Plain<'_>,
+    events: &[Event],
+    paint: Paint,
+    teller: &mut Teller,
+    told: &mut Told,
+) -> Result<(), NoMemory> {
+    let functions = module.functions.as_slice();
     for at in 0..events.len() {
         let event = events[at];
         match plain.sight(alloc, event.thread, event.choice) {
-            Ok(sight) => tell_step(&mut teller, paint, functions, event, &sight)?,
-            Err(refused) => return unless_beyond(refused, told),
+            Ok(sight) => tell_step(teller, paint, functions, event, &sight)?,
+            Err(refused) => return unless_beyond(refused),
         }
-        if at.saturating_add(LAST_LINES) >= events.len() && !teller.line().is_empty() {
-            told.lines.extend_from_slice(b"    ")?;
-            told.lines.extend_from_slice(teller.line())?;
+        if at.saturating_add(LAST_LINES) >= events.len() {
+            add_line(teller, &mut told.lines)?;
         }
-        if at + 1 == events.len() && complains(alloc, module, &plain, event, at, &mut told.wrong)? {
-            return Ok(told);
+        if at + 1 == events.len() && complains(alloc, module, plain, event, at, &mut told.wrong)? {
+            return Ok(());
         }
         if let Err(refused) = plain.step(alloc, event.thread, event.choice) {
-            return unless_beyond(refused, told);
+            return unless_beyond(refused);
         }
     }
-    if let Some(row) = plain.lost() {
-        let begun = write_bytes(b"The end: ", &mut told.wrong);
-        if begun.is_err() || write_lost(&plain, row, &mut told.wrong).is_err() {
-            return Err(NoMemory);
-        }
+    match plain.lost() {
+        Some(row) => tell_lost(plain, row, &mut told.wrong),
+        None => Ok(()),
     }
-    Ok(told)
+}
+
+/// Adds the line of the latest step, if it has one.
+fn add_line(teller: &Teller, lines: &mut Vec<u8>) -> Result<(), NoMemory> {
+    if !teller.line().is_empty() {
+        lines.extend_from_slice(b"    ")?;
+        lines.extend_from_slice(teller.line())?;
+    }
+    Ok(())
+}
+
+fn tell_lost(plain: &Plain<'_>, row: u32, text: &mut Vec<u8>) -> Result<(), NoMemory> {
+    let begun = write_bytes(b"The end: ", text);
+    if begun.is_err() || write_lost(plain, row, text).is_err() {
+        return Err(NoMemory);
+    }
+    Ok(())
 }
 
 /// Puts together the line of the event's step.
@@ -83,11 +110,11 @@ pub fn tell_step(
     teller.tell(paint, functions, thread, sight)
 }
 
-/// Returns what there is so far, if the machine has left its bounds.
-fn unless_beyond(refused: Refused, told: Told) -> Result<Told, NoMemory> {
+/// The words end where the machine has left its bounds.
+fn unless_beyond(refused: Refused) -> Result<(), NoMemory> {
     match refused {
         Refused::NoMemory => Err(NoMemory),
-        Refused::OutOfBounds => Ok(told),
+        Refused::OutOfBounds => Ok(()),
     }
 }
 

@@ -1,28 +1,27 @@
 //! What is shown of a run that goes wrong: its calls, a schedule that makes it, its last steps, and what is wrong.
 
-ghost use Rattle.std.specs.Prelude.{◌≡◌, ◌++◌, true, map, IfOk, IfSome, OnOk};
+ghost use Rattle.std.specs.Prelude.{◌≡◌, ◌++◌, true, map, IfOk, IfSome};
 ghost use Rattle.brc_lang.specs.Grammar.{IsModule};
-ghost use Rattle.brc_explore.specs.WrongRuns.{event_in, IsWrongRun};
-ghost use Rattle.brc_world.specs.Runs.{events_of, events_of_line};
+ghost use Rattle.brc_replay.specs.WrongRuns.{event_in, IsWrongRun};
 ghost use Rattle.brc_command.specs.WrongRuns.{ShowsWrongRun, SpellsWrongRun};
 
-use crate::calls::calls_of;
-use crate::retelling::{tell, write_told};
+use crate::listed::listed_of;
+use crate::retelling::{Told, tell, write_told};
 use crate::step_fault::StepFault;
-use crate::texts::schedule_of;
-use brc_explore::{Event, Plain, Refused, Run, goes_wrong};
+use brc_explore::Run;
 use brc_lang::{Function, Module, write_bytes};
 use brc_model::Choice;
 use brc_pages::write_heading;
+use brc_plain::{Plain, Refused};
+use brc_replay::{Event, goes_wrong};
 use brc_report::Paint;
-use brc_schedule::Steps;
 use brc_world::NoMemory;
 use std::alloc::Global;
 use std::io;
 use std::io::Write;
 
-/// Returns what is shown of the run, which goes wrong, or `None` if the schedule that is shown doesn't: it is read back,
-/// and its steps are made. Returns the reason why it isn't one of the module, or `NoMemory`.
+/// Returns what is shown of the run, which goes wrong, or `None` if the schedule that is shown doesn't: it is read
+/// back, and its steps are made. Returns the reason why it isn't one of the module, or `NoMemory`.
 pub fn text_of_run(
     alloc: Global,
     module: &Module,
@@ -61,43 +60,14 @@ fn spells_wrong_run(alloc: Global, module: &Module, text: &[u8]) -> Result<bool,
     requires fits { IsModule «module».now }
     ensures { IfOk result (λ wrong. wrong ≡ true → SpellsWrongRun «module».now text.now) }
 {
-    let schedule = schedule_of(alloc, text)?;
-    let calls = calls_of(alloc, module, &schedule)?;
-    let steps = schedule.steps.as_slice();
-    let events = events_of(alloc, steps)?;
-    let listed = calls.as_slice();
-    let made = events.as_slice();
-    match goes_wrong(alloc, module, schedule.rows, listed, made) {
+    let listed = listed_of(alloc, module, text)?;
+    let calls = listed.calls.as_slice();
+    let events = listed.events.as_slice();
+    match goes_wrong(alloc, module, listed.schedule.rows, calls, events) {
         Ok(wrong) => Ok(wrong),
         Err(Refused::OutOfBounds) => Ok(false),
         Err(Refused::NoMemory) => Err(StepFault::NoMemory),
     }
-}
-
-/// Returns the events that the lines of a schedule list.
-pub fn events_of(alloc: Global, lines: &[Steps]) -> Result<Vec<Event>, NoMemory>
-    ensures { IfOk result (λ events. map event_in events.items ≡ events_of lines.now) }
-{
-    let mut events = Vec::new(alloc);
-    for at in 0..lines.len() {
-        add_events(&mut events, &lines[at])?;
-    }
-    Ok(events)
-}
-
-/// Adds the events that the line lists.
-fn add_events(events: &mut Vec<Event>, line: &Steps) -> Result<(), NoMemory>
-    ensures { OnOk result (map event_in events.new.items
-        ≡ map event_in events.old.items ++ events_of_line line.now) }
-{
-    let event = Event {
-        thread: line.thread as usize,
-        choice: line.choice,
-    };
-    for _ in 0..line.times {
-        events.push(event)?;
-    }
-    Ok(())
 }
 
 /// A vector refuses bytes only for want of memory.
@@ -188,14 +158,15 @@ fn text_below(alloc: Global, module: &Module, run: &Run, paint: Paint) -> Result
     requires fits { IsModule «module».now }
     requires wrong { IsWrongRun «module».now run.now.rows run.now.calls.items (map event_in run.now.events.items) }
 {
-    let mut text = Vec::new(alloc);
-    let first = match Plain::first(alloc, module, run.rows, run.calls.as_slice()) {
-        Ok(plain) => plain,
-        Err(_) => return Err(NoMemory),
+    let Ok(mut first) = Plain::first(alloc, module, run.rows, run.calls.as_slice()) else {
+        return Err(NoMemory);
     };
-    let told = tell(alloc, module, first, run.events.as_slice(), paint)?;
-    match write_told(&told, paint, &mut text) {
-        Ok(()) => Ok(text),
-        Err(_) => Err(NoMemory),
-    }
+    let told = tell(alloc, module, &mut first, run.events.as_slice(), paint)?;
+    written(told_text(alloc, &told, paint))
+}
+
+fn told_text(alloc: Global, told: &Told, paint: Paint) -> io::Result<Vec<u8>> {
+    let mut text = Vec::new(alloc);
+    write_told(told, paint, &mut text)?;
+    Ok(text)
 }

@@ -11,10 +11,9 @@ ghost use Rattle.brc_command.specs.declared.step_fault.StepFault.TheVariants.{Ou
 ghost use Rattle.brc_command.specs.Calls.{calls_of};
 ghost use Rattle.brc_command.specs.Texts.{last_world, HasTally, StepsTo, StepsTowards, IsFaultOfTexts};
 
-use crate::calls::calls_of;
+use crate::ready::ready_of;
 use crate::step_fault::StepFault;
 use crate::terminal::{NoTerminal, Terminal, more_made};
-use crate::texts::{accepted, module_of, schedule_of};
 use brc_check::Checked;
 use brc_model::Call;
 use brc_report::{Tally, write_tally};
@@ -77,12 +76,10 @@ fn tally_of_texts<T: Terminal>(
     ensures { MatchResult result (λ tally. HasTally module.now schedule.now tally)
         (λ e. IsFaultOfTexts module.now schedule.now e) }
 {
-    let module = module_of(alloc, module)?;
-    let schedule = schedule_of(alloc, schedule)?;
-    let checked = accepted(alloc, module)?;
-    checked.states_are_true();
-    let calls = calls_of(alloc, checked.module(), &schedule)?;
-    Ok(last_tally(alloc, &checked, &schedule, calls.as_slice(), terminal)?)
+    let ready = ready_of(alloc, module, schedule)?;
+    let calls = ready.calls.as_slice();
+    let tally = last_tally(alloc, &ready.checked, &ready.schedule, calls, terminal)?;
+    Ok(tally)
 }
 
 fn last_tally<T: Terminal>(

@@ -11,9 +11,8 @@ ghost use Rattle.brc_command.specs.Calls.{calls_of};
 ghost use Rattle.brc_command.specs.Texts.{IsFaultOfTexts};
 ghost use Rattle.brc_command.specs.Traces.{traced_report, TracesTo, LeavesTraceOf};
 
-use crate::calls::calls_of;
+use crate::ready::ready_of;
 use crate::step_fault::StepFault;
-use crate::texts::{accepted, module_of, schedule_of};
 use brc_check::Checked;
 use brc_model::Call;
 use brc_report::{Paint, write_tally};
@@ -57,12 +56,9 @@ pub fn trace_text_in<W: Write>(
 {
     runs_follow_machines();
     tallies_follow_machines();
-    let module = module_of(alloc, module)?;
-    let schedule = schedule_of(alloc, schedule)?;
-    let checked = accepted(alloc, module)?;
-    checked.states_are_true();
-    let calls = calls_of(alloc, checked.module(), &schedule)?;
-    write_traced(alloc, &checked, &schedule, calls.as_slice(), paint, out)
+    let ready = ready_of(alloc, module, schedule)?;
+    let calls = ready.calls.as_slice();
+    write_traced(alloc, &ready.checked, &ready.schedule, calls, paint, out)
 }
 
 fn write_traced<W: Write>(

@@ -1,13 +1,1 @@
-pub mod Around
-pub mod Handing
-pub mod Calling
-pub mod Bags
-pub mod FirstLists
-pub mod Unfit
-pub mod Threads
-pub mod Steps
 pub mod Callable
-pub mod Looking
-pub mod Beginning
-pub mod Refuting
-pub mod Replays

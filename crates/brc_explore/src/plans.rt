@@ -3,17 +3,17 @@
 ghost use Rattle.std.specs.Prelude.{◌<◌, ◌≤◌, map, IfOk, IfSome};
 ghost use Rattle.brc_lang.specs.Grammar.{IsModule};
 ghost use Rattle.brc_model.specs.Limits.{row_limit};
-ghost use Rattle.brc_explore.specs.WrongRuns.{event_in, IsWrongRun};
+ghost use Rattle.brc_replay.specs.WrongRuns.{event_in, IsWrongRun};
 
-use crate::event::Event;
 use crate::possible::is_possible;
-use crate::refused::Refused;
 use crate::search::{Order, Watch, find};
 use brc_lang::{Function, Instr, Module};
 use brc_model::Call;
+use brc_plain::Refused;
+use brc_replay::Event;
 use std::alloc::Global;
 
-/// One worker is tried with all rows, and with fewer than so many.
+/// One worker is tried with all rows, and with each number of rows below this one.
 const FEW_ROWS: u16 = 8;
 
 /// How far a search goes.
@@ -181,7 +181,7 @@ fn plan_together(
     Ok(())
 }
 
-/// Returns the calls of so many workers, of which the first calls `one` and all others call `other`.
+/// Returns the calls of this number of workers, of which the first calls `one` and all others call `other`.
 fn planned(
     alloc: Global,
     one: usize,

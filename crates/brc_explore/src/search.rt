@@ -1,17 +1,15 @@
 //! The search for a run that goes wrong. Nothing is claimed of how it looks: a run that it finds is replayed.
 
-ghost use Rattle.std.specs.Prelude.{◌<◌, ◌≤◌, map, IfOk, IfSome};
+ghost use Rattle.std.specs.Prelude.{◌≡◌, ◌<◌, ◌≤◌, map, None, IfOk, IfSome};
 ghost use Rattle.brc_lang.specs.Grammar.{IsModule};
 ghost use Rattle.brc_model.specs.Limits.{row_limit};
 ghost use Rattle.brc_model.specs.Safety.{AreCalls};
-ghost use Rattle.brc_explore.specs.WrongRuns.{event_in, IsWrongRun};
+ghost use Rattle.brc_replay.specs.WrongRuns.{event_in, IsWrongRun};
 
-use crate::event::Event;
-use crate::plain::Plain;
-use crate::refused::Refused;
-use crate::wrong::goes_wrong;
 use brc_lang::Module;
 use brc_model::{Call, Choice};
+use brc_plain::{Plain, Refused};
+use brc_replay::{Event, goes_wrong};
 use std::alloc::Global;
 use std::collections::{HashSet, VecDeque};
 
@@ -62,16 +60,10 @@ pub fn find<W: Watch>(
 {
     let Found { events, states } = search(alloc, module, rows, calls, order, states, watch)?;
     let Some(events) = events else {
-        return Ok(Found {
-            events: None,
-            states,
-        });
+        return Ok(none_in(states));
     };
     if !goes_wrong(alloc, module, rows, calls, events.as_slice())? {
-        return Ok(Found {
-            events: None,
-            states,
-        });
+        return Ok(none_in(states));
     }
     Ok(Found {
         events: Some(events),
@@ -94,32 +86,9 @@ fn search<W: Watch>(
     requires most_rows { rows ≤ row_limit }
     requires calls_fit { AreCalls «module».now calls.now }
 {
+    let first = Plain::first(alloc, module, rows, calls)?;
     let mut search = States::new(alloc, states);
-    search.begin(Plain::first(alloc, module, rows, calls)?)?;
-    for number in 0..states {
-        let Some(plain) = search.waiting.pop_front() else {
-            return Ok(Found {
-                events: None,
-                states: number,
-            });
-        };
-        if number % STATES_BETWEEN == STATES_BETWEEN - 1 && !watch.visited(number) {
-            return Ok(Found {
-                events: None,
-                states: number,
-            });
-        }
-        if let Some(last) = search.look_from(&plain, number, order)? {
-            return Ok(Found {
-                events: Some(search.path(number, last)?),
-                states: number,
-            });
-        }
-    }
-    Ok(Found {
-        events: None,
-        states,
-    })
+    search.look(first, order, watch)
 }
 
 /// How the search has come to a state: by an event of an earlier one.
@@ -132,29 +101,20 @@ struct Step {
 }
 
 impl Step {
+    fn choice(self) -> Choice {
+        if self.faults {
+            Choice::Fault
+        } else {
+            Choice::Ok
+        }
+    }
+
     fn event(self) -> Event {
         Event {
             thread: self.thread,
-            choice: if self.faults {
-                Choice::Fault
-            } else {
-                Choice::Ok
-            },
+            choice: self.choice(),
         }
     }
-}
-
-/// What is behind an event.
-#[derive(Drop)]
-enum Behind<'a> {
-    /// The event is bad.
-    Bad,
-    /// A machine whose threads are all gone, with an object lost; the event ends a host call or a close by a fault.
-    Lost { faults: bool },
-    /// A machine that goes on.
-    Next { plain: Plain<'a>, faults: bool },
-    /// A machine whose numbers are too large to be looked at.
-    Beyond,
 }
 
 /// The states of a search.
@@ -171,6 +131,7 @@ struct States<'a> {
     seen: HashSet<u64>,
 }
 
+// Each drop of a machine costs the prover seconds. So few functions own one, and these have few returns.
 impl<'a> States<'a> {
     fn new(alloc: Global, most: usize) -> States<'a> {
         States {
@@ -182,16 +143,37 @@ impl<'a> States<'a> {
         }
     }
 
-    /// Begins with the machine before any step.
-    fn begin(&mut self, plain: Plain<'a>) -> Result<(), Refused> {
+    /// Looks at the machine before any step, and at those behind it, in the order in which the search comes to them.
+    /// Returns a run that goes wrong, if there is one.
+    fn look<W: Watch>(
+        &mut self,
+        first: Plain<'a>,
+        order: Order,
+        watch: &mut W,
+    ) -> Result<Found, Refused> {
         self.come_to(
-            plain,
+            first,
             Step {
                 earlier: 0,
                 thread: 0,
                 faults: false,
             },
-        )
+        )?;
+        for number in 0..self.most {
+            if number % STATES_BETWEEN == STATES_BETWEEN - 1 && !watch.visited(number) {
+                return Ok(none_in(number));
+            }
+            let Some(plain) = self.waiting.pop_front() else {
+                return Ok(none_in(number));
+            };
+            if let Some(last) = self.look_from(plain, number, order)? {
+                return Ok(Found {
+                    events: Some(self.path(number, last)?),
+                    states: number,
+                });
+            }
+        }
+        Ok(none_in(self.most))
     }
 
     /// Keeps the machine, if it is another one than those so far, and there is room for it.
@@ -203,8 +185,18 @@ impl<'a> States<'a> {
         Ok(())
     }
 
-    /// Looks at each event of the state of this number. Returns the event with which a run goes wrong, if there is one.
+    /// Looks at each step from the machine, which is the state of this number. Returns the step with which a run goes
+    /// wrong, if there is one.
     fn look_from(
+        &mut self,
+        plain: Plain<'a>,
+        number: usize,
+        order: Order,
+    ) -> Result<Option<Step>, Refused> {
+        self.look_at_all(&plain, number, order)
+    }
+
+    fn look_at_all(
         &mut self,
         plain: &Plain<'a>,
         number: usize,
@@ -228,70 +220,43 @@ impl<'a> States<'a> {
         number: usize,
         thread: usize,
     ) -> Result<Option<Step>, Refused> {
-        let success = self.behind(plain, thread, false)?;
-        let by_success = self.take(success, number, thread)?;
-        if by_success.is_some() || !plain.asks_host(self.alloc, thread)? {
-            return Ok(by_success);
-        }
-        let fault = self.behind(plain, thread, true)?;
-        self.take(fault, number, thread)
-    }
-
-    /// Keeps the machine behind an event of the thread. Returns the event if a run goes wrong with it.
-    fn take(
-        &mut self,
-        behind: Behind<'a>,
-        number: usize,
-        thread: usize,
-    ) -> Result<Option<Step>, Refused> {
-        let step = |faults| Step {
+        let step = Step {
             earlier: number,
             thread,
-            faults,
+            faults: false,
         };
-        Ok(match behind {
-            Behind::Bad => Some(step(false)),
-            Behind::Lost { faults } => Some(step(faults)),
-            Behind::Next { plain, faults } => {
-                self.come_to(plain, step(faults))?;
-                None
-            }
-            Behind::Beyond => None,
-        })
+        let wrong = self.look_by(plain, step)?;
+        if wrong.is_some() || !plain.asks_host(self.alloc, thread)? {
+            return Ok(wrong);
+        }
+        self.look_by(
+            plain,
+            Step {
+                faults: true,
+                ..step
+            },
+        )
     }
 
-    /// Returns what is behind the thread's next step.
-    fn behind(
-        &self,
-        plain: &Plain<'a>,
-        thread: usize,
-        faults: bool,
-    ) -> Result<Behind<'a>, Refused> {
-        match self.step_of(plain, thread, faults) {
-            Err(Refused::OutOfBounds) => Ok(Behind::Beyond),
-            behind => behind,
+    /// Takes the step. Returns it if a run goes wrong with it, and otherwise keeps the machine behind it. One whose
+    /// numbers are too large isn't looked at.
+    fn look_by(&mut self, plain: &Plain<'a>, step: Step) -> Result<Option<Step>, Refused> {
+        match self.take(plain, step) {
+            Err(Refused::OutOfBounds) => Ok(None),
+            wrong => wrong,
         }
     }
 
-    fn step_of(
-        &self,
-        plain: &Plain<'a>,
-        thread: usize,
-        faults: bool,
-    ) -> Result<Behind<'a>, Refused> {
-        let choice = if faults { Choice::Fault } else { Choice::Ok };
-        if plain.is_bad(self.alloc, thread, choice)? {
-            return Ok(Behind::Bad);
+    fn take(&mut self, plain: &Plain<'a>, step: Step) -> Result<Option<Step>, Refused> {
+        if plain.is_bad(self.alloc, step.thread, step.choice())? {
+            return Ok(Some(step));
         }
-        let mut next = plain.copy(self.alloc)?;
-        next.step(self.alloc, thread, choice)?;
-        if next.has_ended() && next.lost().is_some() {
-            return Ok(Behind::Lost { faults });
+        let next = behind(self.alloc, plain, step)?;
+        if leaks(&next) {
+            return Ok(Some(step));
         }
-        Ok(Behind::Next {
-            plain: next,
-            faults,
-        })
+        self.come_to(next, step)?;
+        Ok(None)
     }
 
     /// Returns the events that lead to the state of this number, and then this one.
@@ -310,6 +275,28 @@ impl<'a> States<'a> {
         events.reverse();
         Ok(events)
     }
+}
+
+/// Returns that no run is found among this number of states.
+fn none_in(states: usize) -> Found
+    ensures { result.events ≡ None }
+{
+    Found {
+        events: None,
+        states,
+    }
+}
+
+/// Returns the machine behind the step.
+fn behind<'a>(alloc: Global, plain: &Plain<'a>, step: Step) -> Result<Plain<'a>, Refused> {
+    let mut next = plain.copy(alloc)?;
+    next.step(alloc, step.thread, step.choice())?;
+    Ok(next)
+}
+
+/// Returns whether all threads are gone and an object is lost.
+fn leaks(plain: &Plain<'_>) -> bool {
+    plain.has_ended() && plain.lost().is_some()
 }
 
 /// Returns whether the order lets the thread take the next step, and it has one.

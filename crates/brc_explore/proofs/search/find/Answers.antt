@@ -1,6 +1,6 @@
 use Rattle.std.proofs.Common.{◌≡◌, true, List, map, rules, subst}
-use Rattle.brc_explore.specs.declared.event.Event.{Event}
-use Rattle.brc_explore.specs.WrongRuns.{event_in, IsWrongRun}
+use Rattle.brc_replay.specs.declared.event.Event.{Event}
+use Rattle.brc_replay.specs.WrongRuns.{event_in, IsWrongRun}
 use Rattle.brc_explore.proofs.search.find.Goals as goal
 
 pub returns : goal.returns

@@ -1,9 +1,0 @@
-pub mod WrongRuns
-pub mod Places
-pub mod Bags
-pub mod Acts
-pub mod Heres
-pub mod Lives
-pub mod Threads
-pub mod Plains
-pub mod Sights

@@ -1,0 +1,10 @@
+pub mod Around
+pub mod Handing
+pub mod Calling
+pub mod Bags
+pub mod FirstLists
+pub mod Unfit
+pub mod Threads
+pub mod Steps
+pub mod Looking
+pub mod Beginning

@@ -1,0 +1,10 @@
+pub mod Begun
+pub mod Lost
+pub mod Places
+pub mod Bags
+pub mod Acts
+pub mod Heres
+pub mod Lives
+pub mod Threads
+pub mod Plains
+pub mod Sights
