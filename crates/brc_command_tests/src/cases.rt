@@ -62,17 +62,24 @@ pub struct Shelf<'t> {
     pub schedule: Bytes<'t>,
 }
 
+impl<'t> Shelf<'t> {
+    // Within `load_more`, each arm would have all of its contract proved: a minute.
+    fn bytes_of(&self, path: &str) -> Bytes<'t> {
+        match path {
+            "m.brc" | "-" => self.module,
+            "s.txt" => self.schedule,
+            _ => Err(LoadError::Unreadable),
+        }
+    }
+}
+
 impl Load for Shelf<'_> {
     ghost may_give = { λ _ _ _. ⊤ };
 
     ghost may_lack = { λ _ _. ⊤ };
 
     fn load_more(&mut self, path: &str, bytes: &mut Vec<u8>) -> Result<bool, LoadError> {
-        let text = match path {
-            "m.brc" | "-" => self.module?,
-            "s.txt" => self.schedule?,
-            _ => return Err(LoadError::Unreadable),
-        };
+        let text = self.bytes_of(path)?;
         match bytes.extend_from_slice(text) {
             Ok(()) => Ok(true),
             Err(_) => Err(LoadError::NoMemory),

@@ -6,6 +6,7 @@ use crate::loops::{EIGHT_NUMBERS_REPORT, NUMBERS, THREE_NUMBERS_REPORT};
 use crate::worked::{NUMBER_REPORT, TWO_NUMBERS, TWO_NUMBERS_REPORT};
 use brc_arguments::act;
 use brc_run::System;
+use std::process::Abort;
 
 pub const SCHEDULE: &[u8] = b"schedule 1\nworkers 1\nrows 4\ncall 1 f 1\nstep 0 ok 1\n";
 
@@ -245,18 +246,29 @@ const EXPLAINED: &[(&[&str], &[u8])] = &[
     (&["brc", "explain", "--code", "L10"], b"L10"),
 ];
 
-#[test]
-fn carries_out_command_lines(rt: HostRuntime) {
-    for (module, words, (report, line, want)) in CARRIED_OUT {
-        let (out, err, status) = acts(&rt, words, Ok(*module), Ok(SCHEDULE));
+fn assert_carried_out<R: System + Abort + AllocGlobal>(
+    rt: &R,
+    rows: &[(&[u8], &[&str], (&[u8], &[u8], u8))],
+) {
+    for (module, words, (report, line, want)) in rows {
+        let (out, err, status) = acts(rt, words, Ok(*module), Ok(SCHEDULE));
         assert_eq!(rt; out.as_slice(), *report, "{words:?}");
         assert_eq!(rt; err.as_slice(), *line, "{words:?}");
         assert_eq!(rt; status, *want, "{words:?}");
     }
-    for (words, part) in EXPLAINED {
-        let (out, err, status) = acts(&rt, words, Ok(SMALLEST), Ok(SCHEDULE));
+}
+
+fn assert_explained<R: System + Abort + AllocGlobal>(rt: &R, rows: &[(&[&str], &[u8])]) {
+    for (words, part) in rows {
+        let (out, err, status) = acts(rt, words, Ok(SMALLEST), Ok(SCHEDULE));
         assert!(rt; contains(out.as_slice(), part), "{words:?}");
         assert!(rt; err.is_empty(), "{words:?}");
         assert_eq!(rt; status, 0, "{words:?}");
     }
+}
+
+#[test]
+fn carries_out_command_lines(rt: HostRuntime) {
+    assert_carried_out(&rt, CARRIED_OUT);
+    assert_explained(&rt, EXPLAINED);
 }

@@ -1,7 +1,7 @@
 //! What `brc explain` writes.
 
 use crate::cases::{
-    Case, FIRST, LEAKING, MISSPELT, SMALLEST, UNREAD, assert_cases, contains, outputs,
+    Bytes, Case, FIRST, LEAKING, MISSPELT, SMALLEST, UNREAD, assert_cases, contains, outputs,
 };
 use crate::statics::{FETCHED, NOT_THERE};
 use crate::worked::KEEP;
@@ -9,6 +9,8 @@ use brc_check::CheckCode;
 use brc_command::{Asked, LoadError};
 use brc_lang::FaultCode;
 use brc_pages::Topic;
+use brc_run::System;
+use std::process::Abort;
 
 // A module, the name of a function, a part of its explanation, and the line on standard error and the status, which
 // are those of `brc check`.
@@ -85,6 +87,21 @@ const NO_FILE: &[Case<'static>] = &[
     ),
 ];
 
+/// Asserts that the command writes a text with the part, and the line and the status.
+fn assert_part<R: System + Abort + AllocGlobal>(
+    rt: &R,
+    asked: &Asked<'_>,
+    module: Bytes<'_>,
+    part: &[u8],
+    line: &[u8],
+    want: u8,
+) {
+    let (out, err, status) = outputs(rt, asked, module, UNREAD);
+    assert!(rt; contains(out.as_slice(), part), "{line:?}: {asked:?}");
+    assert_eq!(rt; err.as_slice(), line, "{asked:?}");
+    assert_eq!(rt; status, want, "{line:?}: {asked:?}");
+}
+
 #[test]
 fn explains_modules_and_codes(rt: HostRuntime) {
     for (module, function, part, (line, want)) in MODULES {
@@ -92,17 +109,10 @@ fn explains_modules_and_codes(rt: HostRuntime) {
             file: "m.brc",
             function: *function,
         };
-        let (out, err, status) = outputs(&rt, &asked, Ok(*module), UNREAD);
-        assert!(rt; contains(out.as_slice(), part), "{line:?}: {asked:?}");
-        assert_eq!(rt; err.as_slice(), *line, "{asked:?}");
-        assert_eq!(rt; status, *want, "{line:?}: {asked:?}");
+        assert_part(&rt, &asked, Ok(*module), part, line, *want);
     }
     for (topic, part) in PAGES {
-        let asked = Asked::Page { topic: *topic };
-        let (out, err, status) = outputs(&rt, &asked, UNREAD, UNREAD);
-        assert!(rt; contains(out.as_slice(), part), "{asked:?}");
-        assert!(rt; err.is_empty(), "{asked:?}");
-        assert_eq!(rt; status, 0, "{asked:?}");
+        assert_part(&rt, &Asked::Page { topic: *topic }, UNREAD, part, b"", 0);
     }
     let unknown = Asked::Explain {
         file: "m.brc",

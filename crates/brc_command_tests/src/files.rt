@@ -4,6 +4,8 @@ use crate::cases::{Bytes, LEAKING, MISSPELT, SMALLEST};
 use crate::command_lines::acts;
 use crate::statics::KEPT;
 use brc_command::LoadError;
+use brc_run::System;
+use std::process::Abort;
 
 /// A module, the words, and the texts on standard output and on standard error, and the status. There is no `n.brc`,
 /// and `s.txt` is no module's text.
@@ -175,28 +177,41 @@ const IN_JSON: &[Row<'static>] = &[
     ),
 ];
 
+fn assert_rows<R: System + Abort + AllocGlobal>(rt: &R, rows: &[Row<'_>]) {
+    for (module, words, (report, lines, want)) in rows {
+        let (out, err, status) = acts(rt, words, *module, Ok(b"schedule 1\n"));
+        assert_eq!(rt; out.as_slice(), *report, "{words:?}");
+        assert_eq!(rt; err.as_slice(), *lines, "{words:?}");
+        assert_eq!(rt; status, *want, "{words:?}");
+    }
+}
+
+/// Returns whether the text is these objects, one behind the other.
+fn is_in_turn(text: &[u8], objects: &[&[u8]]) -> bool {
+    let mut rest = text;
+    for object in objects {
+        if !rest.starts_with(object) {
+            return false;
+        }
+        rest = &rest[object.len().min(rest.len())..];
+    }
+    rest.is_empty()
+}
+
+/// Asserts that there is an object for each file.
+fn assert_objects<R: System + Abort + AllocGlobal>(rt: &R, words: &[&str], objects: &[&[u8]]) {
+    let (out, err, status) = acts(rt, words, Ok(LEAKING), Ok(b""));
+    assert!(rt; is_in_turn(out.as_slice(), objects), "{words:?}");
+    assert!(rt; err.is_empty(), "{words:?}");
+    assert_eq!(rt; status, 2, "{words:?}");
+}
+
 #[test]
 fn checks_several_files(rt: HostRuntime) {
-    for rows in [IN_LINES, IN_JSON] {
-        for (module, words, (report, lines, want)) in rows {
-            let (out, err, status) = acts(&rt, words, *module, Ok(b"schedule 1\n"));
-            assert_eq!(rt; out.as_slice(), *report, "{words:?}");
-            assert_eq!(rt; err.as_slice(), *lines, "{words:?}");
-            assert_eq!(rt; status, *want, "{words:?}");
-        }
-    }
-    // An object for each file.
+    assert_rows(&rt, IN_LINES);
+    assert_rows(&rt, IN_JSON);
     let words = [
         "brc", "check", "--format", "json", "m.brc", "a\"\\b", "m.brc",
     ];
-    let (out, err, status) = acts(&rt, words.as_slice(), Ok(LEAKING), Ok(b""));
-    let objects = [REFUSED, NO_FILE, REFUSED];
-    let mut rest = out.as_slice();
-    for object in objects {
-        assert!(rt; rest.starts_with(object), "{rest:?}");
-        rest = &rest[object.len().min(rest.len())..];
-    }
-    assert!(rt; rest.is_empty(), "{rest:?}");
-    assert!(rt; err.is_empty());
-    assert_eq!(rt; status, 2);
+    assert_objects(&rt, words.as_slice(), &[REFUSED, NO_FILE, REFUSED]);
 }

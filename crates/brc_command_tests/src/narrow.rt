@@ -7,6 +7,7 @@ use brc_check::CheckCode;
 use brc_command::{Asked, Format, check_files, execute};
 use brc_pages::Topic;
 use brc_run::System;
+use std::alloc::Global;
 use std::io;
 use std::io::{ErrorKind, Write};
 use std::process::Abort;
@@ -67,22 +68,14 @@ fn assert_stops<R: System + Abort + AllocGlobal>(
             if text.len() > LONG && !some.contains(&most) {
                 continue;
             }
-            let mut out = Narrow {
-                taken: Vec::new(rt.alloc()),
-                left: most,
-                interrupts,
+            let (line, status) = if most == text.len() {
+                (own_line, own_status)
+            } else {
+                (b"cannot write\n".as_slice(), 2)
             };
-            let mut err: Vec<u8> = Vec::new(rt.alloc());
-            let mut files = Shelf {
-                module: Ok(module),
-                schedule: Ok(SCHEDULE),
-            };
-            let found = execute(rt, rt.alloc(), asked, &mut files, &mut out, &mut err);
-            let whole = most == text.len();
-            let line: &[u8] = if whole { own_line } else { b"cannot write\n" };
-            let status = if whole { own_status } else { 2 };
+            let (out, err, found) = narrowly(rt, asked, module, most, interrupts);
             assert_eq!(rt;
-                out.taken.as_slice(),
+                out.as_slice(),
                 &text[..most],
                 "{asked:?} after {most}, interrupts: {interrupts}"
             );
@@ -98,6 +91,28 @@ fn assert_stops<R: System + Abort + AllocGlobal>(
             );
         }
     }
+}
+
+/// Returns what the command writes on a writer that takes this number of bytes, and on standard error, and the status.
+fn narrowly<R: System + AllocGlobal>(
+    rt: &R,
+    asked: &Asked<'_>,
+    module: &[u8],
+    most: usize,
+    interrupts: bool,
+) -> (Vec<u8>, Vec<u8>, u8) {
+    let mut out = Narrow {
+        taken: Vec::new(rt.alloc()),
+        left: most,
+        interrupts,
+    };
+    let mut err: Vec<u8> = Vec::new(rt.alloc());
+    let mut files = Shelf {
+        module: Ok(module),
+        schedule: Ok(SCHEDULE),
+    };
+    let status = execute(rt, rt.alloc(), asked, &mut files, &mut out, &mut err);
+    (out.taken, err, status)
 }
 
 #[test]
@@ -170,23 +185,35 @@ const CHECKS: &[Check<'static>] = &[
     ),
 ];
 
+/// Returns what a check of the files writes on a writer that takes this number of bytes, and on standard error, and the
+/// status.
+fn checked_narrowly(
+    alloc: Global,
+    files: &[&str],
+    format: Format<'_>,
+    most: usize,
+) -> (Vec<u8>, Vec<u8>, u8) {
+    let mut out = Narrow {
+        taken: Vec::new(alloc),
+        left: most,
+        interrupts: false,
+    };
+    let mut err: Vec<u8> = Vec::new(alloc);
+    let mut load = Shelf {
+        module: Ok(SMALLEST),
+        schedule: UNREAD,
+    };
+    let status = check_files(alloc, files, format, &mut load, &mut out, &mut err);
+    (out.taken, err, status)
+}
+
 #[test]
 fn goes_on_after_an_output_error(rt: HostRuntime) {
     for (files, format, text, whole, cut) in CHECKS {
         for most in 0..=text.len() {
-            let mut out = Narrow {
-                taken: Vec::new(rt.alloc()),
-                left: most,
-                interrupts: false,
-            };
-            let mut err: Vec<u8> = Vec::new(rt.alloc());
-            let mut load = Shelf {
-                module: Ok(SMALLEST),
-                schedule: UNREAD,
-            };
-            let status = check_files(rt.alloc(), files, *format, &mut load, &mut out, &mut err);
+            let (out, err, status) = checked_narrowly(rt.alloc(), files, *format, most);
             let (lines, want) = if most == text.len() { whole } else { cut };
-            assert_eq!(rt; out.taken.as_slice(), &text[..most], "{files:?}");
+            assert_eq!(rt; out.as_slice(), &text[..most], "{files:?}");
             assert_eq!(rt; err.as_slice(), *lines, "{files:?} after {most}");
             assert_eq!(rt; status, *want, "{files:?} after {most}");
         }

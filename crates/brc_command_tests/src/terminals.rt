@@ -1,4 +1,3 @@
-ghost use Rattle.std.specs.Prelude.{◌≡◌};
 ghost use Rattle.brc_report.specs.declared.paint.Paint.TheVariants.{Ansi};
 
 use crate::cases::{CHECK, FIRST, LEAKING, STEP, Shelf, UNREAD, outputs, to_run};

@@ -170,8 +170,8 @@ fn traces_modules(rt: HostRuntime) {
     assert!(rt; untraced.is_empty());
 }
 
-// A module and a schedule, and parts of the picture of the run: lanes, instructions, rules, and what the steps have left
-// in the objects' words.
+// A module and a schedule, and parts of the picture of the run: lanes, instructions, rules, and what the steps have
+// left in the objects' words.
 const PICTURES: &[(&[u8], &[u8], &[&[u8]])] = &[
     (
         SMALLEST,

@@ -7,7 +7,10 @@ use crate::hearing::Hearing;
 use crate::runs::{MOST_ROWS, run_apart, run_in_thread, run_over};
 use crate::worked::{HAND_BACK, IN_ITSELF, KEEP, NOTHING, OWN_TURNS, SET_OUT_OF_RANGE, THREE_OPEN};
 use brc_host::FakeHost;
+use std::alloc::Global;
+use std::sync::Wait;
 use std::test::*;
+use std::thread::Threads;
 
 /// Each bound from 0 to this one is tried.
 const MOST_STEPS: u64 = 20;
@@ -177,27 +180,31 @@ const TWO_FUNCTIONS: &[u8] =
 /// How many instructions a call of `own` begins, of which the first makes a number.
 const OWN_STEPS: u64 = 12;
 
+/// Lets two workers call the function of this number four times, and begin at most `steps` instructions. Returns
+/// whether one has made all its calls, and the objects that were created, closed and are alive.
+fn two_stopped<R: Threads + Wait + Sync>(
+    rt: &R,
+    alloc: Global,
+    function: usize,
+    steps: u64,
+) -> Result<(bool, [u64; 3]), Fail> {
+    let checked = accepted(alloc, TWO_FUNCTIONS)?;
+    let mut hosts = [FakeHost::new(&[]), FakeHost::new(&[])];
+    let gate = Hearing::new();
+    let (ends, objects, _) = run_apart(
+        rt, alloc, &checked, function, 2, MOST_ROWS, 4, steps, &mut hosts, &gate,
+    )?;
+    let done = ends.as_slice().iter().any(|ran| ran.is_done());
+    Ok((done, objects))
+}
+
 /// Four calls begin more instructions than any of the bounds, so both workers stop.
 #[test]
 fn two_workers_stop_at_each_bound(rt: HostRuntime) -> Result<(), Fail> {
-    let checked = accepted(rt.alloc(), TWO_FUNCTIONS)?;
     for steps in 0..=MOST_STEPS {
         let numbers = 2 * steps.div_ceil(OWN_STEPS);
         for (function, created) in [(0, 1 + numbers), (1, 1)] {
-            let mut hosts = [FakeHost::new(&[]), FakeHost::new(&[])];
-            let (ends, objects, _) = run_apart(
-                &rt,
-                rt.alloc(),
-                &checked,
-                function,
-                2,
-                MOST_ROWS,
-                4,
-                steps,
-                &mut hosts,
-                &Hearing::new(),
-            )?;
-            let done = ends.as_slice().iter().any(|ran| ran.is_done());
+            let (done, objects) = two_stopped(&rt, rt.alloc(), function, steps)?;
             assert!(rt; !done, "function {function}, {steps} steps");
             assert_eq!(rt;
                 objects,

@@ -4,7 +4,11 @@ use crate::calls::accepted;
 use crate::hearing::Hearing;
 use crate::runs::{Counts, MOST_ROWS, expect, run_apart, run_in_thread, run_over};
 use brc_host::{FakeHost, Host};
+use brc_work::Totals;
+use std::alloc::Global;
+use std::sync::Wait;
 use std::test::*;
+use std::thread::Threads;
 
 /// A run of one call: its name, the module, which calls of the host fail, and what it leads to.
 type Case<'a> = (&'a str, &'a [u8], &'a [u64], Counts);
@@ -123,15 +127,23 @@ fn without_room_the_host_is_not_asked(rt: HostRuntime) -> Result<(), Fail> {
     Ok(())
 }
 
-/// The first worker's open fails; of the second, which makes the whole copy, both closes fail.
-#[test]
-fn each_worker_counts_its_own_hosts_faults(rt: HostRuntime) -> Result<(), Fail> {
-    let checked = accepted(rt.alloc(), COPY)?;
-    let mut hosts = [FakeHost::new(&[0]), FakeHost::new(&[4, 5])];
+/// What a worker has left: the births, the faults of calls and of closes that it has counted, and the files and
+/// connections that its host has opened and closed.
+type Left = (u32, u64, u64, u64, u64);
+
+/// Lets two workers call `COPY` once, each over a host that fails in the calls of its plan. Returns what each has left,
+/// the objects that were created, closed and are alive, and how many closes of main's have failed.
+fn two_copies<R: Threads + Wait + Sync>(
+    rt: &R,
+    alloc: Global,
+    plans: [&[u64]; 2],
+) -> Result<([Left; 2], [u64; 3], u64), Fail> {
+    let checked = accepted(alloc, COPY)?;
+    let mut hosts = [FakeHost::new(plans[0]), FakeHost::new(plans[1])];
     let gate = Hearing::new();
     let (ends, objects, last) = run_apart(
-        &rt,
-        rt.alloc(),
+        rt,
+        alloc,
         &checked,
         0,
         2,
@@ -144,14 +156,28 @@ fn each_worker_counts_its_own_hosts_faults(rt: HostRuntime) -> Result<(), Fail> 
     let [one, other] = ends.as_slice() else {
         return Err("there are two workers")?;
     };
-    let (one, other) = (one.totals(), other.totals());
-    assert_eq!(rt; (one.created, one.host_faults, one.close_faults), (0, 1, 0));
-    assert_eq!(rt;
-        (other.created, other.host_faults, other.close_faults),
-        (3, 0, 2)
-    );
+    let left = [
+        left_by(one.totals(), &hosts[0]),
+        left_by(other.totals(), &hosts[1]),
+    ];
+    Ok((left, objects, last))
+}
+
+fn left_by(totals: Totals, host: &FakeHost<'_>) -> Left {
+    (
+        totals.created,
+        totals.host_faults,
+        totals.close_faults,
+        host.opened(),
+        host.closed(),
+    )
+}
+
+/// The first worker's open fails; of the second, which makes the whole copy, both closes fail.
+#[test]
+fn each_worker_counts_its_own_hosts_faults(rt: HostRuntime) -> Result<(), Fail> {
+    let (left, objects, last) = two_copies(&rt, rt.alloc(), [&[0], &[4, 5]])?;
+    assert_eq!(rt; left, [(0, 1, 0, 0, 0), (3, 0, 2, 2, 2)]);
     assert_eq!(rt; (objects, last), ([4, 4, 0], 0));
-    assert_eq!(rt; (hosts[0].opened(), hosts[0].closed()), (0, 0));
-    assert_eq!(rt; (hosts[1].opened(), hosts[1].closed()), (2, 2));
     Ok(())
 }

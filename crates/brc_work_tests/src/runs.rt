@@ -1,18 +1,24 @@
 //! A whole run of a module, in plain numbers.
 
-ghost use Rattle.std.specs.Prelude.{◌≡◌, ◌<◌, ◌≤◌, length};
+ghost use Rattle.std.specs.Prelude.{◌≡◌, ◌<◌, ◌≤◌, [], length, OnOk};
+ghost use Rattle.brc_model.specs.Layout.{row_count};
 ghost use Rattle.brc_model.specs.Limits.{row_limit, worker_limit};
+ghost use Rattle.brc_model.specs.Threads.{function_at};
+ghost use Rattle.brc_table.specs.Hands.{IsOf};
+ghost use Rattle.brc_work.specs.Fits.{IsHeapOf};
+ghost use Rattle.brc_work.specs.Mains.{MayFanOut};
+ghost use Rattle.brc_work_tests.specs.Ready.{HoldsRoot};
 
 use crate::calls::{
     accepted, ended, is_callable, last_function, leaves, makes_calls, opened, worker_hand,
 };
 use crate::hearing::Hearing;
 use brc_check::Checked;
-use brc_heap::{Final, Heap, ROOT};
+use brc_heap::{Final, Hand, Heap, ROOT};
 use brc_host::{FakeHost, FakeResource, Host};
 use brc_queue::Queue;
 use brc_work::{Gate, Ran, fan_out};
-use std::alloc::Global;
+use std::alloc::{AllocError, Global};
 use std::process::Abort;
 use std::sync::Wait;
 use std::test::*;
@@ -49,20 +55,22 @@ pub fn objects(end: &Final<FakeResource>) -> [u64; 3] {
     let mut closed: u64 = 0;
     let mut alive: u64 = 0;
     for row in ROOT..end.rows() {
-        if end.is_immortal(row) {
-            continue;
-        }
-        if end.born(row) {
-            created = created.saturating_add(1);
-        }
-        if end.closed(row) {
-            closed = closed.saturating_add(1);
-        }
-        if end.born(row) && !end.closed(row) {
-            alive = alive.saturating_add(1);
-        }
+        let (born, gone) = born_and_closed(end, row);
+        created = created.saturating_add(u64::from(born));
+        closed = closed.saturating_add(u64::from(gone));
+        alive = alive.saturating_add(u64::from(born && !gone));
     }
     [created, closed, alive]
+}
+
+/// Returns whether an object was born in the row, and whether it is closed. An immortal one counts as neither.
+fn born_and_closed(end: &Final<FakeResource>, row: u32) -> (bool, bool)
+    requires { row < row_count end.now.layout }
+{
+    if end.is_immortal(row) {
+        return (false, false);
+    }
+    (end.born(row), end.closed(row))
 }
 
 /// Lets a worker with `rows` rows call the last function of the text's module `times` times, over a host that fails
@@ -135,21 +143,81 @@ pub fn run_apart<R: Threads + Wait + Sync, G: Gate + Sync>(
         return Err("the module has the function, which has no parameters")?;
     }
     let (heap, mut main) = Heap::new(alloc, threads, rows, checked.module())?;
-    let gone = fan_out(
+    let run = all_leave(
         rt, alloc, &heap, &mut main, checked, function, times, steps, hosts, gate,
-    )?;
-    let mut ends = Vec::new(alloc);
-    for (_, ran) in gone.as_slice() {
-        ends.push(*ran)?;
+    );
+    match run {
+        Ok((ends, last)) => whole(heap, main, ends, last),
+        Err(fail) => Err(fail),
     }
+}
+
+/// Lets the workers run, and then main leave. Returns how each worker's run has ended, and how many closes of main's
+/// have failed.
+fn all_leave<R: Threads + Wait + Sync, G: Gate + Sync>(
+    rt: &R,
+    alloc: Global,
+    heap: &Heap<FakeResource>,
+    main: &mut Hand<FakeResource>,
+    checked: &Checked,
+    function: usize,
+    times: u32,
+    steps: u64,
+    hosts: &mut [FakeHost<'_>],
+    gate: &G,
+) -> Result<(Vec<Ran>, u64), Fail>
+    requires enough { length hosts.old ≤ heap.now.layout.workers }
+    requires function { function < length checked.now.module.functions }
+    requires parameters { (function_at checked.now.module.functions function).parameters ≡ [] }
+    requires heap { IsHeapOf checked.now.module heap.now }
+    requires main { HoldsRoot heap.now main.old }
+    requires may { MayFanOut main.old.view }
+    ensures table { OnOk result (IsOf heap.now main.new) }
+    ensures thread { OnOk result (main.new.view.thread ≡ 0) }
+{
+    let gone = fan_out(
+        rt, alloc, heap, main, checked, function, times, steps, hosts, gate,
+    )?;
+    let ends = ends_of(alloc, gone.as_slice())?;
     let Some(host) = hosts.first_mut() else {
         return Err("there is a host for main")?;
     };
-    let last = Queue::new(&heap).leave(rt, &mut main, host);
-    let Some(end) = ended(heap, main) else {
+    let last = Queue::new(heap).leave(rt, main, host);
+    Ok((ends, last))
+}
+
+fn ends_of(alloc: Global, gone: &[(Hand<FakeResource>, Ran)]) -> Result<Vec<Ran>, AllocError> {
+    let mut ends = Vec::new(alloc);
+    for (_, ran) in gone {
+        ends.push(*ran)?;
+    }
+    Ok(ends)
+}
+
+/// Ends the heap.
+fn whole(
+    heap: Heap<FakeResource>,
+    main: Hand<FakeResource>,
+    ends: Vec<Ran>,
+    last: u64,
+) -> Result<(Vec<Ran>, [u64; 3], u64), Fail>
+    requires table { IsOf heap main }
+    requires thread { main.view.thread ≡ 0 }
+{
+    let Some(objects) = objects_left(heap, main) else {
         return Err("a thread isn't gone")?;
     };
-    Ok((ends, objects(&end), last))
+    Ok((ends, objects, last))
+}
+
+/// Ends the heap. Returns how many objects were created, how many are closed, and how many are alive, or `None` if a
+/// thread isn't gone.
+fn objects_left(heap: Heap<FakeResource>, main: Hand<FakeResource>) -> Option<[u64; 3]>
+    requires table { IsOf heap main }
+    requires thread { main.view.thread ≡ 0 }
+{
+    let end = ended(heap, main)?;
+    Some(objects(&end))
 }
 
 /// Makes the run of `run_over` with the worker in a thread of its own. Its exit's faults are among those that it has

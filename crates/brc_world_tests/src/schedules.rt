@@ -1,5 +1,7 @@
 //! Whole schedules, run by one call.
 
+ghost use Rattle.std.specs.Prelude.{◌<◌, length};
+ghost use Rattle.std.specs.List.{All};
 ghost use Rattle.brc_schedule.specs.Text.{IsSchedule};
 ghost use Rattle.brc_world_tests.specs.Callable.{HasCallableEnds};
 
@@ -152,6 +154,14 @@ const RUNS: &[(&str, &[u8], &[u8], [u64; 7])] = &[
     ),
 ];
 
+/// Runs the schedule over the world, and returns the tally afterwards.
+fn run(alloc: Global, world: &mut World<'_>, schedule: &Schedule) -> Result<Tally, Fail>
+    requires { All (λ line. line.thread < length world.old.actors) schedule.now.steps }
+{
+    world.run(schedule)?;
+    Ok(tally(alloc, world)?)
+}
+
 /// Runs the schedule over a world of one worker, which calls the last function once, or of two, of which the first one
 /// calls the first function, and the second one the last. Returns the tally afterwards. Memory isn't refused here.
 fn tally_after(alloc: Global, checked: &Checked, schedule: &Schedule) -> Result<Tally, Fail>
@@ -161,8 +171,7 @@ fn tally_after(alloc: Global, checked: &Checked, schedule: &Schedule) -> Result<
     let last = last_call(checked);
     if schedule.workers == 1 {
         let mut world = World::new(alloc, checked, 1, schedule.rows, &[last])?;
-        world.run(schedule)?;
-        return Ok(tally(alloc, &world)?);
+        return run(alloc, &mut world, schedule);
     }
     if schedule.workers != 2 {
         return Err("the schedule has one worker or two")?;
@@ -173,8 +182,7 @@ fn tally_after(alloc: Global, checked: &Checked, schedule: &Schedule) -> Result<
     };
     let calls = [one, last];
     let mut world = World::new(alloc, checked, 2, schedule.rows, &calls)?;
-    world.run(schedule)?;
-    Ok(tally(alloc, &world)?)
+    run(alloc, &mut world, schedule)
 }
 
 /// Returns the tally after the schedule's run over the module.

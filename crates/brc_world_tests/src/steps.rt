@@ -147,10 +147,17 @@ pub fn one_worker(alloc: Global, checked: &Checked) -> Result<World<'_>, NoMemor
 fn step_of_the_gone(alloc: Global) -> Result<(bool, Option<Did>, Told), Fail> {
     let checked = accepted(alloc, b"fail\n")?;
     let mut world = one_worker(alloc, &checked)?;
-    finish(&mut world)?;
-    let gone = is_gone(&world, 1);
-    let did = step(&mut world, 1, Choice::Ok)?;
-    Ok((gone, did, told(alloc, &world)?))
+    step_at_the_end(alloc, &mut world)
+}
+
+fn step_at_the_end(
+    alloc: Global,
+    world: &mut World<'_>,
+) -> Result<(bool, Option<Did>, Told), Fail> {
+    finish(world)?;
+    let gone = is_gone(world, 1);
+    let did = step(world, 1, Choice::Ok)?;
+    Ok((gone, did, told(alloc, world)?))
 }
 
 #[test]
@@ -170,9 +177,13 @@ fn first_step(alloc: Global) -> Result<(usize, Option<Did>, Told), Fail> {
     let checked = accepted(alloc, TAKE_AND_DROP)?;
     let call = last_call(&checked);
     let mut world = World::new(alloc, &checked, 2, 1024, &[call, call])?;
+    step_once(alloc, &mut world)
+}
+
+fn step_once(alloc: Global, world: &mut World<'_>) -> Result<(usize, Option<Did>, Told), Fail> {
     let threads = world.threads();
-    let did = step(&mut world, 1, Choice::Ok)?;
-    Ok((threads, did, told(alloc, &world)?))
+    let did = step(world, 1, Choice::Ok)?;
+    Ok((threads, did, told(alloc, world)?))
 }
 
 #[test]
@@ -195,8 +206,7 @@ fn one_uses_all_rows(alloc: Global, rows: u16) -> Result<Told, Fail>
     let checked = accepted(alloc, USE_ALL_ROWS)?;
     let call = last_call(&checked);
     let mut world = World::new(alloc, &checked, 1, rows, &[call])?;
-    finish(&mut world)?;
-    Ok(told(alloc, &world)?)
+    told_at_the_end(alloc, &mut world)
 }
 
 /// Returns the same for three workers of 64 rows each.
@@ -204,8 +214,12 @@ fn three_use_all_rows(alloc: Global) -> Result<Told, Fail> {
     let checked = accepted(alloc, USE_ALL_ROWS)?;
     let call = last_call(&checked);
     let mut world = World::new(alloc, &checked, 3, 64, &[call, call, call])?;
-    finish(&mut world)?;
-    Ok(told(alloc, &world)?)
+    told_at_the_end(alloc, &mut world)
+}
+
+fn told_at_the_end(alloc: Global, world: &mut World<'_>) -> Result<Told, Fail> {
+    finish(world)?;
+    Ok(told(alloc, world)?)
 }
 
 /// A block has one mark word for 64 rows, two for 65, and three for 130.

@@ -1,11 +1,11 @@
 //! Workers that are stopped after each of their steps, within functions that call each other.
 
 use crate::steps::{accepted_text, counted, one_worker, step};
-use brc_world::Choice;
+use brc_world::{Choice, World};
 use std::alloc::Global;
 use std::test::*;
 
-/// A worker is stopped before its first step, and after each of so many steps, before the last of which it is gone.
+/// A worker is stopped before its first step, and after each further one up to this number, before which it is gone.
 const STEPS: usize = 60;
 
 /// More steps than a thread takes in all.
@@ -44,21 +44,25 @@ const STOPS: &[(&[u8], &[u64])] = &[
     (THREE_OPEN, &[1, 4, 2, 4, 3, 3, 4, 3, 4]),
 ];
 
-/// Stops a worker that calls the module's last function after so many steps, and lets all threads leave. Returns the
-/// numbers of the report.
+/// Stops a worker that calls the module's last function after this number of steps, and lets all threads leave.
+/// Returns the numbers of the report.
 fn stopped_after(alloc: Global, text: &[u8], steps: usize) -> Result<[u64; 7], Fail> {
     let checked = accepted_text(alloc, text)?;
     let mut world = one_worker(alloc, &checked)?;
+    stop_after(alloc, &mut world, steps)
+}
+
+fn stop_after(alloc: Global, world: &mut World<'_>, steps: usize) -> Result<[u64; 7], Fail> {
     for _ in 0..steps {
-        step(&mut world, 1, Choice::Ok)?;
+        step(world, 1, Choice::Ok)?;
     }
-    step(&mut world, 1, Choice::Stop)?;
+    step(world, 1, Choice::Stop)?;
     for thread in [1, 0] {
         for _ in 0..ENOUGH {
-            step(&mut world, thread, Choice::Ok)?;
+            step(world, thread, Choice::Ok)?;
         }
     }
-    let (numbers, _) = counted(alloc, &world)?;
+    let (numbers, _) = counted(alloc, world)?;
     Ok(numbers)
 }
 
