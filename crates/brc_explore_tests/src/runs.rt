@@ -23,8 +23,12 @@ pub struct Case {
 /// The most states of a search. The runs of the examples are found among fewer.
 const STATES: u32 = 2000;
 
-/// The most states of each search for a run of an accepted module's function.
-const ACCEPTED_STATES: usize = 20_000;
+/// The most states of each search for a run of an accepted module's function: those of `brc explain --schedule` by
+/// itself.
+const ACCEPTED_STATES: usize = 200_000;
+
+/// How many of the mended modules the first of their two tests has. A test ends after 60 seconds.
+const FIRST_MENDED: usize = 14;
 
 const NONE: &[u8] = b"no run goes wrong with 2 workers of 4 rows within 2000 states\n";
 
@@ -98,12 +102,23 @@ fn accepted_modules_never_go_wrong(rt: HostRuntime) {
     for (name, text) in ACCEPTED {
         assert_safe(&rt, name, text);
     }
-    for (name, text) in MENDED {
+}
+
+#[test]
+fn first_mended_modules_never_go_wrong(rt: HostRuntime) {
+    for (name, text) in MENDED.iter().take(FIRST_MENDED) {
         assert_safe(&rt, name, text);
     }
 }
 
-/// Asserts that no run of the module is found that goes wrong, whichever of its functions is called.
+#[test]
+fn last_mended_modules_never_go_wrong(rt: HostRuntime) {
+    for (name, text) in MENDED.iter().skip(FIRST_MENDED) {
+        assert_safe(&rt, name, text);
+    }
+}
+
+/// Asserts that no run of the module is found that goes wrong, whichever of its functions the workers call.
 fn assert_safe<R: System + Abort + AllocGlobal>(rt: &R, name: &str, text: &[u8]) {
     let shown = explained(rt, text, STATES);
     assert_eq!(rt; shown.status, 0, "{name}");
@@ -115,7 +130,11 @@ fn assert_safe<R: System + Abort + AllocGlobal>(rt: &R, name: &str, text: &[u8])
         assert!(rt; false, "{name}");
         return;
     };
-    for function in 0..module.functions.len() {
+    for (function, called) in module.functions.as_slice().iter().enumerate() {
+        // A function with parameters is called by others.
+        if called.parameters.len() > 0 {
+            continue;
+        }
         let bounds = Bounds {
             workers: 2,
             rows: 4,

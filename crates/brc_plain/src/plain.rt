@@ -132,6 +132,7 @@ impl<'a> Plain<'a> {
             for duty in thread.agenda.as_slice() {
                 key.put_duty(*duty);
             }
+            key.put(thread.agenda.len() as u64);
             key.put(u64::from(thread.head));
             key.put(u64::from(thread.used));
             key.put_row(thread.locked);
