@@ -2,6 +2,7 @@ ghost use Rattle.std.specs.Prelude.{IfOk};
 ghost use Rattle.brc_lang.specs.Grammar.{IsModule};
 
 use crate::random_tables::first_other_point;
+use crate::{host, items, locks, loops};
 use brc_check::{CheckCode, Checked, check};
 use brc_lang::{Module, read};
 use std::alloc::Global;
@@ -203,34 +204,13 @@ fn agrees_with_a_walk(alloc: Global, checked: &Checked) -> Result<(), Fail> {
 }
 
 /// The number of the first case with another answer.
-pub fn first_other(alloc: Global, cases: &[Case]) -> Result<Option<usize>, Fail> {
+fn first_other(alloc: Global, cases: &[Case]) -> Result<Option<usize>, Fail> {
     for (number, (lines, answer)) in cases.iter().enumerate() {
         if refusal_of(alloc, lines)? != *answer {
             return Ok(Some(number));
         }
     }
     Ok(None)
-}
-
-#[test]
-fn one_function(rt: HostRuntime) -> Result<(), Fail> {
-    for cases in [ACCEPTED, REFUSED, LEFT_BEHIND] {
-        assert_eq!(rt; first_other(rt.alloc(), cases)?, None);
-    }
-    Ok(())
-}
-
-// One path owns the number and the other doesn't: either code may be reported.
-#[test]
-fn paths_differ(rt: HostRuntime) -> Result<(), Fail> {
-    let refusal = refusal_of(rt.alloc(), b"num v1 1 else @1\nfail\n")?;
-    assert!(rt;
-        matches!(
-            refusal,
-            Some((1, CheckCode::LeftOwned | CheckCode::StatesDiffer))
-        )
-    );
-    Ok(())
 }
 
 /// Whether the text is refused in the function of this name, and where and for what; `None` where it is accepted. The
@@ -249,7 +229,32 @@ pub fn refusal_in(alloc: Global, text: &[u8], name: &[u8]) -> Result<Option<(boo
 }
 
 #[test]
-fn second_function(rt: HostRuntime) -> Result<(), Fail> {
+fn checks_the_functions_of_each_subject(rt: HostRuntime) -> Result<(), Fail> {
+    for (subject, cases) in [
+        ("counting, accepted", ACCEPTED),
+        ("counting, refused", REFUSED),
+        ("counting, left behind", LEFT_BEHIND),
+        ("host, accepted", host::ACCEPTED),
+        ("host, refused", host::REFUSED),
+        ("host, left behind", host::LEFT_BEHIND),
+        ("items, accepted", items::ACCEPTED),
+        ("items, refused", items::REFUSED),
+        ("items, left behind", items::LEFT_BEHIND),
+        ("locks, accepted", locks::ACCEPTED),
+        ("locks, refused", locks::REFUSED),
+        ("loops, accepted", loops::ACCEPTED),
+        ("loops, refused", loops::REFUSED),
+    ] {
+        assert_eq!(rt; first_other(rt.alloc(), cases)?, None, "{subject}");
+    }
+    // One path owns the number and the other doesn't: either code may be reported.
+    let refusal = refusal_of(rt.alloc(), b"num v1 1 else @1\nfail\n")?;
+    assert!(rt;
+        matches!(
+            refusal,
+            Some((1, CheckCode::LeftOwned | CheckCode::StatesDiffer))
+        )
+    );
     let text = b"module 1\nfunc first\nfail\nend\nfunc second\ndrop v0\nfail\nend\n";
     let refusal = refusal_in(rt.alloc(), text, b"second")?;
     assert_eq!(rt; refusal, Some((true, (0, CheckCode::NotOwned))));

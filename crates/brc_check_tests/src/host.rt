@@ -1,11 +1,10 @@
 //! What `open`, `connect`, `read` and `write` ask and leave.
 
-use crate::functions::{Case, first_other};
+use crate::functions::Case;
 use brc_check::CheckCode;
-use std::test::*;
 
 /// Files and sockets that are opened, used while they are locked, and given up.
-const ACCEPTED: &[Case] = &[
+pub const ACCEPTED: &[Case] = &[
     (b"open v1 0 rwc else @2\ndrop v1\nfail\n", None),
     (b"connect v1 15 else @2\nret v1\nfail\n", None),
     (b"open v0 0 w else @2\ndrop v0\nfail\n", None),
@@ -45,7 +44,7 @@ const ACCEPTED: &[Case] = &[
 
 /// Each code by its smallest functions with a file or a socket. The lowest code is named where several apply: so `read`
 /// into the locked variable is never named for that, since it is the file itself, which is owned, or another one.
-const REFUSED: &[Case] = &[
+pub const REFUSED: &[Case] = &[
     (
         b"none v1\nopen v1 0 r else @2\nfail\n",
         Some((1, CheckCode::StillOwns)),
@@ -136,7 +135,7 @@ const REFUSED: &[Case] = &[
 
 /// The success exit leaves a file, a socket or a number, and the fault exit leaves the variable empty. `write` leaves
 /// what it writes and where.
-const LEFT_BEHIND: &[Case] = &[
+pub const LEFT_BEHIND: &[Case] = &[
     (
         b"open v1 0 r else @2\nfail\nfail\n",
         Some((1, CheckCode::LeftOwned)),
@@ -182,11 +181,3 @@ const LEFT_BEHIND: &[Case] = &[
         Some((4, CheckCode::LeftOwned)),
     ),
 ];
-
-#[test]
-fn host(rt: HostRuntime) -> Result<(), Fail> {
-    for cases in [ACCEPTED, REFUSED, LEFT_BEHIND] {
-        assert_eq!(rt; first_other(rt.alloc(), cases)?, None);
-    }
-    Ok(())
-}

@@ -1,11 +1,10 @@
 //! What `borrow`, `fetch`, `set` and `put` ask and leave.
 
-use crate::functions::{Case, first_other};
+use crate::functions::Case;
 use brc_check::CheckCode;
-use std::test::*;
 
 /// Items that are read and changed while their list is locked.
-const ACCEPTED: &[Case] = &[
+pub const ACCEPTED: &[Case] = &[
     // A reference that `set` has stolen is gone, also if the index is out of range.
     (
         b"num v1 7 else @6\nlock v0\nset v0 200 v1 else @5\nunlock v0\nfail\nunlock v0\nfail\n",
@@ -61,7 +60,7 @@ const ACCEPTED: &[Case] = &[
 ];
 
 /// Each code by its smallest functions with items. The lowest code is named where several apply.
-const REFUSED: &[Case] = &[
+pub const REFUSED: &[Case] = &[
     (
         b"lock v0\nborrow v1 v2 0 else @2\nunlock v0\nfail\n",
         Some((1, CheckCode::EmptyUsed)),
@@ -199,7 +198,7 @@ const REFUSED: &[Case] = &[
 ];
 
 /// What an exit leaves.
-const LEFT_BEHIND: &[Case] = &[
+pub const LEFT_BEHIND: &[Case] = &[
     // `set` steals on both exits, and `put` on none.
     (
         b"num v1 7 else @5\nlock v0\nset v0 0 v1 else @4\ndrop v1\nunlock v0\nfail\n",
@@ -287,11 +286,3 @@ const LEFT_BEHIND: &[Case] = &[
         Some((3, CheckCode::NotLocked)),
     ),
 ];
-
-#[test]
-fn items(rt: HostRuntime) -> Result<(), Fail> {
-    for cases in [ACCEPTED, REFUSED, LEFT_BEHIND] {
-        assert_eq!(rt; first_other(rt.alloc(), cases)?, None);
-    }
-    Ok(())
-}

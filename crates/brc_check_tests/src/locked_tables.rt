@@ -190,7 +190,7 @@ fn state(entry: Entry) -> State {
 }
 
 /// The number of the first table that is another one, and the point at which it is.
-fn first_other_table(alloc: Global) -> Result<Option<(usize, usize)>, Fail> {
+pub fn first_other_locked_table(alloc: Global) -> Result<Option<(usize, usize)>, Fail> {
     for (number, (lines, kept, points)) in TABLES.iter().enumerate() {
         let mut states = Vec::new(alloc);
         for point in points.iter() {
@@ -201,12 +201,6 @@ fn first_other_table(alloc: Global) -> Result<Option<(usize, usize)>, Fail> {
         }
     }
     Ok(None)
-}
-
-#[test]
-fn true_tables_of_locks(rt: HostRuntime) -> Result<(), Fail> {
-    assert_eq!(rt; first_other_table(rt.alloc())?, None);
-    Ok(())
 }
 
 /// The number of an overwriting entry that isn't refused at the kept point, or the true one that is.
@@ -227,7 +221,7 @@ fn first_unnoticed(
 }
 
 /// The numbers of the first table, point and overwriting entry that isn't noticed.
-fn first_unnoticed_change(alloc: Global) -> Result<Option<(usize, usize, usize)>, Fail> {
+pub fn first_unnoticed_change(alloc: Global) -> Result<Option<(usize, usize, usize)>, Fail> {
     for (number, (lines, kept, points)) in TABLES.iter().enumerate() {
         for at in kept.iter() {
             if let Some(point) = points.get(*at) {
@@ -238,10 +232,4 @@ fn first_unnoticed_change(alloc: Global) -> Result<Option<(usize, usize, usize)>
         }
     }
     Ok(None)
-}
-
-#[test]
-fn changed_entries_of_locks(rt: HostRuntime) -> Result<(), Fail> {
-    assert_eq!(rt; first_unnoticed_change(rt.alloc())?, None);
-    Ok(())
 }

@@ -1,11 +1,10 @@
 //! What `lock` and `unlock` ask, and what a lock forbids.
 
-use crate::functions::{Case, first_other};
+use crate::functions::Case;
 use brc_check::CheckCode;
-use std::test::*;
 
 /// Each path unlocks what it has locked.
-const ACCEPTED: &[Case] = &[
+pub const ACCEPTED: &[Case] = &[
     (b"lock v0\nunlock v0\nfail\n", None),
     (b"lock v0\nunlock v0\nlock v0\nunlock v0\nfail\n", None),
     (b"newref v1 v0\nlock v1\nunlock v1\nret v1\n", None),
@@ -29,7 +28,7 @@ const ACCEPTED: &[Case] = &[
 ];
 
 /// Each code by its smallest functions with a lock. The lowest code is named where several apply.
-const REFUSED: &[Case] = &[
+pub const REFUSED: &[Case] = &[
     (b"lock v1\nfail\n", Some((0, CheckCode::EmptyUsed))),
     (b"unlock v1\nfail\n", Some((0, CheckCode::EmptyUsed))),
     (b"lock v0\nlock v1\n", Some((1, CheckCode::EmptyUsed))),
@@ -123,11 +122,3 @@ const REFUSED: &[Case] = &[
     (b"lock v0\n", Some((0, CheckCode::RunsOff))),
     (b"lock v0\nunlock v0\n", Some((1, CheckCode::RunsOff))),
 ];
-
-#[test]
-fn locks(rt: HostRuntime) -> Result<(), Fail> {
-    for cases in [ACCEPTED, REFUSED] {
-        assert_eq!(rt; first_other(rt.alloc(), cases)?, None);
-    }
-    Ok(())
-}

@@ -1,10 +1,9 @@
 //! Functions with `again`, which goes back. Both of its ways are open to a path, whatever its limit.
 
-use crate::functions::{Case, first_other};
-use crate::tables::{TableCase, first_other_table};
+use crate::functions::Case;
+use crate::tables::TableCase;
 use brc_check::{CheckCode, VarState};
 use brc_lang::Kind;
-use std::test::*;
 
 const EMPTY: (VarState, VarState) = (VarState::Empty, VarState::Empty);
 
@@ -13,7 +12,7 @@ const NUMBER: VarState = VarState::Owned(Kind::Num);
 const NONE: VarState = VarState::Owned(Kind::None);
 
 /// Each loop leaves the state in which it began.
-const ACCEPTED: &[Case] = &[
+pub const ACCEPTED: &[Case] = &[
     (b"again @0 1\nfail\n", None),
     (b"num v1 1 else @3\ndrop v1\nagain @0 3\nfail\n", None),
     (
@@ -39,7 +38,7 @@ const ACCEPTED: &[Case] = &[
 
 /// Each code by its smallest functions with a loop. If the second turn of a loop begins in another state, that is what
 /// the checker reports, at the loop's first line.
-const REFUSED: &[Case] = &[
+pub const REFUSED: &[Case] = &[
     // The second turn would overwrite the reference of the first.
     (
         b"newref v1 v0\nagain @0 1\ndrop v1\nfail\n",
@@ -82,7 +81,7 @@ const REFUSED: &[Case] = &[
 ];
 
 /// Tables of functions with loops.
-const TABLES: &[TableCase] = &[
+pub const TABLES: &[TableCase] = &[
     (
         b"num v1 1 else @3\ndrop v1\nagain @0 3\nfail\n",
         &[0, 3],
@@ -129,17 +128,3 @@ const TABLES: &[TableCase] = &[
         &[Some(EMPTY), None, Some(EMPTY), None, None],
     ),
 ];
-
-#[test]
-fn loops(rt: HostRuntime) -> Result<(), Fail> {
-    for cases in [ACCEPTED, REFUSED] {
-        assert_eq!(rt; first_other(rt.alloc(), cases)?, None);
-    }
-    Ok(())
-}
-
-#[test]
-fn true_tables_of_loops(rt: HostRuntime) -> Result<(), Fail> {
-    assert_eq!(rt; first_other_table(rt.alloc(), TABLES)?, None);
-    Ok(())
-}

@@ -140,6 +140,13 @@ fn faults_of_texts(rt: HostRuntime) -> Result<(), Fail> {
     for (front, cases, back) in TABLES {
         assert_eq!(rt; first_other(rt.alloc(), front, cases, back)?, None);
     }
+    // The last line that there can be.
+    let fault = ReadFault {
+        line: u64::MAX,
+        code: FaultCode::NoMemory,
+    };
+    let text = format!(in rt.alloc(); "{fault}")?;
+    assert_eq!(rt; text.as_str(), "line 18446744073709551615 L8");
     Ok(())
 }
 
@@ -386,17 +393,5 @@ fn takes_each_size(rt: HostRuntime) -> Result<(), Fail> {
     assert!(rt; last_takes(rt.alloc())?);
     assert!(rt; takes_two_mebibytes(rt.alloc())?);
     assert_eq!(rt; pushed(rt.alloc(), 100_000)?, 100_000);
-    Ok(())
-}
-
-// A fault prints as a line and a code.
-#[test]
-fn prints_a_fault(rt: HostRuntime) -> Result<(), Fail> {
-    let fault = ReadFault {
-        line: u64::MAX,
-        code: FaultCode::NoMemory,
-    };
-    let text = format!(in rt.alloc(); "{fault}")?;
-    assert_eq!(rt; text.as_str(), "line 18446744073709551615 L8");
     Ok(())
 }

@@ -97,11 +97,6 @@ fn first_other_path(alloc: Global) -> Result<Option<usize>, Fail> {
 #[test]
 fn paths(rt: HostRuntime) -> Result<(), Fail> {
     assert_eq!(rt; first_other_path(rt.alloc())?, None);
-    Ok(())
-}
-
-#[test]
-fn path_in_second_function(rt: HostRuntime) -> Result<(), Fail> {
     let text =
         b"module 1\nfunc first\nnewref v1 v0\ndrop v1\nfail\nend\nfunc second\nnewref v1 v0\nfail\nend\n";
     let path = path_of(rt.alloc(), &module_of(rt.alloc(), text)?)?;

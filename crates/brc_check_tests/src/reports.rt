@@ -40,7 +40,7 @@ fn entry(alloc: Global, label: &[u8], number: u64) -> Result<Vec<u8>, Fail> {
 }
 
 #[test]
-fn reports_what_is_left(rt: HostRuntime) -> Result<(), Fail> {
+fn reports_its_numbers_and_what_is_left(rt: HostRuntime) -> Result<(), Fail> {
     let left = [
         Left {
             row: 1,
@@ -56,12 +56,7 @@ fn reports_what_is_left(rt: HostRuntime) -> Result<(), Fail> {
         b"threads 32\nrunning 33\ncreated 18446744073709551615\nclosed 0\nalive 2\nhost faults 5\n\
         close faults 6\nleft 1 list\nleft 1026 sock\n";
     assert_eq!(rt; out.as_slice(), text.as_slice());
-    Ok(())
-}
-
-// The greatest numbers are written too.
-#[test]
-fn reports_the_greatest_numbers(rt: HostRuntime) -> Result<(), Fail> {
+    // The greatest numbers.
     let left = [Left {
         row: u32::MAX,
         kind: Kind::Any,

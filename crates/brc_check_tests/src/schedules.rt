@@ -150,26 +150,6 @@ fn reads_as(
     }
 }
 
-#[test]
-fn reads_each_line(rt: HostRuntime) {
-    let one = b"schedule 1\nworkers 1\nrows 1024\ncall 1 a23456789_bcdefg 1000000\n";
-    let call: [(&[u8], u32); 1] = [(b"a23456789_bcdefg", 1_000_000)];
-    assert!(rt; reads_as(rt.alloc(), one, (1, 1024), &call, &[]));
-    let two = b"schedule 1\nworkers 2\nrows 4\ncall 1 f 1\ncall 2 f 1\n\
-        step 0 fault 1000000\nstep 2 ok 1\nclaim 0 33809\nstep 1 ok 3\nclaim 2 0\nstop 2\nstop 0\n";
-    let calls: [(&[u8], u32); 2] = [(b"f", 1), (b"f", 1)];
-    let steps = [
-        (0, Choice::Fault, 1_000_000),
-        (2, Choice::Ok, 1),
-        (0, Choice::Claim { row: 33_809 }, 1),
-        (1, Choice::Ok, 3),
-        (2, Choice::Claim { row: 0 }, 1),
-        (2, Choice::Stop, 1),
-        (0, Choice::Stop, 1),
-    ];
-    assert!(rt; reads_as(rt.alloc(), two, (2, 4), &calls, &steps));
-}
-
 // The most workers and rows, and two lines below the calls that are repeated `times` times.
 fn largest(alloc: Global, times: usize) -> Result<Vec<u8>, Fail> {
     let mut text = Vec::from_slice(alloc, b"schedule 1\nworkers 32\nrows 1024\n")?;
@@ -190,9 +170,24 @@ fn lengths(alloc: Global, text: &[u8]) -> Option<(usize, usize)> {
     Some((schedule.calls.len(), schedule.steps.len()))
 }
 
-// With ample memory, the largest world and a long list of steps are read.
 #[test]
-fn reads_a_large_schedule(rt: HostRuntime) -> Result<(), Fail> {
+fn reads_each_line(rt: HostRuntime) -> Result<(), Fail> {
+    let one = b"schedule 1\nworkers 1\nrows 1024\ncall 1 a23456789_bcdefg 1000000\n";
+    let call: [(&[u8], u32); 1] = [(b"a23456789_bcdefg", 1_000_000)];
+    assert!(rt; reads_as(rt.alloc(), one, (1, 1024), &call, &[]));
+    let two = b"schedule 1\nworkers 2\nrows 4\ncall 1 f 1\ncall 2 f 1\n\
+        step 0 fault 1000000\nstep 2 ok 1\nclaim 0 33809\nstep 1 ok 3\nclaim 2 0\nstop 2\nstop 0\n";
+    let calls: [(&[u8], u32); 2] = [(b"f", 1), (b"f", 1)];
+    let steps = [
+        (0, Choice::Fault, 1_000_000),
+        (2, Choice::Ok, 1),
+        (0, Choice::Claim { row: 33_809 }, 1),
+        (1, Choice::Ok, 3),
+        (2, Choice::Claim { row: 0 }, 1),
+        (2, Choice::Stop, 1),
+        (0, Choice::Stop, 1),
+    ];
+    assert!(rt; reads_as(rt.alloc(), two, (2, 4), &calls, &steps));
     let text = largest(rt.alloc(), 10_000)?;
     assert_eq!(rt; lengths(rt.alloc(), &text), Some((32, 20_000)));
     Ok(())

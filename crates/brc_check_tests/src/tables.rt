@@ -3,6 +3,8 @@
 ghost use Rattle.brc_lang.specs.Grammar.{IsModule};
 
 use crate::functions::{function_of, module_of};
+use crate::locked_tables::{first_other_locked_table, first_unnoticed_change};
+use crate::loops;
 use brc_check::{CheckCode, Checked, State, Table, VarState, infer, verify};
 use brc_lang::{Kind, Module, Variable};
 use std::alloc::Global;
@@ -220,7 +222,10 @@ pub fn first_other_table(
 
 #[test]
 fn true_tables(rt: HostRuntime) -> Result<(), Fail> {
-    assert_eq!(rt; first_other_table(rt.alloc(), TABLES)?, None);
+    for tables in [TABLES, loops::TABLES] {
+        assert_eq!(rt; first_other_table(rt.alloc(), tables)?, None);
+    }
+    assert_eq!(rt; first_other_locked_table(rt.alloc())?, None);
     Ok(())
 }
 
@@ -333,6 +338,7 @@ fn first_unguarded_table(alloc: Global) -> Result<Option<(usize, usize)>, Fail> 
 #[test]
 fn changed_entries(rt: HostRuntime) -> Result<(), Fail> {
     assert_eq!(rt; first_unguarded_table(rt.alloc())?, None);
+    assert_eq!(rt; first_unnoticed_change(rt.alloc())?, None);
     for point in [(0, 1), (0, 3), (1, 0)] {
         let answer = answer_to_change(rt.alloc(), TAKE_AND_DROP, point, None)?;
         assert_eq!(rt; answer, (false, None));
@@ -357,18 +363,13 @@ fn accepted_with(alloc: Global, text: &[u8], other: &[u8]) -> Result<bool, Fail>
     Ok(verify(module_of(alloc, text)?, table).is_ok())
 }
 
-/// Two functions with the same targets, in whose tables only the state that falls through differs.
 #[test]
-fn fall_through(rt: HostRuntime) -> Result<(), Fail> {
+fn tables_of_other_modules(rt: HostRuntime) -> Result<(), Fail> {
+    // Two functions with the same targets, in whose tables only the state that falls through differs.
     let drops = b"module 1\nfunc f\nnum v1 1 else @2\ndrop v1\nfail\nend\n";
     let keeps = b"module 1\nfunc f\nnum v1 1 else @2\nnone v2\nfail\nend\n";
     assert!(rt; accepted_with(rt.alloc(), drops, drops)?);
     assert!(rt; is_refused_with(rt.alloc(), keeps, drops, 2)?);
-    Ok(())
-}
-
-#[test]
-fn other_shapes(rt: HostRuntime) -> Result<(), Fail> {
     let one = b"module 1\nfunc f\nfail\nend\n";
     let two = b"module 1\nfunc f\nfail\nend\nfunc g\nfail\nend\n";
     let three_points = b"module 1\nfunc f\nnewref v1 v0\ndrop v1\nfail\nend\n";

@@ -1,6 +1,6 @@
 //! How many steps births and drops take, and what is alive after each of them.
 
-use crate::cases::{Case, STEP, assert_cases};
+use crate::cases::Case;
 use crate::worked::TWO_NUMBERS;
 
 const ONE_NUMBER: &[u8] = b"module 1\nfunc f\nnum v1 7 else @2\ndrop v1\nfail\nend\n";
@@ -28,7 +28,7 @@ const LIST_TOO: &[u8] =
 const ONE_CLOSED: &[u8] =
     b"threads 1\nrunning 2\ncreated 2\nclosed 1\nalive 1\nhost faults 0\nclose faults 0\nleft 1 list\n";
 
-const CASES: &[Case<'static>] = &[
+pub const CASES: &[Case<'static>] = &[
     // A birth is two steps, kind and local, and the number is there with the second. Its drop is a load and a store of
     // the local word, a load of the shared word, and its death: gate, gate read, kind, closed: 7 steps, 9 so far.
     // `fail` makes 10. With one row the second call's `num` is one step, which makes nothing, and its `fail` another:
@@ -190,8 +190,3 @@ const CASES: &[Case<'static>] = &[
         (ONE_CLOSED, b"", 0),
     ),
 ];
-
-#[test]
-fn counts_the_steps_of_births_and_drops(rt: HostRuntime) {
-    assert_cases(&rt, &STEP, CASES);
-}

@@ -55,6 +55,9 @@ pub const UNREAD: Bytes<'static> = Ok(b"");
 /// and the status.
 pub type Case<'t> = (&'t str, Bytes<'t>, Bytes<'t>, (&'t [u8], &'t [u8], u8));
 
+/// A module, the words of a command line, the texts on standard output and on standard error, and the status.
+pub type CommandLine<'t> = (Bytes<'t>, &'t [&'t str], (&'t [u8], &'t [u8], u8));
+
 /// The files `m.brc`, which standard input gives too, and `s.txt`.
 #[derive(Clone, Copy)]
 pub struct Shelf<'t> {
@@ -63,7 +66,7 @@ pub struct Shelf<'t> {
 }
 
 impl<'t> Shelf<'t> {
-    // Within `load_more`, each arm would have all of its contract proved: a minute.
+    // Which path has which bytes.
     fn bytes_of(&self, path: &str) -> Bytes<'t> {
         match path {
             "m.brc" | "-" => self.module,

@@ -1,6 +1,7 @@
-//! What `brc check` says of modules.
+//! What `brc check` says of modules, by tables here and in the files of worked examples.
 
-use crate::cases::{CHECK, Case, UNREAD, assert_cases};
+use crate::cases::{CHECK, Case, UNREAD, assert_cases, outputs};
+use crate::{host, items, loops, statics, worked};
 
 const CASES: &[Case<'static>] = &[
     (
@@ -131,7 +132,48 @@ const CASES: &[Case<'static>] = &[
     ),
 ];
 
+// A module that `brc check` may refuse by either of two codes, and its lines by them.
+const TWO_CODES: &[(&str, &[u8], [&[u8]; 2])] = &[
+    // One path owns the number at `fail`, and the other doesn't.
+    (
+        "paths_differ, one path owns",
+        b"module 1\nfunc f\nnum v1 1 else @1\nfail\nend\n",
+        [b"refused f @1 C5\n", b"refused f @1 C10\n"],
+    ),
+    // The second pass would overwrite the reference of the first one. Two paths then reach the first instruction in
+    // different states too.
+    (
+        "the second pass overwrites",
+        b"module 1\nfunc f\nnewref v1 v0\nagain @0 1\ndrop v1\nfail\nend\n",
+        [b"refused f @0 C4\n", b"refused f @0 C10\n"],
+    ),
+    // What a call lends is the caller's afterwards, on one of two paths.
+    (
+        "a lent number is left",
+        b"module 2\nfunc keep borrow num\nfail\nend\nfunc f\nnum v1 7 else @3\ncall v2 keep v1 else @3\n\
+          drop v2\nfail\nend\n",
+        [b"refused f @3 C5\n", b"refused f @3 C10\n"],
+    ),
+];
+
 #[test]
 fn checks_modules(rt: HostRuntime) {
-    assert_cases(&rt, &CHECK, CASES);
+    for cases in [
+        CASES,
+        worked::CHECKED,
+        worked::CHECKED_CALLS,
+        items::CHECKED,
+        loops::CHECKED,
+        statics::CHECKED,
+        host::CHECKED,
+    ] {
+        assert_cases(&rt, &CHECK, cases);
+    }
+    for (name, module, lines) in TWO_CODES {
+        let (out, err, status) = outputs(&rt, &CHECK, Ok(*module), UNREAD);
+        let line = err.as_slice();
+        assert!(rt; out.is_empty(), "{name}");
+        assert!(rt; line == lines[0] || line == lines[1], "{name}: {line:?}");
+        assert_eq!(rt; status, 1, "{name}");
+    }
 }

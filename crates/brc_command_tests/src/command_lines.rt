@@ -1,12 +1,12 @@
 //! Command lines, from their words.
 
-use crate::cases::{Bytes, LEAKING, ONE_REPORT, SMALLEST, Shelf, contains};
+use crate::cases::{Bytes, CommandLine, LEAKING, ONE_REPORT, SMALLEST, Shelf, contains};
+use crate::files::{IN_JSON, IN_LINES};
 use crate::items::{CYCLE, SET_PAST_THE_END, SWAP, SWAPS_REPORT};
 use crate::loops::{EIGHT_NUMBERS_REPORT, NUMBERS, THREE_NUMBERS_REPORT};
 use crate::worked::{NUMBER_REPORT, TWO_NUMBERS, TWO_NUMBERS_REPORT};
 use brc_arguments::act;
 use brc_run::System;
-use std::process::Abort;
 
 pub const SCHEDULE: &[u8] = b"schedule 1\nworkers 1\nrows 4\ncall 1 f 1\nstep 0 ok 1\n";
 
@@ -38,44 +38,47 @@ pub fn acts<R: System + AllocGlobal>(
     (out, err, status)
 }
 
-// A module, the words, the texts on standard output and on standard error, and the status.
-const CARRIED_OUT: &[(&[u8], &[&str], (&[u8], &[u8], u8))] = &[
-    (SMALLEST, &["brc", "check", "m.brc"], (ACCEPTED, b"", 0)),
-    (SMALLEST, &["brc", "check", "-"], (ACCEPTED, b"", 0)),
+const CARRIED_OUT: &[CommandLine<'static>] = &[
+    (Ok(SMALLEST), &["brc", "check", "m.brc"], (ACCEPTED, b"", 0)),
+    (Ok(SMALLEST), &["brc", "check", "-"], (ACCEPTED, b"", 0)),
     (
-        SMALLEST,
+        Ok(SMALLEST),
         &["brc", "step", "m.brc", "s.txt"],
         (STEPPED, b"", 0),
     ),
-    (SMALLEST, &["brc", "step", "-", "s.txt"], (STEPPED, b"", 0)),
+    (
+        Ok(SMALLEST),
+        &["brc", "step", "-", "s.txt"],
+        (STEPPED, b"", 0),
+    ),
     // With a picture, which can't be saved in the second file.
     (
-        SMALLEST,
+        Ok(SMALLEST),
         &["brc", "step", "--trace", "--svg", "p.svg", "m.brc", "s.txt"],
         (DRAWN, b"", 0),
     ),
     (
-        SMALLEST,
+        Ok(SMALLEST),
         &["brc", "step", "m.brc", "s.txt", "--svg", "full", "--trace"],
         (DRAWN, b"cannot write\n", 2),
     ),
     (
-        LEAKING,
+        Ok(LEAKING),
         &["brc", "step", "m.brc", "s.txt", "--svg", "full", "--trace"],
         (b"", b"refused f @1 C5\n", 1),
     ),
     (
-        SMALLEST,
+        Ok(SMALLEST),
         &["brc", "run", "m.brc", "--call", "f"],
         (ONE_REPORT, b"", 0),
     ),
     (
-        SMALLEST,
+        Ok(SMALLEST),
         &["brc", "run", "-", "--call", "f"],
         (ONE_REPORT, b"", 0),
     ),
     (
-        SMALLEST,
+        Ok(SMALLEST),
         &[
             "brc",
             "run",
@@ -90,44 +93,48 @@ const CARRIED_OUT: &[(&[u8], &[&str], (&[u8], &[u8], u8))] = &[
         (ONE_REPORT, b"", 0),
     ),
     (
-        SMALLEST,
+        Ok(SMALLEST),
         &["brc", "run", "m.brc", "--call", "f", "--threads", "32"],
         (MOST, b"", 0),
     ),
     (
-        SMALLEST,
+        Ok(SMALLEST),
         &["brc", "run", "m.brc", "--call", "f", "--rows", "1"],
         (ONE_REPORT, b"", 0),
     ),
     (
-        SMALLEST,
+        Ok(SMALLEST),
         &["brc", "run", "m.brc", "--call", "f", "--rows", "1024"],
         (ONE_REPORT, b"", 0),
     ),
     (
-        SMALLEST,
+        Ok(SMALLEST),
         &["brc", "run", "m.brc", "--call", "f", "--times", "1000000"],
         (ONE_REPORT, b"", 0),
     ),
     (
-        SMALLEST,
+        Ok(SMALLEST),
         &["brc", "run", "m.brc", "--call", "g"],
         (b"", b"no function g\n", 2),
     ),
-    (SMALLEST, &["brc", "--version"], (b"brc 0.1.0\n", b"", 0)),
     (
-        LEAKING,
+        Ok(SMALLEST),
+        &["brc", "--version"],
+        (b"brc 0.1.0\n", b"", 0),
+    ),
+    (
+        Ok(LEAKING),
         &["brc", "check", "m.brc"],
         (b"", b"refused f @1 C5\n", 1),
     ),
     // Of a module that isn't checked before: the schedule takes one step of main.
     (
-        LEAKING,
+        Ok(LEAKING),
         &["brc", "step", "--unchecked", "m.brc", "s.txt"],
         (STEPPED, b"", 0),
     ),
     (
-        SMALLEST,
+        Ok(SMALLEST),
         &["brc", "explain", "m.brc", "--schedule"],
         (
             b"accepted 1 functions 1 instructions\nno run of it goes wrong\n",
@@ -136,7 +143,7 @@ const CARRIED_OUT: &[(&[u8], &[&str], (&[u8], &[u8], u8))] = &[
         ),
     ),
     (
-        b"module 1\nfunc f\nas v0 num else @1\nfail\nend\n",
+        Ok(b"module 1\nfunc f\nas v0 num else @1\nfail\nend\n"),
         &[
             "brc",
             "explain",
@@ -159,22 +166,22 @@ const CARRIED_OUT: &[(&[u8], &[&str], (&[u8], &[u8], u8))] = &[
     ),
     // How many threads call, how often, and with how many rows.
     (
-        NUMBERS,
+        Ok(NUMBERS),
         &["brc", "run", "m.brc", "--call", "f", "--times", "2"],
         (EIGHT_NUMBERS_REPORT, b"", 0),
     ),
     (
-        NUMBERS,
+        Ok(NUMBERS),
         &["brc", "run", "m.brc", "--call", "f", "--rows", "3"],
         (THREE_NUMBERS_REPORT, b"", 0),
     ),
     (
-        TWO_NUMBERS,
+        Ok(TWO_NUMBERS),
         &["brc", "run", "m.brc", "--call", "f", "--rows", "1"],
         (NUMBER_REPORT, b"", 0),
     ),
     (
-        SWAP,
+        Ok(SWAP),
         &[
             "brc",
             "run",
@@ -190,26 +197,26 @@ const CARRIED_OUT: &[(&[u8], &[&str], (&[u8], &[u8], u8))] = &[
     ),
     // How many instructions a worker begins.
     (
-        SET_PAST_THE_END,
+        Ok(SET_PAST_THE_END),
         &["brc", "run", "m.brc", "--call", "f", "--steps", "2"],
         (NUMBER_REPORT, b"", 0),
     ),
     (
-        SWAP,
+        Ok(SWAP),
         &[
             "brc", "run", "m.brc", "--call", "swap", "--times", "1000", "--steps", "7",
         ],
         (TWO_NUMBERS_REPORT, b"", 0),
     ),
     (
-        SWAP,
+        Ok(SWAP),
         &[
             "brc", "run", "m.brc", "--call", "swap", "--times", "1000", "--steps", "0",
         ],
         (ONE_REPORT, b"", 0),
     ),
     (
-        SWAP,
+        Ok(SWAP),
         &[
             "brc",
             "run",
@@ -222,12 +229,12 @@ const CARRIED_OUT: &[(&[u8], &[&str], (&[u8], &[u8], u8))] = &[
         (NUMBER_REPORT, b"", 0),
     ),
     (
-        CYCLE,
+        Ok(CYCLE),
         &["brc", "run", "m.brc", "--call", "f", "--steps", "3"],
         (NUMBER_REPORT, b"", 0),
     ),
     (
-        CYCLE,
+        Ok(CYCLE),
         &["brc", "run", "m.brc", "--call", "f", "--steps", "4"],
         (CYCLE_REPORT, b"", 0),
     ),
@@ -246,29 +253,20 @@ const EXPLAINED: &[(&[&str], &[u8])] = &[
     (&["brc", "explain", "--code", "L10"], b"L10"),
 ];
 
-fn assert_carried_out<R: System + Abort + AllocGlobal>(
-    rt: &R,
-    rows: &[(&[u8], &[&str], (&[u8], &[u8], u8))],
-) {
-    for (module, words, (report, line, want)) in rows {
-        let (out, err, status) = acts(rt, words, Ok(*module), Ok(SCHEDULE));
-        assert_eq!(rt; out.as_slice(), *report, "{words:?}");
-        assert_eq!(rt; err.as_slice(), *line, "{words:?}");
-        assert_eq!(rt; status, *want, "{words:?}");
+#[test]
+fn carries_out_command_lines(rt: HostRuntime) {
+    for rows in [CARRIED_OUT, IN_LINES, IN_JSON] {
+        for (module, words, (report, lines, want)) in rows {
+            let (out, err, status) = acts(&rt, words, *module, Ok(SCHEDULE));
+            assert_eq!(rt; out.as_slice(), *report, "{words:?} of {module:?}");
+            assert_eq!(rt; err.as_slice(), *lines, "{words:?} of {module:?}");
+            assert_eq!(rt; status, *want, "{words:?} of {module:?}");
+        }
     }
-}
-
-fn assert_explained<R: System + Abort + AllocGlobal>(rt: &R, rows: &[(&[&str], &[u8])]) {
-    for (words, part) in rows {
-        let (out, err, status) = acts(rt, words, Ok(SMALLEST), Ok(SCHEDULE));
+    for (words, part) in EXPLAINED {
+        let (out, err, status) = acts(&rt, words, Ok(SMALLEST), Ok(SCHEDULE));
         assert!(rt; contains(out.as_slice(), part), "{words:?}");
         assert!(rt; err.is_empty(), "{words:?}");
         assert_eq!(rt; status, 0, "{words:?}");
     }
-}
-
-#[test]
-fn carries_out_command_lines(rt: HostRuntime) {
-    assert_carried_out(&rt, CARRIED_OUT);
-    assert_explained(&rt, EXPLAINED);
 }

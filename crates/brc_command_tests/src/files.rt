@@ -1,17 +1,11 @@
-//! The check of several files, and what is found of files as JSON objects.
+//! Command lines that check several files, and what is found of files as JSON objects.
 
-use crate::cases::{Bytes, LEAKING, MISSPELT, SMALLEST};
-use crate::command_lines::acts;
+use crate::cases::{CommandLine, LEAKING, MISSPELT, SMALLEST};
 use crate::statics::KEPT;
 use brc_command::LoadError;
-use brc_run::System;
-use std::process::Abort;
 
-/// A module, the words, and the texts on standard output and on standard error, and the status. There is no `n.brc`,
-/// and `s.txt` is no module's text.
-type Row<'t> = (Bytes<'t>, &'t [&'t str], (&'t [u8], &'t [u8], u8));
-
-const IN_LINES: &[Row<'static>] = &[
+/// There is no `n.brc`, and `s.txt` is no module's text.
+pub const IN_LINES: &[CommandLine<'static>] = &[
     (
         Ok(SMALLEST),
         &["brc", "check", "m.brc", "-"],
@@ -82,6 +76,17 @@ const NO_FILE: &[u8] =
     b"{\"at\":null,\"code\":null,\"file\":\"a\\\"\\\\b\",\"function\":null,\"line\":null,\
 \"message\":\"The file can't be read.\",\"other_path\":null,\"path\":null,\"verdict\":\"unreadable\"}\n";
 
+/// `REFUSED`, `NO_FILE` and `REFUSED` again.
+const REFUSED_NO_FILE_REFUSED: &[u8] =
+    b"{\"at\":1,\"code\":\"C5\",\"file\":\"m.brc\",\"function\":\"f\",\"line\":4,\
+\"message\":\"Instruction @1 of f is refused: a reference is left at the end of the call.\",\
+\"other_path\":null,\"path\":[{\"at\":0,\"exit\":\"ok\"},{\"at\":1,\"exit\":\"ok\"}],\"verdict\":\"refused\"}\n\
+{\"at\":null,\"code\":null,\"file\":\"a\\\"\\\\b\",\"function\":null,\"line\":null,\
+\"message\":\"The file can't be read.\",\"other_path\":null,\"path\":null,\"verdict\":\"unreadable\"}\n\
+{\"at\":1,\"code\":\"C5\",\"file\":\"m.brc\",\"function\":\"f\",\"line\":4,\
+\"message\":\"Instruction @1 of f is refused: a reference is left at the end of the call.\",\
+\"other_path\":null,\"path\":[{\"at\":0,\"exit\":\"ok\"},{\"at\":1,\"exit\":\"ok\"}],\"verdict\":\"refused\"}\n";
+
 /// The first pass reaches @0 with an empty `v1`, the second one with one that owns.
 const LOOP: &[u8] =
     b"module 1\nfunc e\nfail\nend\nfunc f\nlock v0\nfetch v1 v0 0 else @7\nunlock v0\n\
@@ -110,7 +115,7 @@ const KEPT_AT_1: &[u8] =
 \"message\":\"Instruction @1 of f is refused: a reference is left at the end of the call.\",\
 \"other_path\":null,\"path\":[{\"at\":0,\"exit\":\"ok\"},{\"at\":1,\"exit\":\"ok\"}],\"verdict\":\"refused\"}\n";
 
-const IN_JSON: &[Row<'static>] = &[
+pub const IN_JSON: &[CommandLine<'static>] = &[
     (
         Ok(KEPT),
         &["brc", "check", "--format", "json", "m.brc"],
@@ -175,43 +180,12 @@ const IN_JSON: &[Row<'static>] = &[
         &["brc", "check", "--format", "json", "a\"\\b"],
         (NO_FILE, b"", 2),
     ),
+    // An object for each file.
+    (
+        Ok(LEAKING),
+        &[
+            "brc", "check", "--format", "json", "m.brc", "a\"\\b", "m.brc",
+        ],
+        (REFUSED_NO_FILE_REFUSED, b"", 2),
+    ),
 ];
-
-fn assert_rows<R: System + Abort + AllocGlobal>(rt: &R, rows: &[Row<'_>]) {
-    for (module, words, (report, lines, want)) in rows {
-        let (out, err, status) = acts(rt, words, *module, Ok(b"schedule 1\n"));
-        assert_eq!(rt; out.as_slice(), *report, "{words:?}");
-        assert_eq!(rt; err.as_slice(), *lines, "{words:?}");
-        assert_eq!(rt; status, *want, "{words:?}");
-    }
-}
-
-/// Returns whether the text is these objects, one behind the other.
-fn is_in_turn(text: &[u8], objects: &[&[u8]]) -> bool {
-    let mut rest = text;
-    for object in objects {
-        if !rest.starts_with(object) {
-            return false;
-        }
-        rest = &rest[object.len().min(rest.len())..];
-    }
-    rest.is_empty()
-}
-
-/// Asserts that there is an object for each file.
-fn assert_objects<R: System + Abort + AllocGlobal>(rt: &R, words: &[&str], objects: &[&[u8]]) {
-    let (out, err, status) = acts(rt, words, Ok(LEAKING), Ok(b""));
-    assert!(rt; is_in_turn(out.as_slice(), objects), "{words:?}");
-    assert!(rt; err.is_empty(), "{words:?}");
-    assert_eq!(rt; status, 2, "{words:?}");
-}
-
-#[test]
-fn checks_several_files(rt: HostRuntime) {
-    assert_rows(&rt, IN_LINES);
-    assert_rows(&rt, IN_JSON);
-    let words = [
-        "brc", "check", "--format", "json", "m.brc", "a\"\\b", "m.brc",
-    ];
-    assert_objects(&rt, words.as_slice(), &[REFUSED, NO_FILE, REFUSED]);
-}

@@ -1,6 +1,6 @@
 //! Worked examples of host calls: which of them fail, and what is counted and closed.
 
-use crate::cases::{CHECK, Case, STEP, UNREAD, assert_cases, to_run};
+use crate::cases::{Case, UNREAD};
 use crate::command_lines::acts;
 use crate::worked::NUMBER_REPORT;
 use std::test::Fail;
@@ -24,7 +24,7 @@ const NOT_CLOSED: &[u8] =
 
 // Opening the file is a host call and three steps of its birth. Whatever fails afterwards is its close, by which it
 // counts as closed all the same.
-const STEPPED: &[Case<'static>] = &[
+pub const STEPPED: &[Case<'static>] = &[
     (
         "host_faults, not opened",
         Ok(OPENS),
@@ -204,26 +204,19 @@ const STEPPED: &[Case<'static>] = &[
 ];
 
 // `brc run` is given no path and no peer.
-const RUN: &[Case<'static>] = &[(
+pub const RUN: &[Case<'static>] = &[(
     "host_faults, no peer",
     Ok(CONNECTS),
     UNREAD,
     (NOT_OPENED, b"", 0),
 )];
 
-const CHECKED: &[Case<'static>] = &[(
+pub const CHECKED: &[Case<'static>] = &[(
     "copy",
     Ok(COPY),
     UNREAD,
     (b"accepted 1 functions 14 instructions\n", b"", 0),
 )];
-
-#[test]
-fn host_faults(rt: HostRuntime) {
-    assert_cases(&rt, &CHECK, CHECKED);
-    assert_cases(&rt, &to_run("f", 1, 1024, 1), RUN);
-    assert_cases(&rt, &STEP, STEPPED);
-}
 
 // Opens the second path for writing, makes the file where it is absent, and closes it.
 const MAKES: &[u8] = b"module 1\nfunc f\nopen v1 1 wc else @2\ndrop v1\nfail\nend\n";

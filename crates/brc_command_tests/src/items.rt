@@ -1,6 +1,6 @@
 //! Worked examples of lists and their items.
 
-use crate::cases::{CHECK, Case, STEP, UNREAD, assert_cases, to_run};
+use crate::cases::{Case, UNREAD};
 use crate::worked::NUMBER_REPORT;
 
 /// Stores a number in the root's first cell, and gives up a number that stood there.
@@ -38,7 +38,7 @@ pub const TWO_CLOSED: &[u8] =
     b"threads 2\nrunning 0\ncreated 2\nclosed 2\nalive 0\nhost faults 0\nclose faults 0\n";
 
 // `set` steals the number on both exits, `put` on neither. What is borrowed ends with the lock.
-const CHECKED: &[Case<'static>] = &[
+pub const CHECKED: &[Case<'static>] = &[
     (
         "set_steals_on_fault",
         Ok(
@@ -96,7 +96,7 @@ const CHECKED: &[Case<'static>] = &[
 ];
 
 // Main merges the number that is left in the root, and closes it. A list that is its own item is left alive.
-const RUN: &[Case<'static>] = &[
+pub const RUN: &[Case<'static>] = &[
     (
         "set_out_of_range",
         Ok(SET_PAST_THE_END),
@@ -115,16 +115,16 @@ const RUN: &[Case<'static>] = &[
     ),
 ];
 
-const RUN_SWAP: &[Case<'static>] = &[("swap_once", Ok(SWAP), UNREAD, (NUMBER_REPORT, b"", 0))];
+pub const RUN_SWAP: &[Case<'static>] = &[("swap_once", Ok(SWAP), UNREAD, (NUMBER_REPORT, b"", 0))];
 
-const RUN_SWAP_OFTEN: &[Case<'static>] = &[(
+pub const RUN_SWAP_OFTEN: &[Case<'static>] = &[(
     "swap_by_four_threads",
     Ok(SWAP),
     UNREAD,
     (SWAPS_REPORT, b"", 0),
 )];
 
-const STEPPED: &[Case<'static>] = &[
+pub const STEPPED: &[Case<'static>] = &[
     // Worker 2 takes worker 1's number out of the root's first cell, finds the shared field as it was at birth and
     // queues the number; then it fetches the number from the second cell and stores it in the first. Worker 1 gives up
     // its three references and merges, and at its exit it finds the mark and closes the number.
@@ -162,7 +162,7 @@ const STEPPED: &[Case<'static>] = &[
         (TWO_CLOSED, b"", 0),
     ),
     (
-        "no mark yet, worker 1 gone",
+        "no mark on the number yet, worker 1 gone",
         Ok(SWAP_AND_CLEAR),
         Ok(
             b"schedule 1\nworkers 2\nrows 4\ncall 1 swap 1\ncall 2 clear 1\nstep 1 ok 6\nstep 2 ok 8\nstep 1 ok 1000\n",
@@ -175,7 +175,7 @@ const STEPPED: &[Case<'static>] = &[
         ),
     ),
     (
-        "no mark yet",
+        "no mark on the number yet",
         Ok(SWAP_AND_CLEAR),
         Ok(
             b"schedule 1\nworkers 2\nrows 4\ncall 1 swap 1\ncall 2 clear 1\nstep 1 ok 6\nstep 2 ok 8\nstep 1 ok 1000\n\
@@ -184,12 +184,3 @@ const STEPPED: &[Case<'static>] = &[
         (TWO_CLOSED, b"", 0),
     ),
 ];
-
-#[test]
-fn items_are_closed_left_or_queued(rt: HostRuntime) {
-    assert_cases(&rt, &CHECK, CHECKED);
-    assert_cases(&rt, &to_run("f", 1, 1024, 1), RUN);
-    assert_cases(&rt, &to_run("swap", 1, 1024, 1), RUN_SWAP);
-    assert_cases(&rt, &to_run("swap", 4, 1024, 1000), RUN_SWAP_OFTEN);
-    assert_cases(&rt, &STEP, STEPPED);
-}

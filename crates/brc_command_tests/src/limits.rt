@@ -41,6 +41,18 @@ fn largest_schedule(alloc: Global) -> Result<Vec<u8>, AllocError> {
     Ok(text)
 }
 
+// Each of 32 workers makes 1024 numbers, and the last call of each finds no row.
+const FILLING: &[Case<'static>] = &[(
+    "each row is filled",
+    Ok(b"module 1\nfunc f\nnum v1 7 else @2\ndrop v1\nfail\nend\n"),
+    UNREAD,
+    (
+        b"threads 32\nrunning 0\ncreated 32769\nclosed 32769\nalive 0\nhost faults 0\nclose faults 0\n",
+        b"",
+        0,
+    ),
+)];
+
 #[test]
 fn answers_at_each_limit(rt: HostRuntime) -> Result<(), Fail> {
     let text = largest_module(rt.alloc())?;
@@ -63,22 +75,6 @@ fn answers_at_each_limit(rt: HostRuntime) -> Result<(), Fail> {
     assert_cases(&rt, &CHECK, checked.as_slice());
     assert_cases(&rt, &to_run("f77", 32, 1024, 2), closed.as_slice());
     assert_cases(&rt, &STEP, closed.as_slice());
-    Ok(())
-}
-
-// Each of 32 workers makes 1024 numbers, and the last call of each finds no row.
-const FILLING: &[Case<'static>] = &[(
-    "each row is filled",
-    Ok(b"module 1\nfunc f\nnum v1 7 else @2\ndrop v1\nfail\nend\n"),
-    UNREAD,
-    (
-        b"threads 32\nrunning 0\ncreated 32769\nclosed 32769\nalive 0\nhost faults 0\nclose faults 0\n",
-        b"",
-        0,
-    ),
-)];
-
-#[test]
-fn fills_each_row(rt: HostRuntime) {
     assert_cases(&rt, &to_run("f", 32, 1024, 1025), FILLING);
+    Ok(())
 }

@@ -1,6 +1,6 @@
-//! Schedules of modules that lock.
+//! Schedules of modules that lock: to lose a lock to another worker is no step.
 
-use crate::cases::{Case, STEP, assert_cases};
+use crate::cases::Case;
 
 pub const LOCKING: &[u8] = b"module 1\nfunc f\nlock v0\nunlock v0\nfail\nend\n";
 
@@ -19,13 +19,13 @@ const ROOT_CLOSED: &[u8] =
 const ALL_GONE: &[u8] =
     b"threads 2\nrunning 0\ncreated 1\nclosed 1\nalive 0\nhost faults 0\nclose faults 0\n";
 
-const CASES: &[Case<'static>] = &[
+pub const CASES: &[Case<'static>] = &[
     // Main exits first, in 5 steps. Worker 1 locks the root. However often worker 2 then tries to lock it, it has taken
     // no step. Worker 1 unlocks the root (1 step), fails (1) and exits (13): 15 steps after its lock. Worker 2 locks,
     // unlocks and fails in 3 steps; the 15th step of its exit closes the root, and the 17th says that it is gone. The
     // comment on `COUNTED` in steps.rt counts the steps of the exits.
     (
-        "worker 2 takes no step",
+        "waiting: worker 2 takes no step",
         Ok(LOCKING),
         Ok(
             b"schedule 1\nworkers 2\nrows 4\ncall 1 f 1\ncall 2 f 1\nstep 1 ok 1\nstep 2 ok 1000000\n",
@@ -33,7 +33,7 @@ const CASES: &[Case<'static>] = &[
         (RUNNING, b"", 0),
     ),
     (
-        "worker 1, before its last step",
+        "waiting: worker 1, before its last step",
         Ok(LOCKING),
         Ok(
             b"schedule 1\nworkers 2\nrows 4\ncall 1 f 1\ncall 2 f 1\nstep 0 ok 5\nstep 1 ok 1\nstep 2 fault 9\n\
@@ -42,7 +42,7 @@ const CASES: &[Case<'static>] = &[
         (MAIN_GONE, b"", 0),
     ),
     (
-        "worker 1, gone",
+        "waiting: worker 1, gone",
         Ok(LOCKING),
         Ok(
             b"schedule 1\nworkers 2\nrows 4\ncall 1 f 1\ncall 2 f 1\nstep 0 ok 5\nstep 1 ok 1\nstep 2 fault 9\n\
@@ -51,7 +51,7 @@ const CASES: &[Case<'static>] = &[
         (ONE_GONE, b"", 0),
     ),
     (
-        "the root, before its last step",
+        "waiting: the root, before its last step",
         Ok(LOCKING),
         Ok(
             b"schedule 1\nworkers 2\nrows 4\ncall 1 f 1\ncall 2 f 1\nstep 0 ok 5\nstep 1 ok 1\nstep 2 ok 9\n\
@@ -60,7 +60,7 @@ const CASES: &[Case<'static>] = &[
         (ONE_GONE, b"", 0),
     ),
     (
-        "the root, closed",
+        "waiting: the root, closed",
         Ok(LOCKING),
         Ok(
             b"schedule 1\nworkers 2\nrows 4\ncall 1 f 1\ncall 2 f 1\nstep 0 ok 5\nstep 1 ok 1\nstep 2 ok 9\n\
@@ -69,7 +69,7 @@ const CASES: &[Case<'static>] = &[
         (ROOT_CLOSED, b"", 0),
     ),
     (
-        "worker 2, before its last step",
+        "waiting: worker 2, before its last step",
         Ok(LOCKING),
         Ok(
             b"schedule 1\nworkers 2\nrows 4\ncall 1 f 1\ncall 2 f 1\nstep 0 ok 5\nstep 1 ok 1\nstep 2 ok 9\n\
@@ -78,7 +78,7 @@ const CASES: &[Case<'static>] = &[
         (ROOT_CLOSED, b"", 0),
     ),
     (
-        "worker 2, gone",
+        "waiting: worker 2, gone",
         Ok(LOCKING),
         Ok(
             b"schedule 1\nworkers 2\nrows 4\ncall 1 f 1\ncall 2 f 1\nstep 0 ok 5\nstep 1 ok 1\nstep 2 ok 9\n\
@@ -129,8 +129,3 @@ const CASES: &[Case<'static>] = &[
         (ALL_GONE, b"", 0),
     ),
 ];
-
-#[test]
-fn lost_locks_are_no_steps(rt: HostRuntime) {
-    assert_cases(&rt, &STEP, CASES);
-}

@@ -1,6 +1,6 @@
 //! Worked examples of loops.
 
-use crate::cases::{CHECK, Case, UNREAD, assert_cases, to_run};
+use crate::cases::{Case, UNREAD};
 
 /// Makes a number and gives it up, and does both three times more.
 pub const NUMBERS: &[u8] = b"module 1\nfunc f\nnum v1 1 else @3\ndrop v1\nagain @0 3\nfail\nend\n";
@@ -13,7 +13,7 @@ pub const THREE_NUMBERS_REPORT: &[u8] =
 pub const EIGHT_NUMBERS_REPORT: &[u8] =
     b"threads 1\nrunning 0\ncreated 9\nclosed 9\nalive 0\nhost faults 0\nclose faults 0\n";
 
-const CHECKED: &[Case<'static>] = &[
+pub const CHECKED: &[Case<'static>] = &[
     (
         "numbers",
         Ok(NUMBERS),
@@ -28,7 +28,7 @@ const CHECKED: &[Case<'static>] = &[
     ),
 ];
 
-const RUN: &[Case<'static>] = &[
+pub const RUN: &[Case<'static>] = &[
     (
         "numbers",
         Ok(NUMBERS),
@@ -64,7 +64,7 @@ const RUN: &[Case<'static>] = &[
 ];
 
 // A call makes four numbers, and the next call counts anew.
-const RUN_TWICE: &[Case<'static>] = &[(
+pub const RUN_TWICE: &[Case<'static>] = &[(
     "numbers",
     Ok(NUMBERS),
     UNREAD,
@@ -72,17 +72,9 @@ const RUN_TWICE: &[Case<'static>] = &[(
 )];
 
 // The fourth number isn't made.
-const RUN_WITH_THREE_ROWS: &[Case<'static>] = &[(
+pub const RUN_WITH_THREE_ROWS: &[Case<'static>] = &[(
     "numbers",
     Ok(NUMBERS),
     UNREAD,
     (THREE_NUMBERS_REPORT, b"", 0),
 )];
-
-#[test]
-fn loops_end(rt: HostRuntime) {
-    assert_cases(&rt, &CHECK, CHECKED);
-    assert_cases(&rt, &to_run("f", 1, 1024, 1), RUN);
-    assert_cases(&rt, &to_run("f", 1, 1024, 2), RUN_TWICE);
-    assert_cases(&rt, &to_run("f", 1, 3, 1), RUN_WITH_THREE_ROWS);
-}

@@ -77,17 +77,17 @@ fn assert_stops<R: System + Abort + AllocGlobal>(
             assert_eq!(rt;
                 out.as_slice(),
                 &text[..most],
-                "{asked:?} after {most}, interrupts: {interrupts}"
+                "{asked:?} of {module:?} after {most}, interrupts: {interrupts}"
             );
             assert_eq!(rt;
                 err.as_slice(),
                 line,
-                "{asked:?} after {most}, interrupts: {interrupts}"
+                "{asked:?} of {module:?} after {most}, interrupts: {interrupts}"
             );
             assert_eq!(rt;
                 found,
                 status,
-                "{asked:?} after {most}, interrupts: {interrupts}"
+                "{asked:?} of {module:?} after {most}, interrupts: {interrupts}"
             );
         }
     }
@@ -115,6 +115,13 @@ fn narrowly<R: System + AllocGlobal>(
     (out.taken, err, status)
 }
 
+// The modules, and their lines and statuses.
+const EXPLAINED: &[(&[u8], (&[u8], u8))] = &[
+    (FIRST, (b"", 0)),
+    (LEAKING, (b"refused f @1 C5\n", 1)),
+    (MISSPELT, (b"unreadable line 3 L2\n", 2)),
+];
+
 #[test]
 fn stops_at_an_output_error(rt: HostRuntime) {
     let accepted = b"accepted 1 functions 1 instructions\n";
@@ -128,17 +135,6 @@ fn stops_at_an_output_error(rt: HostRuntime) {
     assert_stops(&rt, &CHECK, SMALLEST, accepted, (b"", 0));
     assert_stops(&rt, &STEP, SMALLEST, RUNNING, (b"", 0));
     assert_stops(&rt, &Asked::Version, SMALLEST, b"brc 0.1.0\n", (b"", 0));
-}
-
-// The modules, and their lines and statuses.
-const EXPLAINED: &[(&[u8], (&[u8], u8))] = &[
-    (FIRST, (b"", 0)),
-    (LEAKING, (b"refused f @1 C5\n", 1)),
-    (MISSPELT, (b"unreadable line 3 L2\n", 2)),
-];
-
-#[test]
-fn stops_explaining_at_an_output_error(rt: HostRuntime) {
     let explain = Asked::Explain {
         file: "m.brc",
         function: None,
@@ -213,7 +209,7 @@ fn goes_on_after_an_output_error(rt: HostRuntime) {
         for most in 0..=text.len() {
             let (out, err, status) = checked_narrowly(rt.alloc(), files, *format, most);
             let (lines, want) = if most == text.len() { whole } else { cut };
-            assert_eq!(rt; out.as_slice(), &text[..most], "{files:?}");
+            assert_eq!(rt; out.as_slice(), &text[..most], "{files:?} after {most}");
             assert_eq!(rt; err.as_slice(), *lines, "{files:?} after {most}");
             assert_eq!(rt; status, *want, "{files:?} after {most}");
         }

@@ -7,7 +7,6 @@ use crate::command_lines::acts;
 use brc_arguments::act;
 use brc_command::{Load, LoadError, Save, SaveError};
 use brc_run::System;
-use std::process::Abort;
 
 /// A text, and whether zeros without end are behind it.
 type Tape<'t> = (&'t [u8], bool);
@@ -125,17 +124,7 @@ const AT_FAULT: &[(&[&str], (Tape<'static>, Tape<'static>, usize), &[u8])] = &[
     ),
 ];
 
-#[test]
-fn reads_no_further_than_the_line_at_fault(rt: HostRuntime) {
-    for (words, (module, schedule, count), line) in AT_FAULT {
-        let (told, asked) = acts_on_pieces(&rt, words, *module, *schedule, 16);
-        let (_, err, status) = told;
-        assert_eq!(rt; err.as_slice(), *line, "{words:?}");
-        assert_eq!(rt; status, 2, "{words:?}");
-        assert_eq!(rt; asked, *count, "{words:?}");
-    }
-}
-
+// Files that end. Cut in each place between two pieces, they are read as the whole.
 const TEXTS: &[(&[u8], &[u8])] = &[
     (SMALLEST, PLAN),
     (SMALLEST, FIFTH_OF_PLAN),
@@ -148,9 +137,15 @@ const TEXTS: &[(&[u8], &[u8])] = &[
     (b"modul", PLAN),
 ];
 
-// Files that end are cut in each place between two pieces.
 #[test]
-fn reads_pieces_as_the_whole(rt: HostRuntime) {
+fn reads_files_in_pieces(rt: HostRuntime) {
+    for (words, (module, schedule, count), line) in AT_FAULT {
+        let (told, asked) = acts_on_pieces(&rt, words, *module, *schedule, 16);
+        let (_, err, status) = told;
+        assert_eq!(rt; err.as_slice(), *line, "{words:?}, {count} pieces");
+        assert_eq!(rt; status, 2, "{words:?}, {count} pieces");
+        assert_eq!(rt; asked, *count, "{words:?}, {count} pieces");
+    }
     let words = ["brc", "step", "m.brc", "s.txt"];
     for (module, schedule) in TEXTS {
         let (out, err, status) = acts(&rt, words.as_slice(), Ok(*module), Ok(*schedule));
@@ -162,9 +157,17 @@ fn reads_pieces_as_the_whole(rt: HostRuntime) {
                 (*schedule, false),
                 length,
             );
-            assert_eq!(rt; found.as_slice(), out.as_slice(), "{length}");
-            assert_eq!(rt; line.as_slice(), err.as_slice(), "{length}");
-            assert_eq!(rt; ended, status, "{length}");
+            assert_eq!(rt;
+                found.as_slice(),
+                out.as_slice(),
+                "{module:?} {schedule:?} by {length}"
+            );
+            assert_eq!(rt;
+                line.as_slice(),
+                err.as_slice(),
+                "{module:?} {schedule:?} by {length}"
+            );
+            assert_eq!(rt; ended, status, "{module:?} {schedule:?} by {length}");
         }
     }
 }

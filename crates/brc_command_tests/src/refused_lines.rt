@@ -150,20 +150,6 @@ const HELP: &[(&[&str], (&[u8], &[u8]))] = &[
     ),
 ];
 
-#[test]
-fn refuses_command_lines(rt: HostRuntime) {
-    for (words, start) in REFUSED {
-        assert_usage(&rt, words, (*start, b"\n"));
-    }
-    for (option, number) in NUMBERS_REFUSED {
-        let words = ["brc", "run", "m.brc", "--call", "f", *option, *number];
-        assert_usage(&rt, words.as_slice(), (b"error: ", b"\n"));
-    }
-    for (words, ends) in HELP {
-        assert_usage(&rt, words, *ends);
-    }
-}
-
 // The number of paths and of peers, and the line. Sixteen of each may be given. There is no `n.brc`.
 const COUNTS: &[(usize, usize, &[u8])] = &[
     (0, 0, b"unreadable file\n"),
@@ -174,7 +160,17 @@ const COUNTS: &[(usize, usize, &[u8])] = &[
 ];
 
 #[test]
-fn counts_paths_and_peers(rt: HostRuntime) -> Result<(), Fail> {
+fn refuses_command_lines(rt: HostRuntime) -> Result<(), Fail> {
+    for (words, start) in REFUSED {
+        assert_usage(&rt, words, (*start, b"\n"));
+    }
+    for (option, number) in NUMBERS_REFUSED {
+        let words = ["brc", "run", "m.brc", "--call", "f", *option, *number];
+        assert_usage(&rt, words.as_slice(), (b"error: ", b"\n"));
+    }
+    for (words, ends) in HELP {
+        assert_usage(&rt, words, *ends);
+    }
     for (paths, peers, line) in COUNTS {
         let mut words = vec![in rt.alloc(); "brc", "run", "n.brc", "--call", "f"]?;
         for _ in 0..*paths {

@@ -1,9 +1,10 @@
-//! Runs of modules on threads.
+//! Runs of modules on threads, by tables here and in the files of worked examples.
 
 use crate::births::ONE_LIST;
 use crate::cases::{Case, FIRST, UNREAD, assert_cases, to_run};
 use crate::locks::LOCKING;
 use crate::worked::NUMBER_REPORT;
+use crate::{host, items, loops, statics, worked};
 
 const ROOT_AND_NONE_ASKED: &[u8] =
     b"module 1\nfunc f\nas v0 list else @6\nnone v1\nas v1 none else @5\nnum v2 1 else @5\ndrop v2\ndrop v1\n\
@@ -72,10 +73,28 @@ const LISTS: &[Case<'static>] = &[(
 
 #[test]
 fn runs_modules(rt: HostRuntime) {
-    assert_cases(&rt, &to_run("f", 4, 1024, 1000), OFTEN);
+    for cases in [
+        LISTS,
+        worked::RUN,
+        worked::RUN_CALLS,
+        items::RUN,
+        loops::RUN,
+        host::RUN,
+    ] {
+        assert_cases(&rt, &to_run("f", 1, 1024, 1), cases);
+    }
+    for cases in [LISTS, worked::RUN_WITH_ONE_ROW] {
+        assert_cases(&rt, &to_run("f", 1, 1, 1), cases);
+    }
+    assert_cases(&rt, &to_run("f", 1, 1, 3), LISTS);
+    assert_cases(&rt, &to_run("f", 1, 3, 1), loops::RUN_WITH_THREE_ROWS);
+    assert_cases(&rt, &to_run("f", 1, 4, 1), statics::RUN);
+    assert_cases(&rt, &to_run("f", 1, 1024, 2), loops::RUN_TWICE);
     assert_cases(&rt, &to_run("f", 2, 3, 3), OUT_OF_ROWS);
     assert_cases(&rt, &to_run("f", 2, 3, 1024), KINDS);
-    assert_cases(&rt, &to_run("f", 1, 1024, 1), LISTS);
-    assert_cases(&rt, &to_run("f", 1, 1, 1), LISTS);
-    assert_cases(&rt, &to_run("f", 1, 1, 3), LISTS);
+    assert_cases(&rt, &to_run("f", 4, 4, 10), statics::RUN_BY_FOUR);
+    assert_cases(&rt, &to_run("f", 4, 1024, 1000), OFTEN);
+    assert_cases(&rt, &to_run("swap", 1, 1024, 1), items::RUN_SWAP);
+    assert_cases(&rt, &to_run("swap", 4, 1024, 1000), items::RUN_SWAP_OFTEN);
+    assert_cases(&rt, &to_run("keep", 1, 1024, 1), worked::RUN_OF_KEEP);
 }

@@ -1,6 +1,6 @@
 //! Worked examples of version 3: static lists, long lists, and all that `brc check`, `brc run` and `brc step` print.
 
-use crate::cases::{CHECK, Case, STEP, UNREAD, assert_cases, to_run};
+use crate::cases::{Case, UNREAD};
 
 /// An item of the static list is fetched and given up.
 pub const FETCHED: &[u8] =
@@ -39,7 +39,7 @@ pub const KEPT: &[u8] =
 /// There is one static list, of the number 0.
 pub const NOT_THERE: &[u8] = b"module 3\nstatic 5 6\nfunc f\ntake v1 1\ndrop v1\nfail\nend\n";
 
-const CHECKED: &[Case<'static>] = &[
+pub const CHECKED: &[Case<'static>] = &[
     (
         "an item of a static list",
         Ok(FETCHED),
@@ -136,7 +136,7 @@ const FETCHED_REPORT: &[u8] =
 const EMPTIED_REPORT: &[u8] =
     b"threads 1\nrunning 0\ncreated 3\nclosed 2\nalive 1\nhost faults 0\nclose faults 0\nleft 8 num\n";
 
-const RUN: &[Case<'static>] = &[
+pub const RUN: &[Case<'static>] = &[
     (
         "an item of a static list",
         Ok(FETCHED),
@@ -172,7 +172,7 @@ const RUN: &[Case<'static>] = &[
     ),
 ];
 
-const RUN_BY_FOUR: &[Case<'static>] = &[(
+pub const RUN_BY_FOUR: &[Case<'static>] = &[(
     "a static list is given up while it is locked",
     Ok(GIVEN_UP_LOCKED),
     UNREAD,
@@ -183,7 +183,7 @@ const RUN_BY_FOUR: &[Case<'static>] = &[(
     ),
 )];
 
-const STEPPED: &[Case<'static>] = &[
+pub const STEPPED: &[Case<'static>] = &[
     // Before any step the root and the numbers are there.
     (
         "no step",
@@ -248,11 +248,3 @@ const STEPPED: &[Case<'static>] = &[
         (b"", b"unreadable schedule line 5 L3\n", 2),
     ),
 ];
-
-#[test]
-fn static_lists(rt: HostRuntime) {
-    assert_cases(&rt, &CHECK, CHECKED);
-    assert_cases(&rt, &to_run("f", 1, 4, 1), RUN);
-    assert_cases(&rt, &to_run("f", 4, 4, 10), RUN_BY_FOUR);
-    assert_cases(&rt, &STEP, STEPPED);
-}

@@ -1,8 +1,10 @@
-//! How many steps the workers' calls and exits take.
+//! What `brc step` reports, by tables here and in other files. Those here count the steps that the workers' calls and
+//! exits take.
 
 use crate::cases::{Case, FIRST, ONE_REPORT, SMALLEST, STEP, assert_cases};
 use crate::items::{SET_PAST_THE_END, TWO_CLOSED};
 use crate::worked::NUMBER_REPORT;
+use crate::{births, host, items, locks, statics, worked};
 
 // Two workers call `f` once, and main exits first. The root's local count is 3, and only main changes it.
 //
@@ -368,8 +370,19 @@ const STOPPED: &[Case<'static>] = &[
 ];
 
 #[test]
-fn counts_the_steps_of_exits(rt: HostRuntime) {
-    assert_cases(&rt, &STEP, COUNTED);
-    assert_cases(&rt, &STEP, QUEUED);
-    assert_cases(&rt, &STEP, STOPPED);
+fn steps_modules(rt: HostRuntime) {
+    for cases in [
+        COUNTED,
+        QUEUED,
+        STOPPED,
+        births::CASES,
+        locks::CASES,
+        worked::STEPPED,
+        worked::STEPPED_CALLS,
+        items::STEPPED,
+        statics::STEPPED,
+        host::STEPPED,
+    ] {
+        assert_cases(&rt, &STEP, cases);
+    }
 }

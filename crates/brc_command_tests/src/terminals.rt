@@ -103,9 +103,10 @@ const SCHEDULES: &[(&[u8], (u64, u64))] = &[
     ),
 ];
 
-// A terminal is given the steps in rising order, and its line is wiped once; it changes no report.
+// A terminal is given the steps of a schedule in rising order, and hears each call of a run on threads, as its gate.
+// Its line is wiped once a command, and it changes no report.
 #[test]
-fn tells_how_far_a_schedule_is(rt: HostRuntime) {
+fn tells_how_far_schedules_and_runs_are(rt: HostRuntime) {
     for (schedule, (times, last)) in SCHEDULES {
         let (notes, out) = told(&rt, &STEP, FIRST, schedule);
         assert_eq!(rt; (notes.times, notes.last), (*times, *last), "{last}");
@@ -114,15 +115,11 @@ fn tells_how_far_a_schedule_is(rt: HostRuntime) {
         let (plain, _, _) = outputs(&rt, &STEP, Ok(FIRST), Ok(*schedule));
         assert_eq!(rt; out.as_slice(), plain.as_slice(), "{last}");
     }
-}
-
-// Of a run on threads the terminal hears each call, as its gate. `act_on` gives it one call more.
-#[test]
-fn hears_each_call_of_a_run(rt: HostRuntime) {
     let (mut notes, _) = told(&rt, &to_run("f", 4, 4, 200), FIRST, b"");
     assert_eq!(rt; notes.begun.load(Ordering::SeqCst), 800);
     assert_eq!(rt; notes.ended.load(Ordering::SeqCst), 800);
     assert_eq!(rt; (notes.times, notes.clears), (0, 1));
+    // `act_on` gives it one call more.
     let mut out: Vec<u8> = Vec::new(rt.alloc());
     let mut err: Vec<u8> = Vec::new(rt.alloc());
     let mut load = Shelf {

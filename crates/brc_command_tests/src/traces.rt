@@ -143,39 +143,16 @@ left 7 num
 left 8 num
 ";
 
-const TRACES: &[(&[u8], &[u8], &[u8])] = &[
-    (SMALLEST, PLAN, TRACE),
-    (TWO_OWNED, STOP_PLAN, STOP_TRACE),
-    (HANDED_BACK, CALL_PLAN, CALL_TRACE),
-    (FETCHED, STATICS_PLAN, STATICS_TRACE),
-];
+/// A name, which a failure gives; a module and a schedule; the trace of the run, and parts of its picture: lanes,
+/// instructions, rules, and what the steps have left in the objects' words.
+type Row<'t> = (&'t str, &'t [u8], &'t [u8], &'t [u8], &'t [&'t [u8]]);
 
-// By the command line, and by its texts. Nothing is traced of a text that can't be read.
-#[test]
-fn traces_modules(rt: HostRuntime) {
-    let words = ["brc", "step", "m.brc", "s.txt", "--trace"];
-    for (module, plan, trace) in TRACES {
-        let (out, err, status) = acts(&rt, words.as_slice(), Ok(*module), Ok(*plan));
-        assert!(rt; out.as_slice() == *trace);
-        assert!(rt; err.is_empty());
-        assert_eq!(rt; status, 0);
-        let mut traced: Vec<u8> = Vec::new(rt.alloc());
-        let result = trace_text(rt.alloc(), module, plan, &mut traced);
-        assert!(rt; result.is_ok());
-        assert!(rt; traced.as_slice() == *trace);
-    }
-    let mut untraced: Vec<u8> = Vec::new(rt.alloc());
-    let result = trace_text(rt.alloc(), b"module 1\nfunc f\n", PLAN, &mut untraced);
-    assert!(rt; result.is_err());
-    assert!(rt; untraced.is_empty());
-}
-
-// A module and a schedule, and parts of the picture of the run: lanes, instructions, rules, and what the steps have
-// left in the objects' words.
-const PICTURES: &[(&[u8], &[u8], &[&[u8]])] = &[
+const RUNS: &[Row<'static>] = &[
     (
+        "a claim",
         SMALLEST,
         PLAN,
+        TRACE,
         &[
             b">main</text>",
             b">worker 1</text>",
@@ -192,8 +169,10 @@ const PICTURES: &[(&[u8], &[u8], &[&[u8]])] = &[
         ],
     ),
     (
+        "a stop",
         TWO_OWNED,
         STOP_PLAN,
+        STOP_TRACE,
         &[
             b">stop</text>",
             b">row 2</text>",
@@ -205,8 +184,10 @@ const PICTURES: &[(&[u8], &[u8], &[&[u8]])] = &[
         ],
     ),
     (
+        "a call",
         HANDED_BACK,
         CALL_PLAN,
+        CALL_TRACE,
         &[
             b">give @0 ret v1</text>",
             b">num 7</text>",
@@ -214,8 +195,10 @@ const PICTURES: &[(&[u8], &[u8], &[&[u8]])] = &[
         ],
     ),
     (
+        "a static list",
         FETCHED,
         STATICS_PLAN,
+        STATICS_TRACE,
         &[
             b">row 6</text>",
             b">row 8 gained</tspan>",
@@ -224,15 +207,29 @@ const PICTURES: &[(&[u8], &[u8], &[&[u8]])] = &[
     ),
 ];
 
+// A run is traced by the command line, and by its texts. Nothing is traced of a text that can't be read.
 #[test]
-fn draws_pictures(rt: HostRuntime) -> Result<(), Fail> {
-    for (module, plan, parts) in PICTURES {
+fn traces_and_draws_runs(rt: HostRuntime) -> Result<(), Fail> {
+    let words = ["brc", "step", "m.brc", "s.txt", "--trace"];
+    for (name, module, plan, trace, parts) in RUNS {
         let picture = picture_text(rt.alloc(), module, plan)?;
-        assert!(rt; picture.as_slice().starts_with(b"<svg "));
-        assert!(rt; picture.as_slice().ends_with(b"</svg>\n"));
+        assert!(rt; picture.as_slice().starts_with(b"<svg "), "{name}");
+        assert!(rt; picture.as_slice().ends_with(b"</svg>\n"), "{name}");
         for part in *parts {
-            assert!(rt; contains(picture.as_slice(), part), "{part:?}");
+            assert!(rt; contains(picture.as_slice(), part), "{name}: {part:?}");
         }
+        let (out, err, status) = acts(&rt, words.as_slice(), Ok(*module), Ok(*plan));
+        assert!(rt; out.as_slice() == *trace, "{name}");
+        assert!(rt; err.is_empty(), "{name}");
+        assert_eq!(rt; status, 0, "{name}");
+        let mut traced: Vec<u8> = Vec::new(rt.alloc());
+        let result = trace_text(rt.alloc(), module, plan, &mut traced);
+        assert!(rt; result.is_ok(), "{name}");
+        assert!(rt; traced.as_slice() == *trace, "{name}");
     }
+    let mut untraced: Vec<u8> = Vec::new(rt.alloc());
+    let result = trace_text(rt.alloc(), b"module 1\nfunc f\n", PLAN, &mut untraced);
+    assert!(rt; result.is_err());
+    assert!(rt; untraced.is_empty());
     Ok(())
 }

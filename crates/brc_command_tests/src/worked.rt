@@ -1,10 +1,8 @@
 //! Worked examples: a module, and all that `brc check`, `brc run` and `brc step` print of it.
 
-use crate::cases::{
-    CHECK, Case, ONE_REPORT, SMALLEST, STEP, UNREAD, assert_cases, outputs, to_run,
-};
+use crate::cases::{Case, ONE_REPORT, SMALLEST, UNREAD};
 
-const CHECKED: &[Case<'static>] = &[
+pub const CHECKED: &[Case<'static>] = &[
     (
         "smallest_module",
         Ok(SMALLEST),
@@ -78,7 +76,7 @@ const THREE_OPEN: &[u8] =
       func f\nnum v1 7 else @7\nnum v2 8 else @6\ncall v3 hold v2 else @5\ndrop v3\ngoto @5\ndrop v2\n\
       drop v1\nfail\nend\n";
 
-const CHECKED_CALLS: &[Case<'static>] = &[
+pub const CHECKED_CALLS: &[Case<'static>] = &[
     (
         "a stolen number",
         Ok(KEEP),
@@ -131,7 +129,7 @@ pub const NUMBER_REPORT: &[u8] =
 pub const TWO_NUMBERS_REPORT: &[u8] =
     b"threads 1\nrunning 0\ncreated 3\nclosed 3\nalive 0\nhost faults 0\nclose faults 0\n";
 
-const RUN: &[Case<'static>] = &[
+pub const RUN: &[Case<'static>] = &[
     (
         "smallest_module",
         Ok(SMALLEST),
@@ -146,7 +144,7 @@ const RUN: &[Case<'static>] = &[
     ),
 ];
 
-const RUN_CALLS: &[Case<'static>] = &[
+pub const RUN_CALLS: &[Case<'static>] = &[
     ("a stolen number", Ok(KEEP), UNREAD, (NUMBER_REPORT, b"", 0)),
     ("a lent number", Ok(SHOW), UNREAD, (NUMBER_REPORT, b"", 0)),
     (
@@ -162,7 +160,7 @@ const RUN_CALLS: &[Case<'static>] = &[
 ];
 
 // A function with parameters can't be called from outside.
-const RUN_OF_KEEP: &[Case<'static>] = &[(
+pub const RUN_OF_KEEP: &[Case<'static>] = &[(
     "a function with a parameter",
     Ok(KEEP),
     UNREAD,
@@ -170,7 +168,7 @@ const RUN_OF_KEEP: &[Case<'static>] = &[(
 )];
 
 // Worker 1 has made its number (2 steps) and called `keep`, which has locked the root, when it is stopped.
-const STEPPED_CALLS: &[Case<'static>] = &[
+pub const STEPPED_CALLS: &[Case<'static>] = &[
     (
         "a stolen number",
         Ok(KEEP),
@@ -196,14 +194,14 @@ const STEPPED_CALLS: &[Case<'static>] = &[
 ];
 
 // With one row the second number isn't made.
-const RUN_WITH_ONE_ROW: &[Case<'static>] = &[(
+pub const RUN_WITH_ONE_ROW: &[Case<'static>] = &[(
     "no_row_left",
     Ok(TWO_NUMBERS),
     UNREAD,
     (NUMBER_REPORT, b"", 0),
 )];
 
-const STEPPED: &[Case<'static>] = &[(
+pub const STEPPED: &[Case<'static>] = &[(
     "nothing_done",
     Ok(SMALLEST),
     Ok(b"schedule 1\nworkers 1\nrows 4\ncall 1 f 1\n"),
@@ -213,50 +211,3 @@ const STEPPED: &[Case<'static>] = &[(
         0,
     ),
 )];
-
-#[test]
-fn worked_modules(rt: HostRuntime) {
-    assert_cases(&rt, &CHECK, CHECKED);
-    assert_cases(&rt, &to_run("f", 1, 1024, 1), RUN);
-    assert_cases(&rt, &to_run("f", 1, 1, 1), RUN_WITH_ONE_ROW);
-    assert_cases(&rt, &STEP, STEPPED);
-    assert_cases(&rt, &CHECK, CHECKED_CALLS);
-    assert_cases(&rt, &to_run("f", 1, 1024, 1), RUN_CALLS);
-    assert_cases(&rt, &to_run("keep", 1, 1024, 1), RUN_OF_KEEP);
-    assert_cases(&rt, &STEP, STEPPED_CALLS);
-}
-
-// A module that `brc check` may refuse by either of two codes, and its lines by them.
-const TWO_CODES: &[(&str, &[u8], [&[u8]; 2])] = &[
-    // One path owns the number at `fail`, and the other doesn't.
-    (
-        "paths_differ, one path owns",
-        b"module 1\nfunc f\nnum v1 1 else @1\nfail\nend\n",
-        [b"refused f @1 C5\n", b"refused f @1 C10\n"],
-    ),
-    // The second pass would overwrite the reference of the first one. Two paths then reach the first instruction in
-    // different states too.
-    (
-        "the second pass overwrites",
-        b"module 1\nfunc f\nnewref v1 v0\nagain @0 1\ndrop v1\nfail\nend\n",
-        [b"refused f @0 C4\n", b"refused f @0 C10\n"],
-    ),
-    // What a call lends is the caller's afterwards, on one of two paths.
-    (
-        "a lent number is left",
-        b"module 2\nfunc keep borrow num\nfail\nend\nfunc f\nnum v1 7 else @3\ncall v2 keep v1 else @3\n\
-          drop v2\nfail\nend\n",
-        [b"refused f @3 C5\n", b"refused f @3 C10\n"],
-    ),
-];
-
-#[test]
-fn either_code_is_reported(rt: HostRuntime) {
-    for (name, module, lines) in TWO_CODES {
-        let (out, err, status) = outputs(&rt, &CHECK, Ok(*module), UNREAD);
-        let line = err.as_slice();
-        assert!(rt; out.is_empty(), "{name}");
-        assert!(rt; line == lines[0] || line == lines[1], "{name}: {line:?}");
-        assert_eq!(rt; status, 1, "{name}");
-    }
-}

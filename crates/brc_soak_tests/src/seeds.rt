@@ -3,92 +3,20 @@
 use crate::soak::soak;
 use std::test::*;
 
-#[test]
-fn seed_one(rt: HostRuntime) -> Result<(), Fail> {
-    let soaked = soak(&rt, rt.alloc(), 1)?.ok_or("a thread couldn't leave")?;
-    assert_eq!(rt; soaked.found, soaked.noted);
-    assert_eq!(rt; [soaked.wrong, soaked.faults, soaked.left], [0, 0, 9]);
-    assert!(rt; soaked.least > 0);
-    Ok(())
-}
+/// The seeds are the numbers from 1 to this one.
+const SEEDS: u64 = 10;
 
 #[test]
-fn seed_two(rt: HostRuntime) -> Result<(), Fail> {
-    let soaked = soak(&rt, rt.alloc(), 2)?.ok_or("a thread couldn't leave")?;
-    assert_eq!(rt; soaked.found, soaked.noted);
-    assert_eq!(rt; [soaked.wrong, soaked.faults, soaked.left], [0, 0, 9]);
-    assert!(rt; soaked.least > 0);
-    Ok(())
-}
-
-#[test]
-fn seed_three(rt: HostRuntime) -> Result<(), Fail> {
-    let soaked = soak(&rt, rt.alloc(), 3)?.ok_or("a thread couldn't leave")?;
-    assert_eq!(rt; soaked.found, soaked.noted);
-    assert_eq!(rt; [soaked.wrong, soaked.faults, soaked.left], [0, 0, 9]);
-    assert!(rt; soaked.least > 0);
-    Ok(())
-}
-
-#[test]
-fn seed_four(rt: HostRuntime) -> Result<(), Fail> {
-    let soaked = soak(&rt, rt.alloc(), 4)?.ok_or("a thread couldn't leave")?;
-    assert_eq!(rt; soaked.found, soaked.noted);
-    assert_eq!(rt; [soaked.wrong, soaked.faults, soaked.left], [0, 0, 9]);
-    assert!(rt; soaked.least > 0);
-    Ok(())
-}
-
-#[test]
-fn seed_five(rt: HostRuntime) -> Result<(), Fail> {
-    let soaked = soak(&rt, rt.alloc(), 5)?.ok_or("a thread couldn't leave")?;
-    assert_eq!(rt; soaked.found, soaked.noted);
-    assert_eq!(rt; [soaked.wrong, soaked.faults, soaked.left], [0, 0, 9]);
-    assert!(rt; soaked.least > 0);
-    Ok(())
-}
-
-#[test]
-fn seed_six(rt: HostRuntime) -> Result<(), Fail> {
-    let soaked = soak(&rt, rt.alloc(), 6)?.ok_or("a thread couldn't leave")?;
-    assert_eq!(rt; soaked.found, soaked.noted);
-    assert_eq!(rt; [soaked.wrong, soaked.faults, soaked.left], [0, 0, 9]);
-    assert!(rt; soaked.least > 0);
-    Ok(())
-}
-
-#[test]
-fn seed_seven(rt: HostRuntime) -> Result<(), Fail> {
-    let soaked = soak(&rt, rt.alloc(), 7)?.ok_or("a thread couldn't leave")?;
-    assert_eq!(rt; soaked.found, soaked.noted);
-    assert_eq!(rt; [soaked.wrong, soaked.faults, soaked.left], [0, 0, 9]);
-    assert!(rt; soaked.least > 0);
-    Ok(())
-}
-
-#[test]
-fn seed_eight(rt: HostRuntime) -> Result<(), Fail> {
-    let soaked = soak(&rt, rt.alloc(), 8)?.ok_or("a thread couldn't leave")?;
-    assert_eq!(rt; soaked.found, soaked.noted);
-    assert_eq!(rt; [soaked.wrong, soaked.faults, soaked.left], [0, 0, 9]);
-    assert!(rt; soaked.least > 0);
-    Ok(())
-}
-
-#[test]
-fn seed_nine(rt: HostRuntime) -> Result<(), Fail> {
-    let soaked = soak(&rt, rt.alloc(), 9)?.ok_or("a thread couldn't leave")?;
-    assert_eq!(rt; soaked.found, soaked.noted);
-    assert_eq!(rt; [soaked.wrong, soaked.faults, soaked.left], [0, 0, 9]);
-    assert!(rt; soaked.least > 0);
-    Ok(())
-}
-
-#[test]
-fn seed_ten(rt: HostRuntime) -> Result<(), Fail> {
-    let soaked = soak(&rt, rt.alloc(), 10)?.ok_or("a thread couldn't leave")?;
-    assert_eq!(rt; soaked.found, soaked.noted);
-    assert_eq!(rt; [soaked.wrong, soaked.faults, soaked.left], [0, 0, 9]);
-    assert!(rt; soaked.least > 0);
+fn each_soak_ends_as_its_workers_have_noted(rt: HostRuntime) -> Result<(), Fail> {
+    for seed in 1..SEEDS + 1 {
+        let soaked = soak(&rt, rt.alloc(), seed)?.ok_or("a thread couldn't leave")?;
+        assert_eq!(rt; soaked.found, soaked.noted, "seed {seed}");
+        assert_eq!(rt;
+            [soaked.wrong, soaked.faults, soaked.left],
+            [0, 0, 9],
+            "seed {seed}"
+        );
+        assert!(rt; soaked.least > 0, "seed {seed}");
+    }
     Ok(())
 }

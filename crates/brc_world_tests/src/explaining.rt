@@ -80,6 +80,19 @@ pub fn explained(
     Err("the explanation is written")?
 }
 
+/// The explanation of a text between two others.
+pub fn explained_between(
+    alloc: Global,
+    front: &[u8],
+    text: &[u8],
+    back: &[u8],
+) -> Result<Vec<u8>, Fail> {
+    let mut whole = Vec::from_slice(alloc, front)?;
+    whole.extend_from_slice(text)?;
+    whole.extend_from_slice(back)?;
+    explained(alloc, whole.as_slice(), None, Paint::Plain)
+}
+
 /// Whether the text has the part.
 pub fn has_part(text: &[u8], part: &[u8]) -> bool {
     for at in 0..text.len() {
@@ -88,4 +101,15 @@ pub fn has_part(text: &[u8], part: &[u8]) -> bool {
         }
     }
     false
+}
+
+/// The length of a line that is wider than 80 columns, or 0 if each line of the text is narrow.
+pub fn too_wide(text: &[u8]) -> usize {
+    let mut wide = 0;
+    for line in text.split(|byte| *byte == b'\n') {
+        if line.len() > 80 {
+            wide = line.len();
+        }
+    }
+    wide
 }

@@ -1,12 +1,10 @@
 ghost use Rattle.brc_world_tests.specs.Callable.{HasCallableEnds};
 
-use crate::steps::{TAKE_AND_DROP, accepted, accepted_text, counted, last_call, step};
+use crate::steps::{TAKE_AND_DROP, accepted_text, counted, last_call, step};
 use brc_check::Checked;
 use brc_world::{Call, Choice, Did, NoMemory, World};
 use std::alloc::{AllocError, Global};
 use std::collections::BTreeSet;
-use std::io::Print;
-use std::process::Abort;
 use std::test::*;
 
 /// The most states that a search visits.
@@ -18,14 +16,14 @@ const THREADS: u8 = 3;
 /// The number of moves: a step of each thread, and a claim by each thread of the mark of a row of its own.
 const MOVES: u8 = 6;
 
-/// The lines of a function that locks the root for a moment.
-const LOCK_THE_ROOT: &[u8] = b"lock v0\nunlock v0\nfail\n";
+/// A function that locks the root for a moment.
+const LOCK_THE_ROOT: &[u8] = b"module 1\nfunc f\nlock v0\nunlock v0\nfail\nend\n";
 
-/// The lines of a function that stores a number of its own in the root's first cell and gives up the one that it finds
-/// there. Then it locks the root again, and fetches the number that the cell has by now.
+/// A function that stores a number of its own in the root's first cell and gives up the one that it finds there. Then
+/// it locks the root again, and fetches the number that the cell has by now.
 const SET_AND_FETCH: &[u8] =
-    b"num v1 7 else @9\nlock v0\nset v0 0 v1 else @8\nunlock v0\nlock v0\nfetch v1 v0 0 else @8\nunlock v0\nret v1\n\
-      unlock v0\nfail\n";
+    b"module 1\nfunc f\nnum v1 7 else @9\nlock v0\nset v0 0 v1 else @8\nunlock v0\nlock v0\n\
+      fetch v1 v0 0 else @8\nunlock v0\nret v1\nunlock v0\nfail\nend\n";
 
 /// A function that stores a number of its own in the root's first cell, and one that puts none in the number's place.
 pub const SWAP_AND_CLEAR: &[u8] =
@@ -171,53 +169,42 @@ fn search(alloc: Global, checked: &Checked, objects: u64) -> Result<Found, Fail>
     })
 }
 
-/// Visits every interleaving. Asserts that no state without a way on is left, except for those in which all threads are
-/// gone, and that in some state a thread waits, or in none.
-fn assert_ends<R: Abort + AllocGlobal + Print>(
-    rt: &R,
-    checked: &Checked,
-    objects: u64,
-    waits: bool,
-) -> Result<(), Fail>
-    requires { HasCallableEnds checked.now.module }
-{
-    let found = search(rt.alloc(), checked, objects)?;
-    println!(rt;
-        "{} states, {} of them last ones, {} waits",
-        found.states, found.last, found.waits
-    )?;
-    assert!(rt; found.last > 0 && found.states < MOST_STATES);
-    assert_eq!(rt; (found.ends, found.waits > 0), (found.last, waits));
-    Ok(())
+/// Visits each state that the module's interleavings lead to.
+fn found_in(alloc: Global, text: &[u8], objects: u64) -> Result<Found, Fail> {
+    let checked = accepted_text(alloc, text)?;
+    search(alloc, &checked, objects)
 }
 
-/// Each worker takes a reference to the root, drops it and fails.
-#[test]
-fn every_interleaving(rt: HostRuntime) -> Result<(), Fail> {
-    let checked = accepted(rt.alloc(), TAKE_AND_DROP)?;
-    assert_ends(&rt, &checked, 1, false)
-}
+/// A name, a module, how many objects its threads create in all, and whether a thread waits in some state.
+type Case<'t> = (&'t str, &'t [u8], u64, bool);
 
-/// Each worker locks the root. Now and then one waits for the other.
-#[test]
-fn every_interleaving_of_locks(rt: HostRuntime) -> Result<(), Fail> {
-    let checked = accepted(rt.alloc(), LOCK_THE_ROOT)?;
-    assert_ends(&rt, &checked, 1, true)
-}
+const CASES: &[Case] = &[
+    // Each worker takes a reference to the root, drops it and fails.
+    ("no locks", TAKE_AND_DROP, 1, false),
+    // Each worker locks the root. Now and then one waits for the other.
+    ("locks", LOCK_THE_ROOT, 1, true),
+    // Each worker stores a number in the root and fetches its own or the other's.
+    ("items", SET_AND_FETCH, 3, true),
+    // One worker stores a number in the root. The other one takes it out, perhaps while the first one leaves.
+    ("a race", SWAP_AND_CLEAR, 2, true),
+    ("a race and a call", CLEAR_AND_KEEP, 2, true),
+];
 
-/// Each worker stores a number in the root and fetches its own or the other's.
+/// No state without a way on is left, except for those in which all threads are gone.
 #[test]
-fn every_interleaving_of_items(rt: HostRuntime) -> Result<(), Fail> {
-    let checked = accepted(rt.alloc(), SET_AND_FETCH)?;
-    assert_ends(&rt, &checked, 3, true)
-}
-
-/// One worker stores a number in the root. The other one takes it out, perhaps while the first one leaves.
-#[test]
-fn every_interleaving_of_a_race(rt: HostRuntime) -> Result<(), Fail> {
-    for text in [SWAP_AND_CLEAR, CLEAR_AND_KEEP] {
-        let checked = accepted_text(rt.alloc(), text)?;
-        assert_ends(&rt, &checked, 2, true)?;
+fn every_interleaving_ends(rt: HostRuntime) -> Result<(), Fail> {
+    for (name, text, objects, waits) in CASES {
+        let found = found_in(rt.alloc(), text, *objects)?;
+        println!(rt;
+            "{name}: {} states, {} of them last ones, {} waits",
+            found.states, found.last, found.waits
+        )?;
+        assert!(rt; found.last > 0 && found.states < MOST_STATES, "{name}");
+        assert_eq!(rt;
+            (found.ends, found.waits > 0),
+            (found.last, *waits),
+            "{name}"
+        );
     }
     Ok(())
 }

@@ -1,8 +1,7 @@
 //! Modules that are refused and accepted: the listing, the path, and the sentence about its end.
 
-use crate::explaining::{explained, has_part};
+use crate::explaining::{explained, explained_between, has_part};
 use brc_report::Paint;
-use std::alloc::Global;
 use std::test::*;
 
 /// The lines of a function `f`, and parts of the module's explanation.
@@ -84,18 +83,10 @@ const REFUSED: &[Case] = &[
     (b"none v1\n", &[b"No instruction comes behind this one.\n"]),
 ];
 
-fn function_text(alloc: Global, lines: &[u8]) -> Result<Vec<u8>, Fail> {
-    let mut text = Vec::from_slice(alloc, b"module 1\nfunc f\n")?;
-    text.extend_from_slice(lines)?;
-    text.extend_from_slice(b"end\n")?;
-    Ok(text)
-}
-
 #[test]
 fn refusals(rt: HostRuntime) -> Result<(), Fail> {
     for (lines, parts) in REFUSED {
-        let text = function_text(rt.alloc(), lines)?;
-        let explanation = explained(rt.alloc(), text.as_slice(), None, Paint::Plain)?;
+        let explanation = explained_between(rt.alloc(), b"module 1\nfunc f\n", lines, b"end\n")?;
         for part in *parts {
             assert!(rt;
                 has_part(explanation.as_slice(), part),
@@ -107,18 +98,6 @@ fn refusals(rt: HostRuntime) -> Result<(), Fail> {
 }
 
 const TWO: &[u8] = b"module 1\nfunc good\nfail\nend\nfunc bad\ndrop v1\nfail\nend\n";
-
-#[test]
-fn function_asked_for_comes_first(rt: HostRuntime) -> Result<(), Fail> {
-    let alone = explained(rt.alloc(), TWO, None, Paint::Plain)?;
-    let bad = explained(rt.alloc(), TWO, Some(1), Paint::Plain)?;
-    let good = explained(rt.alloc(), TWO, Some(0), Paint::Plain)?;
-    assert!(rt; alone == bad);
-    assert!(rt; !has_part(alone.as_slice(), b"func good"));
-    let listings = b"\nfunc good\n    @0  fail  v0 borrowed list\n\nfunc bad\n";
-    assert!(rt; has_part(good.as_slice(), listings));
-    Ok(())
-}
 
 const ACCEPTED: &[u8] =
     b"module 1\nfunc f\ngoto @2\ndrop v5\nfail\nend\nfunc g\nnone v1\nret v1\nend\n";
@@ -136,13 +115,47 @@ func g
     @1  ret v1   v0 borrowed list, v1 owned none
 ";
 
+/// A module, the number of the function that is asked for, and parts that the explanation has and hasn't.
+type Listing<'t> = (&'t [u8], Option<usize>, &'t [&'t [u8]], &'t [&'t [u8]]);
+
+const LISTINGS: &[Listing] = &[
+    (TWO, None, &[], &[b"func good"]),
+    // The function that is asked for comes before the refused one.
+    (
+        TWO,
+        Some(0),
+        &[b"\nfunc good\n    @0  fail  v0 borrowed list\n\nfunc bad\n"],
+        &[],
+    ),
+    (ACCEPTED, None, &[F_LISTED, G_LISTED], &[]),
+    (
+        ACCEPTED,
+        Some(1),
+        &[G_LISTED, b"  ret vS                  return vS;\n"],
+        &[F_LISTED, b"  goto @L"],
+    ),
+];
+
 #[test]
-fn listings(rt: HostRuntime) -> Result<(), Fail> {
-    let both = explained(rt.alloc(), ACCEPTED, None, Paint::Plain)?;
-    assert!(rt; has_part(both.as_slice(), F_LISTED) && has_part(both.as_slice(), G_LISTED));
-    let second = explained(rt.alloc(), ACCEPTED, Some(1), Paint::Plain)?;
-    assert!(rt; !has_part(second.as_slice(), F_LISTED) && has_part(second.as_slice(), G_LISTED));
-    assert!(rt; has_part(second.as_slice(), b"  ret vS                  return vS;\n"));
-    assert!(rt; !has_part(second.as_slice(), b"  goto @L"));
+fn functions_are_listed_as_asked(rt: HostRuntime) -> Result<(), Fail> {
+    for (text, only, has, lacks) in LISTINGS {
+        let explanation = explained(rt.alloc(), text, *only, Paint::Plain)?;
+        for part in *has {
+            assert!(rt;
+                has_part(explanation.as_slice(), part),
+                "{text:?} {only:?} {part:?}"
+            );
+        }
+        for part in *lacks {
+            assert!(rt;
+                !has_part(explanation.as_slice(), part),
+                "{text:?} {only:?} {part:?}"
+            );
+        }
+    }
+    // The refused function is listed alone, whether it is asked for or none is.
+    let alone = explained(rt.alloc(), TWO, None, Paint::Plain)?;
+    let bad = explained(rt.alloc(), TWO, Some(1), Paint::Plain)?;
+    assert!(rt; alone == bad);
     Ok(())
 }

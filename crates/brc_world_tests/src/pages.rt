@@ -1,6 +1,6 @@
 //! The pages: each example is a text with that code, and its mended form has none.
 
-use crate::explaining::{check_line, has_part};
+use crate::explaining::{check_line, has_part, too_wide};
 use brc_pages::{ExampleLine, Topic, page_of, topic_named, write_page};
 use brc_report::Paint;
 use std::alloc::Global;
@@ -42,13 +42,16 @@ fn page_text(alloc: Global, code: &str, paint: Paint) -> Result<Vec<u8>, Fail> {
     Ok(out)
 }
 
+/// Each code has a page, which a terminal of 80 columns shows whole. The page's example has the code.
 #[test]
-fn examples_have_their_code(rt: HostRuntime) -> Result<(), Fail> {
+fn each_code_has_its_page(rt: HostRuntime) -> Result<(), Fail> {
     for code in CODES {
         let page = page_of(topic_of(code)?);
         assert_eq!(rt; page.code, *code);
+        let wide = too_wide(page_text(rt.alloc(), code, Paint::Plain)?.as_slice());
+        assert_eq!(rt; wide, 0, "{code}");
         if *code == "C12" || *code == "L8" {
-            assert!(rt; page.example.is_empty());
+            assert!(rt; page.example.is_empty(), "{code}");
             continue;
         }
         let (example, mended) = said_of(rt.alloc(), code)?;
@@ -63,18 +66,6 @@ fn examples_have_their_code(rt: HostRuntime) -> Result<(), Fail> {
 fn other_words_name_no_code(rt: HostRuntime) -> Result<(), Fail> {
     for word in ["", "C", "C0", "C13", "L0", "L11", "c1", "C1 ", "C01", "11"] {
         assert_eq!(rt; topic_named(word.as_bytes()), None, "{word}");
-    }
-    Ok(())
-}
-
-// A terminal of 80 columns shows each line whole.
-#[test]
-fn pages_are_narrow(rt: HostRuntime) -> Result<(), Fail> {
-    for code in CODES {
-        let text = page_text(rt.alloc(), code, Paint::Plain)?;
-        for line in text.split(|byte| *byte == b'\n') {
-            assert!(rt; line.len() <= 80, "{code}");
-        }
     }
     Ok(())
 }
@@ -110,15 +101,11 @@ Mended
     end
 ";
 
+/// A page has colours if they are asked for.
 #[test]
-fn whole_page(rt: HostRuntime) -> Result<(), Fail> {
-    let text = page_text(rt.alloc(), "C11", Paint::Plain)?;
-    assert_eq!(rt; text.as_slice(), RUNS_OFF);
-    Ok(())
-}
-
-#[test]
-fn colours_are_asked_for(rt: HostRuntime) -> Result<(), Fail> {
+fn pages_are_plain_or_coloured(rt: HostRuntime) -> Result<(), Fail> {
+    let whole = page_text(rt.alloc(), "C11", Paint::Plain)?;
+    assert_eq!(rt; whole.as_slice(), RUNS_OFF);
     let plain = page_text(rt.alloc(), "C5", Paint::Plain)?;
     let coloured = page_text(rt.alloc(), "C5", Paint::Ansi)?;
     assert!(rt; !has_part(plain.as_slice(), b"\x1b"));

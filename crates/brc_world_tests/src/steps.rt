@@ -12,16 +12,6 @@ use std::test::*;
 /// Enough rounds for each world of these tests to end.
 const ROUNDS: u32 = 50_000;
 
-/// Reads and checks the module with one function `f` of these lines.
-pub fn accepted(alloc: Global, lines: &[u8]) -> Result<Checked, Fail>
-    ensures { IfOk result (λ checked. HasCallableEnds checked.module) }
-{
-    let mut text = Vec::from_slice(alloc, b"module 1\nfunc f\n")?;
-    text.extend_from_slice(lines)?;
-    text.extend_from_slice(b"end\n")?;
-    accepted_text(alloc, &text)
-}
-
 /// Reads and checks the module of this text, whose first and last functions have no parameters.
 pub fn accepted_text(alloc: Global, text: &[u8]) -> Result<Checked, Fail>
     ensures { IfOk result (λ checked. HasCallableEnds checked.module) }
@@ -145,7 +135,7 @@ pub fn one_worker(alloc: Global, checked: &Checked) -> Result<World<'_>, NoMemor
 
 /// Returns whether the worker is gone at the end, what one more step of it answers, and the tally afterwards.
 fn step_of_the_gone(alloc: Global) -> Result<(bool, Option<Did>, Told), Fail> {
-    let checked = accepted(alloc, b"fail\n")?;
+    let checked = accepted_text(alloc, b"module 1\nfunc f\nfail\nend\n")?;
     let mut world = one_worker(alloc, &checked)?;
     step_at_the_end(alloc, &mut world)
 }
@@ -160,21 +150,12 @@ fn step_at_the_end(
     Ok((gone, did, told(alloc, world)?))
 }
 
-#[test]
-fn gone_for_good(rt: HostRuntime) -> Result<(), Fail> {
-    let (gone, did, after) = step_of_the_gone(rt.alloc())?;
-    assert!(rt; gone);
-    assert_eq!(rt; did, Some(Did::Gone));
-    assert_eq!(rt; after, ([1, 0, 1, 1, 0, 0, 0], None));
-    Ok(())
-}
-
-/// The lines of a function that makes a reference to the root and gives it up.
-pub const TAKE_AND_DROP: &[u8] = b"newref v1 v0\ndrop v1\nfail\n";
+/// A function that makes a reference to the root and gives it up.
+pub const TAKE_AND_DROP: &[u8] = b"module 1\nfunc f\nnewref v1 v0\ndrop v1\nfail\nend\n";
 
 /// Returns the number of threads of a world with two workers, the answer of its first step, and the tally afterwards.
 fn first_step(alloc: Global) -> Result<(usize, Option<Did>, Told), Fail> {
-    let checked = accepted(alloc, TAKE_AND_DROP)?;
+    let checked = accepted_text(alloc, TAKE_AND_DROP)?;
     let call = last_call(&checked);
     let mut world = World::new(alloc, &checked, 2, 1024, &[call, call])?;
     step_once(alloc, &mut world)
@@ -186,24 +167,30 @@ fn step_once(alloc: Global, world: &mut World<'_>) -> Result<(usize, Option<Did>
     Ok((threads, did, told(alloc, world)?))
 }
 
+/// A first step moves, and a thread that is gone stays so.
 #[test]
-fn one_step(rt: HostRuntime) -> Result<(), Fail> {
+fn a_step_says_what_it_did(rt: HostRuntime) -> Result<(), Fail> {
     let (threads, did, after) = first_step(rt.alloc())?;
     assert_eq!(rt; threads, 3);
     assert_eq!(rt; did, Some(Did::Moved));
     assert_eq!(rt; after, ([2, 3, 1, 0, 1, 0, 0], Some(ROOT)));
+    let (gone, did, after) = step_of_the_gone(rt.alloc())?;
+    assert!(rt; gone);
+    assert_eq!(rt; did, Some(Did::Gone));
+    assert_eq!(rt; after, ([1, 0, 1, 1, 0, 0, 0], None));
     Ok(())
 }
 
-/// The lines of a function that makes a number in each row that is left, and gives it up.
-const USE_ALL_ROWS: &[u8] = b"num v1 1 else @3\ndrop v1\nagain @0 200\nfail\n";
+/// A function that makes a number in each row that is left, and gives it up.
+const USE_ALL_ROWS: &[u8] =
+    b"module 1\nfunc f\nnum v1 1 else @3\ndrop v1\nagain @0 200\nfail\nend\n";
 
 /// Returns what the tally reports once a worker has used all its rows and all threads are gone.
 fn one_uses_all_rows(alloc: Global, rows: u16) -> Result<Told, Fail>
     requires some_rows { 0 < rows }
     requires most_rows { rows ≤ row_limit }
 {
-    let checked = accepted(alloc, USE_ALL_ROWS)?;
+    let checked = accepted_text(alloc, USE_ALL_ROWS)?;
     let call = last_call(&checked);
     let mut world = World::new(alloc, &checked, 1, rows, &[call])?;
     told_at_the_end(alloc, &mut world)
@@ -211,7 +198,7 @@ fn one_uses_all_rows(alloc: Global, rows: u16) -> Result<Told, Fail>
 
 /// Returns the same for three workers of 64 rows each.
 fn three_use_all_rows(alloc: Global) -> Result<Told, Fail> {
-    let checked = accepted(alloc, USE_ALL_ROWS)?;
+    let checked = accepted_text(alloc, USE_ALL_ROWS)?;
     let call = last_call(&checked);
     let mut world = World::new(alloc, &checked, 3, 64, &[call, call, call])?;
     told_at_the_end(alloc, &mut world)

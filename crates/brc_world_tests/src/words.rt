@@ -14,37 +14,19 @@ fn shared(count: i64, phase: Phase) -> Shared
     Shared { count, phase }
 }
 
+/// The shared word: what it packs, what a retain, a release and a merge leave of it, and what it is asked.
 #[test]
-fn word_values(rt: HostRuntime) {
+fn shared_words(rt: HostRuntime) {
     let packed = [
         pack(shared(0, Phase::Default)),
         pack(shared(-1, Phase::Queued)),
         pack(shared(2, Phase::Merged)),
     ];
     assert_eq!(rt; packed, [4398046511104, 4398046511102, 4398046511115]);
-    assert_eq!(rt; unpack(4398046511105), None);
-    assert_eq!(rt; local_word(Some(3), 2), 17179869186);
-    let choices = [
-        retain_choice(8589934590, 0, true),
-        retain_choice(8589934591, 0, true),
-        retain_choice(4294967297, 0, true),
-    ];
-    let expected = [
-        LocalChoice::Share,
-        LocalChoice::Skip,
-        LocalChoice::Store(4294967298),
-    ];
-    assert_eq!(rt; choices, expected);
-}
-
-#[test]
-fn unpacked_words(rt: HostRuntime) {
     let unpacked = [unpack(4398046511102), unpack(8796093022208)];
     assert_eq!(rt; unpacked, [Some(shared(-1, Phase::Queued)), None]);
-}
+    assert_eq!(rt; unpack(4398046511105), None);
 
-#[test]
-fn shared_steps(rt: HostRuntime) {
     let more = [
         shared_with_one_more(4398046511104),
         shared_with_one_more(4398046511102),
@@ -79,12 +61,20 @@ fn shared_steps(rt: HostRuntime) {
 fn local_words(rt: HostRuntime) {
     let words = [
         local_word(None, 0),
+        local_word(Some(3), 2),
         local_with_one_more(4294967297),
         local_with_one_more(8589934590),
         local_with_one_less(4294967298),
         local_with_one_less(4294967297),
     ];
-    let expected = [0, 4294967298, 8589934591, 4294967297, 4294967296];
+    let expected = [
+        0,
+        17179869186,
+        4294967298,
+        8589934591,
+        4294967297,
+        4294967296,
+    ];
     assert_eq!(rt; words, expected);
     let counts = [
         local_count(17179869186),
@@ -98,8 +88,20 @@ fn local_words(rt: HostRuntime) {
     assert_eq!(rt; immortal, [true, false]);
 }
 
+/// What a retain, a release and a merge choose.
 #[test]
 fn choices(rt: HostRuntime) {
+    let retained = [
+        retain_choice(8589934590, 0, true),
+        retain_choice(8589934591, 0, true),
+        retain_choice(4294967297, 0, true),
+    ];
+    let expected = [
+        LocalChoice::Share,
+        LocalChoice::Skip,
+        LocalChoice::Store(4294967298),
+    ];
+    assert_eq!(rt; retained, expected);
     let local = [
         release_choice_local(4294967298, 0, true),
         release_choice_local(4294967298, 1, true),

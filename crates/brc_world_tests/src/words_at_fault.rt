@@ -1,8 +1,6 @@
 //! Texts that can't be read: the line that is shown, and the mark under the word at fault.
 
-use crate::explaining::{explained, has_part};
-use brc_report::Paint;
-use std::alloc::Global;
+use crate::explaining::{explained_between, has_part, too_wide};
 use std::test::*;
 
 /// A text, the lines that its explanation shows, and a sentence of it.
@@ -178,6 +176,19 @@ const LINES: &[Case] = &[
         b"3 | end of f\n    | ^^^\n",
         b"`end` stands alone",
     ),
+    // A line of forty words, of which the first is `drop` and the last `y`, is cut behind the mark.
+    (
+        b"drop x x x x x x x x x x x x x x x x x x x x x x x x x x x x x x x x x x x x x x y",
+        b"3 | drop x x x x x x x x x x x x x x x x x x x x x x x x x x x x x..\n    |        ^\n",
+        b"a word too many.",
+    ),
+    // With a space at its end it is cut before the mark.
+    (
+        b"drop x x x x x x x x x x x x x x x x x x x x x x x x x x x x x x x x x x x x x x y ",
+        b"3 | ..x x x x x x x x x x x x x x x x x x x x x x x x x x x x x x x y \n\
+        \x20   |                                                                   ^\n",
+        b"There is a space at the end",
+    ),
 ];
 
 /// Other texts.
@@ -351,84 +362,21 @@ const TEXTS: &[Case] = &[
     ),
 ];
 
-fn shows(alloc: Global, text: &[u8], lines: &[u8], sentence: &[u8]) -> Result<bool, Fail> {
-    let explanation = explained(alloc, text, None, Paint::Plain)?;
-    Ok(has_part(explanation.as_slice(), lines) && has_part(explanation.as_slice(), sentence))
-}
-
-fn with_line(alloc: Global, line: &[u8]) -> Result<Vec<u8>, Fail> {
-    let mut text = Vec::from_slice(alloc, b"module 1\nfunc f\n")?;
-    text.extend_from_slice(line)?;
-    text.extend_from_slice(b"\nfail\nend\n")?;
-    Ok(text)
-}
-
+/// No line of an explanation is wider than 80 columns.
 #[test]
-fn words_of_an_instruction(rt: HostRuntime) -> Result<(), Fail> {
-    for (line, lines, sentence) in LINES {
-        let text = with_line(rt.alloc(), line)?;
-        assert!(rt;
-            shows(rt.alloc(), text.as_slice(), lines, sentence)?,
-            "{line:?}"
-        );
-    }
-    Ok(())
-}
-
-#[test]
-fn other_faults(rt: HostRuntime) -> Result<(), Fail> {
-    for (text, lines, sentence) in TEXTS {
-        assert!(rt; shows(rt.alloc(), text, lines, sentence)?, "{text:?}");
-    }
-    Ok(())
-}
-
-/// The lines of an explanation that are wider than 80 columns, by their number.
-fn too_wide(alloc: Global, text: &[u8]) -> Result<usize, Fail> {
-    let explanation = explained(alloc, text, None, Paint::Plain)?;
-    let mut wide = 0;
-    for line in explanation.as_slice().split(|byte| *byte == b'\n') {
-        if line.len() > 80 {
-            wide = line.len();
+fn each_fault_is_shown(rt: HostRuntime) -> Result<(), Fail> {
+    // The text above each case, the cases, and the text below each.
+    let tables: [(&[u8], &[Case], &[u8]); 2] = [
+        (b"module 1\nfunc f\n", LINES, b"\nfail\nend\n"),
+        (b"", TEXTS, b""),
+    ];
+    for (front, cases, back) in tables {
+        for (text, lines, sentence) in cases {
+            let explanation = explained_between(rt.alloc(), front, text, back)?;
+            assert!(rt; has_part(explanation.as_slice(), lines), "{text:?}");
+            assert!(rt; has_part(explanation.as_slice(), sentence), "{text:?}");
+            assert_eq!(rt; too_wide(explanation.as_slice()), 0, "{text:?}");
         }
     }
-    Ok(wide)
-}
-
-#[test]
-fn explanations_are_narrow(rt: HostRuntime) -> Result<(), Fail> {
-    for (line, _, _) in LINES {
-        let text = with_line(rt.alloc(), line)?;
-        assert_eq!(rt; too_wide(rt.alloc(), text.as_slice())?, 0, "{line:?}");
-    }
-    for (text, _, _) in TEXTS {
-        assert_eq!(rt; too_wide(rt.alloc(), text)?, 0, "{text:?}");
-    }
-    Ok(())
-}
-
-/// A line of forty words `x`, of which the first is `drop` and the last `y`.
-const LONG: &[u8] =
-    b"drop x x x x x x x x x x x x x x x x x x x x x x x x x x x x x x x x x x x x x x y";
-
-#[test]
-fn long_line_is_cut(rt: HostRuntime) -> Result<(), Fail> {
-    let text = with_line(rt.alloc(), LONG)?;
-    let first =
-        b"3 | drop x x x x x x x x x x x x x x x x x x x x x x x x x x x x x..\n    |        ^\n";
-    assert!(rt; shows(rt.alloc(), text.as_slice(), first, b"a word too many.")?);
-    let mut late = Vec::from_slice(rt.alloc(), LONG)?;
-    late.extend_from_slice(b" ")?;
-    let text = with_line(rt.alloc(), late.as_slice())?;
-    let last = b"3 | ..x x x x x x x x x x x x x x x x x x x x x x x x x x x x x x x y \n\
-        \x20   |                                                                   ^\n";
-    assert!(rt;
-        shows(
-            rt.alloc(),
-            text.as_slice(),
-            last,
-            b"There is a space at the end"
-        )?
-    );
     Ok(())
 }
