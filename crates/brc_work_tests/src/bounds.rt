@@ -5,7 +5,9 @@ use crate::calls::accepted;
 use crate::faults::{COPY, FILE_IN_CALLS};
 use crate::hearing::Hearing;
 use crate::runs::{MOST_ROWS, run_apart, run_in_thread, run_over};
-use crate::worked::{HAND_BACK, IN_ITSELF, KEEP, NOTHING, OWN_TURNS, SET_OUT_OF_RANGE, THREE_OPEN};
+use crate::worked::{
+    FOUR_PASSES, HAND_BACK, IN_ITSELF, KEEP, NOTHING, OWN_TURNS, SET_OUT_OF_RANGE, THREE_OPEN,
+};
 use brc_host::FakeHost;
 use std::alloc::Global;
 use std::sync::Wait;
@@ -131,11 +133,15 @@ fn a_stopped_worker_has_given_up_what_it_owned(rt: HostRuntime) -> Result<(), Fa
     Ok(())
 }
 
-/// A run with a bound: its name, the module, the calls, the bound, whether the worker makes all calls, and how many
-/// beginnings and ends of calls the gate hears.
+/// A run with a bound, which none meets at `u64::MAX`: its name, the module, the calls, the bound, whether the worker
+/// makes all calls, and how many beginnings and ends of calls the gate hears.
 type Bounded<'a> = (&'a str, &'a [u8], u32, u64, bool, u64);
 
 const BOUNDED: &[Bounded] = &[
+    ("no call and no bound", FOUR_PASSES, 0, u64::MAX, true, 0),
+    ("a call", FOUR_PASSES, 1, u64::MAX, true, 2),
+    ("three calls", FOUR_PASSES, 3, u64::MAX, true, 6),
+    ("100 calls", FOUR_PASSES, 100, u64::MAX, true, 200),
     ("no call", NOTHING, 0, 0, true, 0),
     ("no step", NOTHING, 2, 0, false, 0),
     ("the second call isn't begun", NOTHING, 2, 1, false, 2),
@@ -194,8 +200,10 @@ fn two_stopped<R: Threads + Wait + Sync>(
     let (ends, objects, _) = run_apart(
         rt, alloc, &checked, function, 2, MOST_ROWS, 4, steps, &mut hosts, &gate,
     )?;
-    let done = ends.as_slice().iter().any(|ran| ran.is_done());
-    Ok((done, objects))
+    let [Some(one), Some(other)] = ends else {
+        return Err("there are two workers")?;
+    };
+    Ok((one.is_done() || other.is_done(), objects))
 }
 
 /// Four calls begin more instructions than any of the bounds, so both workers stop.

@@ -9,7 +9,7 @@ ghost use Rattle.brc_work_tests.specs.Ready.{HoldsRoot};
 
 use crate::hearing::{Hearing, WORKER};
 use brc_check::{Checked, check};
-use brc_heap::{Final, Hand, Heap};
+use brc_heap::{Final, Hand, Heap, Taken};
 use brc_host::{FakeResource, Host};
 use brc_lang::read;
 use brc_queue::Queue;
@@ -73,14 +73,14 @@ pub fn opened(
 pub fn worker_hand(
     heap: &Heap<FakeResource>,
     main: &mut Hand<FakeResource>,
-) -> Result<Hand<FakeResource>, Fail>
+) -> Result<Hand<FakeResource>, Taken>
     requires main { HoldsRoot heap.now main.old }
     requires thread { main.old.view.thread ≡ 0 }
     ensures main { OnOk result (HoldsRoot heap.now main.new) }
     ensures thread { OnOk result (main.new.view.thread ≡ 0) }
     ensures worker { IfOk result (λ hand. HoldsRoot heap.now hand) }
 {
-    Ok(heap.hand_out(main, WORKER)?)
+    heap.hand_out(main, WORKER)
 }
 
 /// Calls the function `times` times, and begins at most `steps` instructions. Returns how the run has ended.

@@ -2,7 +2,8 @@
 
 use crate::calls::accepted;
 use crate::hearing::Hearing;
-use crate::runs::{Counts, MOST_ROWS, expect, run_apart, run_in_thread, run_over};
+use crate::runs::{Counts, MOST_ROWS, run_apart, run_in_thread, run_over};
+use brc_check::Checked;
 use brc_host::{FakeHost, Host};
 use brc_work::Totals;
 use std::alloc::Global;
@@ -10,8 +11,8 @@ use std::sync::Wait;
 use std::test::*;
 use std::thread::Threads;
 
-/// A run of one call: its name, the module, which calls of the host fail, and what it leads to.
-type Case<'a> = (&'a str, &'a [u8], &'a [u64], Counts);
+/// A run of one call with 1024 rows: its name, the module, which calls of the host fail, and what it leads to.
+pub type Case<'a> = (&'a str, &'a [u8], &'a [u64], Counts);
 
 /// Opens a file, and gives it up: calls 0 and 1 of the host.
 const OPEN: &[u8] = b"module 1\nfunc f\nopen v1 0 r else @2\ndrop v1\nfail\nend\n";
@@ -36,7 +37,7 @@ pub const FILE_IN_CALLS: &[u8] = b"module 2\nfunc opened\nopen v1 0 r else @2\nr
     func f\ncall v1 opened else @5\nas v1 file else @6\ncall v2 length v1 else @4\ndrop v2\ndrop v1\nfail\n\
     drop v1\nfail\nend\n";
 
-const CASES: &[Case] = &[
+pub const CASES: &[Case] = &[
     ("open", OPEN, &[], [2, 2, 0, 0, 0]),
     ("open fails", OPEN, &[0], [1, 1, 0, 1, 0]),
     (
@@ -85,14 +86,6 @@ const CASES: &[Case] = &[
 ];
 
 #[test]
-fn the_hosts_faults_are_counted(rt: HostRuntime) -> Result<(), Fail> {
-    for (name, text, plan, want) in CASES {
-        expect(&rt, rt.alloc(), name, text, (MOST_ROWS, 1, plan), 0, *want)?;
-    }
-    Ok(())
-}
-
-#[test]
 fn everything_is_closed_whichever_two_calls_fail(rt: HostRuntime) -> Result<(), Fail> {
     for second in 1..7u64 {
         for first in 0..second {
@@ -101,28 +94,12 @@ fn everything_is_closed_whichever_two_calls_fail(rt: HostRuntime) -> Result<(), 
             let apart = run_in_thread(&rt, rt.alloc(), COPY, MOST_ROWS, 1, u64::MAX, &plan)?;
             assert_eq!(rt; apart, ran, "calls {first} and {second} in a thread");
             let [created, closed, alive, _, _] = ran.counts;
-            assert_eq!(rt; (closed, alive), (created, 0), "calls {first} and {second}");
             assert_eq!(rt;
-                ran.closed,
-                ran.opened,
-                "closes with calls {first} and {second}"
+                (closed, alive, ran.closed),
+                (created, 0, ran.opened),
+                "calls {first} and {second}"
             );
         }
-    }
-    Ok(())
-}
-
-/// A worker with few rows asks the host for nothing that it has no row for: the file's row is the first, the
-/// connection's the second, and the number's the third.
-#[test]
-fn without_room_the_host_is_not_asked(rt: HostRuntime) -> Result<(), Fail> {
-    let want: [(&str, u16, Counts); 3] = [
-        ("copy with a row", 1, [2, 2, 0, 0, 0]),
-        ("copy with two rows", 2, [3, 3, 0, 0, 0]),
-        ("copy with three rows", 3, [4, 4, 0, 0, 0]),
-    ];
-    for (name, rows, want) in want {
-        expect(&rt, rt.alloc(), name, COPY, (rows, 1, &[]), 0, want)?;
     }
     Ok(())
 }
@@ -139,12 +116,22 @@ fn two_copies<R: Threads + Wait + Sync>(
     plans: [&[u64]; 2],
 ) -> Result<([Left; 2], [u64; 3], u64), Fail> {
     let checked = accepted(alloc, COPY)?;
+    copies_of(rt, alloc, &checked, plans)
+}
+
+/// Does what `two_copies` does, of the module.
+fn copies_of<R: Threads + Wait + Sync>(
+    rt: &R,
+    alloc: Global,
+    checked: &Checked,
+    plans: [&[u64]; 2],
+) -> Result<([Left; 2], [u64; 3], u64), Fail> {
     let mut hosts = [FakeHost::new(plans[0]), FakeHost::new(plans[1])];
     let gate = Hearing::new();
     let (ends, objects, last) = run_apart(
         rt,
         alloc,
-        &checked,
+        checked,
         0,
         2,
         MOST_ROWS,
@@ -153,7 +140,7 @@ fn two_copies<R: Threads + Wait + Sync>(
         &mut hosts,
         &gate,
     )?;
-    let [one, other] = ends.as_slice() else {
+    let [Some(one), Some(other)] = ends else {
         return Err("there are two workers")?;
     };
     let left = [

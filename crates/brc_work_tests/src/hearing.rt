@@ -65,15 +65,25 @@ fn heard_after(calls: &[(bool, u8, u32)]) -> Option<u64> {
     gate.heard()
 }
 
+/// Calls in an order, and what the gate has heard.
+type Order<'a> = (&'a str, &'a [(bool, u8, u32)], Option<u64>);
+
+const ORDERS: &[Order] = &[
+    ("no call", &[], Some(0)),
+    (
+        "a call and a half",
+        &[(true, 1, 0), (false, 1, 0), (true, 1, 1)],
+        Some(3),
+    ),
+    ("no beginning", &[(false, 1, 0)], None),
+    ("no end", &[(true, 1, 0), (true, 1, 1)], None),
+    ("not from 0", &[(true, 1, 1)], None),
+    ("main's thread", &[(true, 0, 0)], None),
+];
+
 #[test]
 fn the_tests_gate_notes_what_is_out_of_order(rt: HostRuntime) {
-    assert_eq!(rt; heard_after(&[]), Some(0));
-    assert_eq!(rt;
-        heard_after(&[(true, 1, 0), (false, 1, 0), (true, 1, 1)]),
-        Some(3)
-    );
-    assert_eq!(rt; heard_after(&[(false, 1, 0)]), None, "no beginning");
-    assert_eq!(rt; heard_after(&[(true, 1, 0), (true, 1, 1)]), None, "no end");
-    assert_eq!(rt; heard_after(&[(true, 1, 1)]), None, "not from 0");
-    assert_eq!(rt; heard_after(&[(true, 0, 0)]), None, "main's thread");
+    for (name, calls, heard) in ORDERS {
+        assert_eq!(rt; heard_after(calls), *heard, "{name}");
+    }
 }

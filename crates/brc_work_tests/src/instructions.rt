@@ -1,11 +1,10 @@
 //! Instructions that the worked runs don't reach, or reach by one exit alone. What each module leads to follows from
 //! docs/LANGUAGE.md; the comment beside it says how. The root is one of the objects in each count.
 
-use crate::runs::{Counts, MOST_ROWS, expect};
+use crate::faults;
+use crate::faults::Case;
+use crate::runs::{MOST_ROWS, expect};
 use std::test::*;
-
-/// A run of one call with 1024 rows: its name, the module, which calls of the host fail, and what it leads to.
-type Case<'a> = (&'a str, &'a [u8], &'a [u64], Counts);
 
 /// The root's first cell has the number: it is borrowed, and a reference to it is made and returned. Nothing else is
 /// created.
@@ -151,9 +150,11 @@ const CASES: &[Case] = &[
 ];
 
 #[test]
-fn each_instruction_makes_and_gives_up_what_it_says(rt: HostRuntime) -> Result<(), Fail> {
-    for (name, text, plan, want) in CASES {
-        expect(&rt, rt.alloc(), name, text, (MOST_ROWS, 1, plan), 0, *want)?;
+fn each_run_makes_and_gives_up_what_its_instructions_say(rt: HostRuntime) -> Result<(), Fail> {
+    for cases in [CASES, faults::CASES] {
+        for (name, text, plan, want) in cases {
+            expect(&rt, rt.alloc(), name, text, (MOST_ROWS, 1, plan), 0, *want)?;
+        }
     }
     Ok(())
 }

@@ -1,13 +1,13 @@
 //! A worker that somebody may stop: it makes its calls in rounds. docs/EMBED.md quotes this file.
 
-ghost use Rattle.std.specs.Prelude.{◌≡◌, []};
+ghost use Rattle.std.specs.Prelude.{◌≡◌, [], OnSome};
 ghost use Rattle.brc_model.specs.Threads.{function_at};
 ghost use Rattle.brc_table.specs.Hands.{IsOf};
 ghost use Rattle.brc_work.specs.Fits.{IsHeapOf};
 ghost use Rattle.brc_work_tests.specs.Ready.{HoldsRoot};
 
-use crate::calls::{accepted, ended, is_callable, leaves, opened, worker_hand};
-use crate::runs::{MOST_ROWS, objects};
+use crate::calls::{accepted, is_callable, leaves, opened, worker_hand};
+use crate::runs::{MOST_ROWS, objects_left};
 use crate::worked::FOUR_PASSES;
 use brc_check::Checked;
 use brc_heap::{Hand, Heap};
@@ -85,19 +85,55 @@ fn in_rounds<R: Wait>(rt: &R, alloc: Global, text: &[u8]) -> Result<(u32, [u64; 
     if !is_callable(&checked, 0) {
         return Err("the first function has no parameters")?;
     }
+    let (heap, main) = opened(alloc, &checked, MOST_ROWS)?;
+    match rounds_in(rt, heap, main, &checked) {
+        Some(ends) => Ok(ends),
+        None => Err("a thread isn't gone")?,
+    }
+}
+
+/// Does what `in_rounds` does, with the heap.
+fn rounds_in<R: Wait>(
+    rt: &R,
+    heap: Heap<FakeResource>,
+    mut main: Hand<FakeResource>,
+    checked: &Checked,
+) -> Option<(u32, [u64; 3])>
+    requires parameters { (function_at checked.now.module.functions 0).parameters ≡ [] }
+    requires heap { IsHeapOf checked.now.module heap }
+    requires main { HoldsRoot heap main }
+    requires thread { main.view.thread ≡ 0 }
+{
+    let stopped = rounds(rt, &heap, &mut main, checked)?;
+    let objects = objects_left(heap, main)?;
+    Some((stopped, objects))
+}
+
+/// Lets a worker make its rounds and leave, and then main leave. Returns how many rounds were stopped.
+fn rounds<R: Wait>(
+    rt: &R,
+    heap: &Heap<FakeResource>,
+    main: &mut Hand<FakeResource>,
+    checked: &Checked,
+) -> Option<u32>
+    requires parameters { (function_at checked.now.module.functions 0).parameters ≡ [] }
+    requires heap { IsHeapOf checked.now.module heap.now }
+    requires main { HoldsRoot heap.now main.old }
+    requires thread { main.old.view.thread ≡ 0 }
+    ensures table { OnSome result (IsOf heap.now main.new) }
+    ensures thread { OnSome result (main.new.view.thread ≡ 0) }
+{
+    let Ok(mut hand) = worker_hand(heap, main) else {
+        return None;
+    };
     let mut host = FakeHost::new(&[]);
     let gate = Enough {
         begun: AtomicU32::new(0),
         stop: AtomicBool::new(false),
     };
-    let (heap, mut main) = opened(alloc, &checked, MOST_ROWS)?;
-    let mut hand = worker_hand(&heap, &mut main)?;
-    let stopped = works(rt, &heap, &checked, &mut hand, &mut host, &gate, &gate.stop);
-    leaves(rt, &heap, &mut main, &mut host);
-    let Some(end) = ended(heap, main) else {
-        return Err("a thread isn't gone")?;
-    };
-    Ok((stopped, objects(&end)))
+    let stopped = works(rt, heap, checked, &mut hand, &mut host, &gate, &gate.stop);
+    leaves(rt, heap, main, &mut host);
+    Some(stopped)
 }
 
 /// A call begins 13 instructions, and makes four numbers. So a round of 100 instructions makes seven calls, and stops

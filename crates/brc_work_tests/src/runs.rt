@@ -1,6 +1,6 @@
 //! A whole run of a module, in plain numbers.
 
-ghost use Rattle.std.specs.Prelude.{◌≡◌, ◌<◌, ◌≤◌, [], length, OnOk};
+ghost use Rattle.std.specs.Prelude.{◌≡◌, ◌<◌, ◌≤◌, [], length, OnSome};
 ghost use Rattle.brc_model.specs.Layout.{row_count};
 ghost use Rattle.brc_model.specs.Limits.{row_limit, worker_limit};
 ghost use Rattle.brc_model.specs.Threads.{function_at};
@@ -18,7 +18,7 @@ use brc_heap::{Final, Hand, Heap, ROOT};
 use brc_host::{FakeHost, FakeResource, Host};
 use brc_queue::Queue;
 use brc_work::{Gate, Ran, fan_out};
-use std::alloc::{AllocError, Global};
+use std::alloc::Global;
 use std::process::Abort;
 use std::sync::Wait;
 use std::test::*;
@@ -27,8 +27,8 @@ use std::thread::Threads;
 /// The most rows that a worker may have.
 pub const MOST_ROWS: u16 = 1024;
 
-/// What a run leads to, as in a report: how many objects were created, closed and are alive, how many calls of the
-/// host failed, and how many closes. The root counts as an object, and so
+/// What a run leads to, as in a report: how many objects were created, closed and are alive, how many calls of the host
+/// failed, and how many closes. The root counts as an object, and so
 /// does a number in a cell of a static list. None and the static lists don't.
 pub type Counts = [u64; 5];
 
@@ -42,7 +42,7 @@ pub struct Outcome {
     /// Those that it has closed.
     pub closed: u64,
     /// The births that the worker has counted.
-    pub births: u32,
+    pub births: u64,
     /// The beginnings and ends of calls that the gate has heard, or `None` if they didn't come in order.
     pub heard: Option<u64>,
     /// Whether the worker has made all its calls.
@@ -50,7 +50,7 @@ pub struct Outcome {
 }
 
 /// Returns how many objects were created, how many are closed, and how many are alive.
-pub fn objects(end: &Final<FakeResource>) -> [u64; 3] {
+fn objects(end: &Final<FakeResource>) -> [u64; 3] {
     let mut created: u64 = 0;
     let mut closed: u64 = 0;
     let mut alive: u64 = 0;
@@ -73,6 +73,9 @@ fn born_and_closed(end: &Final<FakeResource>, row: u32) -> (bool, bool)
     (end.born(row), end.closed(row))
 }
 
+/// How each of one or two workers' runs has ended.
+pub type Ends = [Option<Ran>; 2];
+
 /// Lets a worker with `rows` rows call the last function of the text's module `times` times, over a host that fails
 /// in the calls of the plan. The worker begins at most `steps` instructions. Then it leaves, main leaves, and the heap
 /// ends.
@@ -89,39 +92,100 @@ pub fn run_over<R: Wait>(
         return Err("a worker has 1 to 1024 rows")?;
     }
     let checked = accepted(alloc, text)?;
-    let function = last_function(&checked)?;
+    run_checked(rt, alloc, &checked, rows, times, steps, plan)
+}
+
+/// Does what `run_over` does, of a module that is accepted.
+fn run_checked<R: Wait>(
+    rt: &R,
+    alloc: Global,
+    checked: &Checked,
+    rows: u16,
+    times: u32,
+    steps: u64,
+    plan: &[u64],
+) -> Result<Outcome, Fail>
+    requires rows { (0 < rows) × (rows ≤ row_limit) }
+{
+    let function = last_function(checked)?;
+    let (heap, main) = opened(alloc, checked, rows)?;
+    match run_heap(rt, heap, main, checked, function, times, steps, plan) {
+        Some(outcome) => Ok(outcome),
+        None => Err("a thread isn't gone")?,
+    }
+}
+
+/// Lets a worker of the heap make the calls, and ends the heap.
+fn run_heap<R: Wait>(
+    rt: &R,
+    heap: Heap<FakeResource>,
+    mut main: Hand<FakeResource>,
+    checked: &Checked,
+    function: usize,
+    times: u32,
+    steps: u64,
+    plan: &[u64],
+) -> Option<Outcome>
+    requires function { function < length checked.now.module.functions }
+    requires parameters { (function_at checked.now.module.functions function).parameters ≡ [] }
+    requires heap { IsHeapOf checked.now.module heap }
+    requires main { HoldsRoot heap main }
+    requires thread { main.view.thread ≡ 0 }
+{
     let mut host = FakeHost::new(plan);
     let gate = Hearing::new();
-    let (heap, mut main) = opened(alloc, &checked, rows)?;
-    let mut hand = worker_hand(&heap, &mut main)?;
-    let ran = makes_calls(
-        rt, &heap, &checked, function, times, steps, &mut hand, &mut host, &gate,
-    );
+    let (ran, close_faults) = run_worker(
+        rt, &heap, &mut main, checked, function, times, steps, &mut host, &gate,
+    )?;
+    let [created, closed, alive] = objects_left(heap, main)?;
     let totals = ran.totals();
-    let first = leaves(rt, &heap, &mut hand, &mut host);
-    let last = leaves(rt, &heap, &mut main, &mut host);
-    let Some(end) = ended(heap, main) else {
-        return Err("a thread isn't gone")?;
-    };
-    let [created, closed, alive] = objects(&end);
-    let close_faults = totals
-        .close_faults
-        .saturating_add(first)
-        .saturating_add(last);
-    Ok(Outcome {
+    Some(Outcome {
         counts: [created, closed, alive, totals.host_faults, close_faults],
         opened: host.opened(),
         closed: host.closed(),
-        births: totals.created,
+        births: u64::from(totals.created),
         heard: gate.heard(),
         done: ran.is_done(),
     })
 }
 
-/// Lets a worker for each host, with `rows` rows, call the module's function with this number `times` times, each in a
-/// thread of its own and with at most `steps` instructions. Then main leaves, over the first host, and the heap ends.
-/// Returns how each worker's run has ended, the objects that were created, closed and are alive, and how many closes of
-/// main's have failed.
+/// Lets a worker make the calls and leave, and then main leave. Returns how the run has ended, and how many closes have
+/// failed.
+fn run_worker<R: Wait>(
+    rt: &R,
+    heap: &Heap<FakeResource>,
+    main: &mut Hand<FakeResource>,
+    checked: &Checked,
+    function: usize,
+    times: u32,
+    steps: u64,
+    host: &mut FakeHost<'_>,
+    gate: &Hearing,
+) -> Option<(Ran, u64)>
+    requires function { function < length checked.now.module.functions }
+    requires parameters { (function_at checked.now.module.functions function).parameters ≡ [] }
+    requires heap { IsHeapOf checked.now.module heap.now }
+    requires main { HoldsRoot heap.now main.old }
+    requires thread { main.old.view.thread ≡ 0 }
+    ensures table { OnSome result (IsOf heap.now main.new) }
+    ensures thread { OnSome result (main.new.view.thread ≡ 0) }
+{
+    let Ok(mut hand) = worker_hand(heap, main) else {
+        return None;
+    };
+    let ran = makes_calls(
+        rt, heap, checked, function, times, steps, &mut hand, host, gate,
+    );
+    let close_faults = ran.totals().close_faults;
+    let first = leaves(rt, heap, &mut hand, host);
+    let last = leaves(rt, heap, main, host);
+    Some((ran, close_faults.saturating_add(first).saturating_add(last)))
+}
+
+/// Lets one or two workers, one for each host, with `rows` rows, call the module's function with this number `times`
+/// times, each in a thread of its own and with at most `steps` instructions. Then main leaves, over the first host, and
+/// the heap ends. Returns how each worker's run has ended, the objects that were created, closed and are alive, and how
+/// many closes of main's have failed.
 #[tactic(auto, using(crate::proofs::Opening::lists_have_rows, crate::proofs::Opening::is_heap_of))]
 pub fn run_apart<R: Threads + Wait + Sync, G: Gate + Sync>(
     rt: &R,
@@ -134,7 +198,7 @@ pub fn run_apart<R: Threads + Wait + Sync, G: Gate + Sync>(
     steps: u64,
     hosts: &mut [FakeHost<'_>],
     gate: &G,
-) -> Result<(Vec<Ran>, [u64; 3], u64), Fail>
+) -> Result<(Ends, [u64; 3], u64), Fail>
     requires threads { (0 < threads) × (threads ≤ worker_limit) }
     requires rows { (0 < rows) × (rows ≤ row_limit) }
     requires one_each { length hosts.old ≡ threads }
@@ -142,14 +206,40 @@ pub fn run_apart<R: Threads + Wait + Sync, G: Gate + Sync>(
     if !is_callable(checked, function) {
         return Err("the module has the function, which has no parameters")?;
     }
-    let (heap, mut main) = Heap::new(alloc, threads, rows, checked.module())?;
-    let run = all_leave(
-        rt, alloc, &heap, &mut main, checked, function, times, steps, hosts, gate,
-    );
-    match run {
-        Ok((ends, last)) => whole(heap, main, ends, last),
-        Err(fail) => Err(fail),
+    let (heap, main) = Heap::new(alloc, threads, rows, checked.module())?;
+    match run_heap_apart(
+        rt, alloc, heap, main, checked, function, times, steps, hosts, gate,
+    ) {
+        Some(run) => Ok(run),
+        None => Err("each thread is started and is gone")?,
     }
+}
+
+/// Does what `run_apart` does, with the heap.
+fn run_heap_apart<R: Threads + Wait + Sync, G: Gate + Sync>(
+    rt: &R,
+    alloc: Global,
+    heap: Heap<FakeResource>,
+    mut main: Hand<FakeResource>,
+    checked: &Checked,
+    function: usize,
+    times: u32,
+    steps: u64,
+    hosts: &mut [FakeHost<'_>],
+    gate: &G,
+) -> Option<(Ends, [u64; 3], u64)>
+    requires enough { length hosts.old ≤ heap.layout.workers }
+    requires function { function < length checked.now.module.functions }
+    requires parameters { (function_at checked.now.module.functions function).parameters ≡ [] }
+    requires heap { IsHeapOf checked.now.module heap }
+    requires main { HoldsRoot heap main }
+    requires may { MayFanOut main.view }
+{
+    let (ends, last) = all_leave(
+        rt, alloc, &heap, &mut main, checked, function, times, steps, hosts, gate,
+    )?;
+    let objects = objects_left(heap, main)?;
+    Some((ends, objects, last))
 }
 
 /// Lets the workers run, and then main leave. Returns how each worker's run has ended, and how many closes of main's
@@ -165,54 +255,39 @@ fn all_leave<R: Threads + Wait + Sync, G: Gate + Sync>(
     steps: u64,
     hosts: &mut [FakeHost<'_>],
     gate: &G,
-) -> Result<(Vec<Ran>, u64), Fail>
+) -> Option<(Ends, u64)>
     requires enough { length hosts.old ≤ heap.now.layout.workers }
     requires function { function < length checked.now.module.functions }
     requires parameters { (function_at checked.now.module.functions function).parameters ≡ [] }
     requires heap { IsHeapOf checked.now.module heap.now }
     requires main { HoldsRoot heap.now main.old }
     requires may { MayFanOut main.old.view }
-    ensures table { OnOk result (IsOf heap.now main.new) }
-    ensures thread { OnOk result (main.new.view.thread ≡ 0) }
+    ensures table { OnSome result (IsOf heap.now main.new) }
+    ensures thread { OnSome result (main.new.view.thread ≡ 0) }
 {
-    let gone = fan_out(
+    let Ok(gone) = fan_out(
         rt, alloc, heap, main, checked, function, times, steps, hosts, gate,
-    )?;
-    let ends = ends_of(alloc, gone.as_slice())?;
-    let Some(host) = hosts.first_mut() else {
-        return Err("there is a host for main")?;
+    ) else {
+        return None;
     };
+    let ends = ends_of(gone);
+    let host = hosts.first_mut()?;
     let last = Queue::new(heap).leave(rt, main, host);
-    Ok((ends, last))
+    Some((ends, last))
 }
 
-fn ends_of(alloc: Global, gone: &[(Hand<FakeResource>, Ran)]) -> Result<Vec<Ran>, AllocError> {
-    let mut ends = Vec::new(alloc);
-    for (_, ran) in gone {
-        ends.push(*ran)?;
+/// Returns how the runs have ended, and drops the hands.
+fn ends_of(gone: Vec<(Hand<FakeResource>, Ran)>) -> Ends {
+    match gone.as_slice() {
+        [(_, one)] => [Some(*one), None],
+        [(_, one), (_, other)] => [Some(*one), Some(*other)],
+        _ => [None, None],
     }
-    Ok(ends)
-}
-
-/// Ends the heap.
-fn whole(
-    heap: Heap<FakeResource>,
-    main: Hand<FakeResource>,
-    ends: Vec<Ran>,
-    last: u64,
-) -> Result<(Vec<Ran>, [u64; 3], u64), Fail>
-    requires table { IsOf heap main }
-    requires thread { main.view.thread ≡ 0 }
-{
-    let Some(objects) = objects_left(heap, main) else {
-        return Err("a thread isn't gone")?;
-    };
-    Ok((ends, objects, last))
 }
 
 /// Ends the heap. Returns how many objects were created, how many are closed, and how many are alive, or `None` if a
 /// thread isn't gone.
-fn objects_left(heap: Heap<FakeResource>, main: Hand<FakeResource>) -> Option<[u64; 3]>
+pub fn objects_left(heap: Heap<FakeResource>, main: Hand<FakeResource>) -> Option<[u64; 3]>
     requires table { IsOf heap main }
     requires thread { main.view.thread ≡ 0 }
 {
@@ -235,13 +310,28 @@ pub fn run_in_thread<R: Threads + Wait + Sync>(
         return Err("a worker has 1 to 1024 rows")?;
     }
     let checked = accepted(alloc, text)?;
-    let function = last_function(&checked)?;
+    run_alone(rt, alloc, &checked, rows, times, steps, plan)
+}
+
+/// Does what `run_in_thread` does, of a module that is accepted.
+fn run_alone<R: Threads + Wait + Sync>(
+    rt: &R,
+    alloc: Global,
+    checked: &Checked,
+    rows: u16,
+    times: u32,
+    steps: u64,
+    plan: &[u64],
+) -> Result<Outcome, Fail>
+    requires rows { (0 < rows) × (rows ≤ row_limit) }
+{
+    let function = last_function(checked)?;
     let gate = Hearing::new();
     let mut hosts = [FakeHost::new(plan)];
     let (ends, [created, closed, alive], last) = run_apart(
-        rt, alloc, &checked, function, 1, rows, times, steps, &mut hosts, &gate,
+        rt, alloc, checked, function, 1, rows, times, steps, &mut hosts, &gate,
     )?;
-    let [ran] = ends.as_slice() else {
+    let [Some(ran), _] = ends else {
         return Err("there is one worker")?;
     };
     let totals = ran.totals();
@@ -250,7 +340,7 @@ pub fn run_in_thread<R: Threads + Wait + Sync>(
         counts: [created, closed, alive, totals.host_faults, close_faults],
         opened: hosts[0].opened(),
         closed: hosts[0].closed(),
-        births: totals.created,
+        births: u64::from(totals.created),
         heard: gate.heard(),
         done: ran.is_done(),
     })
@@ -270,16 +360,16 @@ pub fn expect<R: Threads + Wait + Sync + Abort>(
 ) -> Result<(), Fail> {
     let (rows, times, plan) = run;
     let ran = run_over(rt, alloc, text, rows, times, u64::MAX, plan)?;
+    let wanted = Outcome {
+        counts: want,
+        closed: ran.opened,
+        births: want[0].saturating_sub(1 + u64::from(numbers)),
+        heard: Some(2 * u64::from(times)),
+        done: true,
+        ..ran
+    };
+    assert_eq!(rt; ran, wanted, "{name}");
     let apart = run_in_thread(rt, alloc, text, rows, times, u64::MAX, plan)?;
     assert_eq!(rt; apart, ran, "{name} in a thread of its own");
-    assert_eq!(rt; ran.counts, want, "{name}");
-    assert_eq!(rt;
-        u64::from(ran.births),
-        want[0].saturating_sub(1 + u64::from(numbers)),
-        "births of {name}"
-    );
-    assert_eq!(rt; ran.heard, Some(2 * u64::from(times)), "calls of {name}");
-    assert_eq!(rt; ran.opened, ran.closed, "closes of {name}");
-    assert!(rt; ran.done, "end of {name}");
     Ok(())
 }

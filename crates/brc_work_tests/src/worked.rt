@@ -1,9 +1,17 @@
 //! Worked runs: what is born, what dies with it, and what is left.
 
+ghost use Rattle.std.specs.Prelude.{◌≡◌, ◌<◌, [], length};
+ghost use Rattle.brc_model.specs.Threads.{function_at};
+ghost use Rattle.brc_work.specs.Fits.{IsHeapOf};
+ghost use Rattle.brc_work_tests.specs.Ready.{HoldsRoot};
+
 use crate::calls::{accepted, last_function, makes_calls, opened, worker_hand};
+use crate::faults::COPY;
 use crate::hearing::Hearing;
-use crate::runs::{Counts, MOST_ROWS, expect, run_over};
-use brc_host::FakeHost;
+use crate::runs::{Counts, MOST_ROWS, expect};
+use brc_check::Checked;
+use brc_heap::{Hand, Heap, Taken};
+use brc_host::{FakeHost, FakeResource};
 use std::alloc::Global;
 use std::sync::Wait;
 use std::test::*;
@@ -184,6 +192,11 @@ const CASES: &[Case] = &[
         [4, 4, 0, 0, 0],
     ),
     ("a list of 64 cells", LAST_OF_64, 4, 1, [3, 3, 0, 0, 0]),
+    // A worker with few rows asks the host for nothing that it has no row for: the file's row is the first, the
+    // connection's the second, and the number's the third.
+    ("copy with a row", COPY, 1, 1, [2, 2, 0, 0, 0]),
+    ("copy with two rows", COPY, 2, 1, [3, 3, 0, 0, 0]),
+    ("copy with three rows", COPY, 3, 1, [4, 4, 0, 0, 0]),
 ];
 
 /// Runs of modules with static lists, whose numbers count as objects: besides, how many numbers the lists have.
@@ -196,7 +209,10 @@ const STATIC_CASES: &[(Case, u32)] = &[
 ];
 
 #[test]
-fn worked_runs_with_static_lists(rt: HostRuntime) -> Result<(), Fail> {
+fn worked_runs_close_all_but_what_lists_hold(rt: HostRuntime) -> Result<(), Fail> {
+    for (name, text, rows, times, want) in CASES {
+        expect(&rt, rt.alloc(), name, text, (*rows, *times, &[]), 0, *want)?;
+    }
     for ((name, text, rows, times, want), numbers) in STATIC_CASES {
         let run = (*rows, *times, [].as_slice());
         expect(&rt, rt.alloc(), name, text, run, *numbers, *want)?;
@@ -204,68 +220,68 @@ fn worked_runs_with_static_lists(rt: HostRuntime) -> Result<(), Fail> {
     Ok(())
 }
 
-#[test]
-fn worked_runs_close_all_but_a_list_in_itself(rt: HostRuntime) -> Result<(), Fail> {
-    for (name, text, rows, times, want) in CASES {
-        expect(&rt, rt.alloc(), name, text, (*rows, *times, &[]), 0, *want)?;
-    }
-    Ok(())
-}
-
-/// The calls of `f`, and how many beginnings and ends of them there are.
-const CALLS: &[(u32, u64)] = &[(0, 0), (1, 2), (3, 6), (100, 200)];
-
-#[test]
-fn the_gate_hears_each_call_of_thread_1_begin_and_end(rt: HostRuntime) -> Result<(), Fail> {
-    for (times, heard) in CALLS {
-        let ran = run_over(
-            &rt,
-            rt.alloc(),
-            FOUR_PASSES,
-            MOST_ROWS,
-            *times,
-            u64::MAX,
-            &[],
-        )?;
-        assert_eq!(rt; ran.heard, Some(*heard), "{times} calls");
-    }
-    Ok(())
-}
+/// The births that a worker has counted in a run, and what its gate has heard.
+type Run = (u32, Option<u64>);
 
 /// Lets a worker call the last function of the text's module `times` times, with at most `steps` instructions, and
-/// then once more without a bound. Returns of each of the two runs the births that the worker has counted, and what a
-/// gate of its own has heard.
+/// then once more without a bound. Each of the two runs has a gate of its own.
 fn two_runs<R: Wait>(
     rt: &R,
     alloc: Global,
     text: &[u8],
     times: u32,
     steps: u64,
-) -> Result<[(u32, Option<u64>); 2], Fail> {
+) -> Result<[Run; 2], Fail> {
     let checked = accepted(alloc, text)?;
     let function = last_function(&checked)?;
-    let mut host = FakeHost::new(&[]);
-    let (heap, mut main) = opened(alloc, &checked, MOST_ROWS)?;
+    let (heap, main) = opened(alloc, &checked, MOST_ROWS)?;
+    Ok(two_runs_in(rt, heap, main, &checked, function, times, steps)?)
+}
+
+/// Does what `two_runs` does, with the heap.
+fn two_runs_in<R: Wait>(
+    rt: &R,
+    heap: Heap<FakeResource>,
+    mut main: Hand<FakeResource>,
+    checked: &Checked,
+    function: usize,
+    times: u32,
+    steps: u64,
+) -> Result<[Run; 2], Taken>
+    requires function { function < length checked.now.module.functions }
+    requires parameters { (function_at checked.now.module.functions function).parameters ≡ [] }
+    requires heap { IsHeapOf checked.now.module heap }
+    requires main { HoldsRoot heap main }
+    requires thread { main.view.thread ≡ 0 }
+{
     let mut hand = worker_hand(&heap, &mut main)?;
-    let (gate, other) = (Hearing::new(), Hearing::new());
-    let first = makes_calls(
-        rt, &heap, &checked, function, times, steps, &mut hand, &mut host, &gate,
+    let first = run_of(rt, &heap, checked, function, times, steps, &mut hand);
+    let second = run_of(rt, &heap, checked, function, 1, u64::MAX, &mut hand);
+    Ok([first, second])
+}
+
+/// Lets the worker make the calls of one run.
+fn run_of<R: Wait>(
+    rt: &R,
+    heap: &Heap<FakeResource>,
+    checked: &Checked,
+    function: usize,
+    times: u32,
+    steps: u64,
+    hand: &mut Hand<FakeResource>,
+) -> Run
+    requires function { function < length checked.now.module.functions }
+    requires parameters { (function_at checked.now.module.functions function).parameters ≡ [] }
+    requires heap { IsHeapOf checked.now.module heap.now }
+    requires holds { HoldsRoot heap.now hand.old }
+    ensures holds { HoldsRoot heap.now hand.new }
+{
+    let mut host = FakeHost::new(&[]);
+    let gate = Hearing::new();
+    let ran = makes_calls(
+        rt, heap, checked, function, times, steps, hand, &mut host, &gate,
     );
-    let second = makes_calls(
-        rt,
-        &heap,
-        &checked,
-        function,
-        1,
-        u64::MAX,
-        &mut hand,
-        &mut host,
-        &other,
-    );
-    Ok([
-        (first.totals().created, gate.heard()),
-        (second.totals().created, other.heard()),
-    ])
+    (ran.totals().created, gate.heard())
 }
 
 #[test]
