@@ -123,9 +123,11 @@ pub fn assert_cases<R: System + Abort + AllocGlobal>(
 ) {
     for (name, module, schedule, (report, line, status)) in cases {
         let (out, err, found) = outputs(rt, asked, *module, *schedule);
-        assert_eq!(rt; out.as_slice(), *report, "{name}: {asked:?}");
-        assert_eq!(rt; err.as_slice(), *line, "{name}: {asked:?}");
-        assert_eq!(rt; found, *status, "{name}: {asked:?}");
+        assert_eq!(rt;
+            (out.as_slice(), err.as_slice(), found),
+            (*report, *line, *status),
+            "{name}: {asked:?}"
+        );
     }
 }
 

@@ -172,8 +172,11 @@ fn checks_modules(rt: HostRuntime) {
     for (name, module, lines) in TWO_CODES {
         let (out, err, status) = outputs(&rt, &CHECK, Ok(*module), UNREAD);
         let line = err.as_slice();
-        assert!(rt; out.is_empty(), "{name}");
-        assert!(rt; line == lines[0] || line == lines[1], "{name}: {line:?}");
-        assert_eq!(rt; status, 1, "{name}");
+        let is_one = line == lines[0] || line == lines[1];
+        assert_eq!(rt;
+            (out.is_empty(), is_one, status),
+            (true, true, 1),
+            "{name}: {line:?}"
+        );
     }
 }

@@ -7,6 +7,7 @@ use crate::loops::{EIGHT_NUMBERS_REPORT, NUMBERS, THREE_NUMBERS_REPORT};
 use crate::worked::{NUMBER_REPORT, TWO_NUMBERS, TWO_NUMBERS_REPORT};
 use brc_arguments::act;
 use brc_run::System;
+use std::process::Abort;
 
 pub const SCHEDULE: &[u8] = b"schedule 1\nworkers 1\nrows 4\ncall 1 f 1\nstep 0 ok 1\n";
 
@@ -253,20 +254,35 @@ const EXPLAINED: &[(&[&str], &[u8])] = &[
     (&["brc", "explain", "--code", "L10"], b"L10"),
 ];
 
+/// Asserts what each command line writes, and its status.
+fn assert_lines<R: System + Abort + AllocGlobal>(rt: &R, rows: &[CommandLine<'_>]) {
+    for (module, words, (report, lines, want)) in rows {
+        let (out, err, status) = acts(rt, words, *module, Ok(SCHEDULE));
+        assert_eq!(rt;
+            (out.as_slice(), err.as_slice(), status),
+            (*report, *lines, *want),
+            "{words:?}"
+        );
+    }
+}
+
+/// Asserts that each command line writes the part, and succeeds.
+fn assert_parts<R: System + Abort + AllocGlobal>(rt: &R, rows: &[(&[&str], &[u8])]) {
+    for (words, part) in rows {
+        let (out, err, status) = acts(rt, words, Ok(SMALLEST), Ok(SCHEDULE));
+        let has_part = contains(out.as_slice(), part);
+        assert_eq!(rt;
+            (has_part, err.is_empty(), status),
+            (true, true, 0),
+            "{words:?}"
+        );
+    }
+}
+
 #[test]
 fn carries_out_command_lines(rt: HostRuntime) {
-    for rows in [CARRIED_OUT, IN_LINES, IN_JSON] {
-        for (module, words, (report, lines, want)) in rows {
-            let (out, err, status) = acts(&rt, words, *module, Ok(SCHEDULE));
-            assert_eq!(rt; out.as_slice(), *report, "{words:?} of {module:?}");
-            assert_eq!(rt; err.as_slice(), *lines, "{words:?} of {module:?}");
-            assert_eq!(rt; status, *want, "{words:?} of {module:?}");
-        }
-    }
-    for (words, part) in EXPLAINED {
-        let (out, err, status) = acts(&rt, words, Ok(SMALLEST), Ok(SCHEDULE));
-        assert!(rt; contains(out.as_slice(), part), "{words:?}");
-        assert!(rt; err.is_empty(), "{words:?}");
-        assert_eq!(rt; status, 0, "{words:?}");
-    }
+    assert_lines(&rt, CARRIED_OUT);
+    assert_lines(&rt, IN_LINES);
+    assert_lines(&rt, IN_JSON);
+    assert_parts(&rt, EXPLAINED);
 }

@@ -240,9 +240,10 @@ fn a_run_leaves_its_file(rt: HostRuntime) -> Result<(), Fail> {
         path.as_str(),
     ];
     let (out, err, status) = acts(&rt, words.as_slice(), Ok(MAKES), UNREAD);
-    assert_eq!(rt; out.as_slice(), NUMBER_REPORT);
-    assert!(rt; err.is_empty());
-    assert_eq!(rt; status, 0);
+    assert_eq!(rt;
+        (out.as_slice(), err.is_empty(), status),
+        (NUMBER_REPORT, true, 0)
+    );
     assert_eq!(rt; fs::read(&rt, path.as_str())?.as_slice(), b"".as_slice());
     fs::remove_file(&rt, path.as_str())?;
     Ok(())

@@ -75,18 +75,8 @@ fn assert_stops<R: System + Abort + AllocGlobal>(
             };
             let (out, err, found) = narrowly(rt, asked, module, most, interrupts);
             assert_eq!(rt;
-                out.as_slice(),
-                &text[..most],
-                "{asked:?} of {module:?} after {most}, interrupts: {interrupts}"
-            );
-            assert_eq!(rt;
-                err.as_slice(),
-                line,
-                "{asked:?} of {module:?} after {most}, interrupts: {interrupts}"
-            );
-            assert_eq!(rt;
-                found,
-                status,
+                (out.as_slice(), err.as_slice(), found),
+                (&text[..most], line, status),
                 "{asked:?} of {module:?} after {most}, interrupts: {interrupts}"
             );
         }
@@ -209,9 +199,11 @@ fn goes_on_after_an_output_error(rt: HostRuntime) {
         for most in 0..=text.len() {
             let (out, err, status) = checked_narrowly(rt.alloc(), files, *format, most);
             let (lines, want) = if most == text.len() { whole } else { cut };
-            assert_eq!(rt; out.as_slice(), &text[..most], "{files:?} after {most}");
-            assert_eq!(rt; err.as_slice(), *lines, "{files:?} after {most}");
-            assert_eq!(rt; status, *want, "{files:?} after {most}");
+            assert_eq!(rt;
+                (out.as_slice(), err.as_slice(), status),
+                (&text[..most], *lines, *want),
+                "{files:?} after {most}"
+            );
         }
     }
 }

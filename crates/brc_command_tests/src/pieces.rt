@@ -142,9 +142,11 @@ fn reads_files_in_pieces(rt: HostRuntime) {
     for (words, (module, schedule, count), line) in AT_FAULT {
         let (told, asked) = acts_on_pieces(&rt, words, *module, *schedule, 16);
         let (_, err, status) = told;
-        assert_eq!(rt; err.as_slice(), *line, "{words:?}, {count} pieces");
-        assert_eq!(rt; status, 2, "{words:?}, {count} pieces");
-        assert_eq!(rt; asked, *count, "{words:?}, {count} pieces");
+        assert_eq!(rt;
+            (err.as_slice(), status, asked),
+            (*line, 2, *count),
+            "{words:?}"
+        );
     }
     let words = ["brc", "step", "m.brc", "s.txt"];
     for (module, schedule) in TEXTS {
@@ -158,16 +160,10 @@ fn reads_files_in_pieces(rt: HostRuntime) {
                 length,
             );
             assert_eq!(rt;
-                found.as_slice(),
-                out.as_slice(),
+                (found.as_slice(), line.as_slice(), ended),
+                (out.as_slice(), err.as_slice(), status),
                 "{module:?} {schedule:?} by {length}"
             );
-            assert_eq!(rt;
-                line.as_slice(),
-                err.as_slice(),
-                "{module:?} {schedule:?} by {length}"
-            );
-            assert_eq!(rt; ended, status, "{module:?} {schedule:?} by {length}");
         }
     }
 }

@@ -13,10 +13,13 @@ fn assert_usage<R: System + Abort + AllocGlobal>(
     (start, end): (&[u8], &[u8]),
 ) {
     let (out, err, status) = acts(rt, words, Ok(SMALLEST), Ok(SCHEDULE));
-    assert!(rt; out.is_empty(), "{words:?}");
-    assert!(rt; err.as_slice().starts_with(start), "{words:?}");
-    assert!(rt; err.as_slice().ends_with(end), "{words:?}");
-    assert_eq!(rt; status, 2, "{words:?}");
+    let begins = err.as_slice().starts_with(start);
+    let ends = err.as_slice().ends_with(end);
+    assert_eq!(rt;
+        (out.is_empty(), begins, ends, status),
+        (true, true, true, 2),
+        "{words:?}"
+    );
 }
 
 // The words, and the start of the text. The command line is read before any file: there is no `n.brc`.
@@ -182,9 +185,11 @@ fn refuses_command_lines(rt: HostRuntime) -> Result<(), Fail> {
             words.push("127.0.0.1:8080")?;
         }
         let (out, err, status) = acts(&rt, words.as_slice(), Ok(SMALLEST), Ok(SCHEDULE));
-        assert!(rt; out.is_empty(), "{paths} {peers}");
-        assert_eq!(rt; err.as_slice(), *line, "{paths} {peers}");
-        assert_eq!(rt; status, 2, "{paths} {peers}");
+        assert_eq!(rt;
+            (out.is_empty(), err.as_slice(), status),
+            (true, *line, 2),
+            "{paths} {peers}"
+        );
     }
     Ok(())
 }

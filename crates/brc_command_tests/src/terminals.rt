@@ -109,9 +109,11 @@ const SCHEDULES: &[(&[u8], (u64, u64))] = &[
 fn tells_how_far_schedules_and_runs_are(rt: HostRuntime) {
     for (schedule, (times, last)) in SCHEDULES {
         let (notes, out) = told(&rt, &STEP, FIRST, schedule);
-        assert_eq!(rt; (notes.times, notes.last), (*times, *last), "{last}");
-        assert!(rt; !notes.falls, "{last}");
-        assert_eq!(rt; notes.clears, 1, "{last}");
+        assert_eq!(rt;
+            (notes.times, notes.last, notes.falls, notes.clears),
+            (*times, *last, false, 1),
+            "{last}"
+        );
         let (plain, _, _) = outputs(&rt, &STEP, Ok(FIRST), Ok(*schedule));
         assert_eq!(rt; out.as_slice(), plain.as_slice(), "{last}");
     }

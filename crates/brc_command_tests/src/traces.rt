@@ -213,19 +213,22 @@ fn traces_and_draws_runs(rt: HostRuntime) -> Result<(), Fail> {
     let words = ["brc", "step", "m.brc", "s.txt", "--trace"];
     for (name, module, plan, trace, parts) in RUNS {
         let picture = picture_text(rt.alloc(), module, plan)?;
-        assert!(rt; picture.as_slice().starts_with(b"<svg "), "{name}");
-        assert!(rt; picture.as_slice().ends_with(b"</svg>\n"), "{name}");
+        let begins = picture.as_slice().starts_with(b"<svg ");
+        let ends = picture.as_slice().ends_with(b"</svg>\n");
+        assert!(rt; begins && ends, "{name}");
         for part in *parts {
             assert!(rt; contains(picture.as_slice(), part), "{name}: {part:?}");
         }
         let (out, err, status) = acts(&rt, words.as_slice(), Ok(*module), Ok(*plan));
-        assert!(rt; out.as_slice() == *trace, "{name}");
-        assert!(rt; err.is_empty(), "{name}");
-        assert_eq!(rt; status, 0, "{name}");
+        let is_trace = out.as_slice() == *trace;
+        assert_eq!(rt;
+            (is_trace, err.is_empty(), status),
+            (true, true, 0),
+            "{name}"
+        );
         let mut traced: Vec<u8> = Vec::new(rt.alloc());
         let result = trace_text(rt.alloc(), module, plan, &mut traced);
-        assert!(rt; result.is_ok(), "{name}");
-        assert!(rt; traced.as_slice() == *trace, "{name}");
+        assert!(rt; result.is_ok() && traced.as_slice() == *trace, "{name}");
     }
     let mut untraced: Vec<u8> = Vec::new(rt.alloc());
     let result = trace_text(rt.alloc(), b"module 1\nfunc f\n", PLAN, &mut untraced);
