@@ -46,8 +46,8 @@ fn refused_modules_from_c_go_wrong(rt: HostRuntime) {
     }
 }
 
-/// Asserts that the case's run is found, that its schedule is shown, and that the schedule's steps end in what is wrong;
-/// or that none is found.
+/// Asserts that the case's run is found, that its schedule is shown, and that the schedule's steps end in what is
+/// wrong; or that none is found.
 fn assert_case<R: System + Abort + AllocGlobal>(rt: &R, case: &Case) {
     let name = case.name;
     let shown = explained(rt, case.text, STATES);
