@@ -82,13 +82,15 @@ impl Case {
         Ok(made)
     }
 
-    /// Returns whether the command may write this text on the stream. If the case says nothing of a stream, it is to be
-    /// empty.
+    /// Returns whether the command may write this text on the stream. If the case says nothing of a stream or of all of
+    /// them, the command writes nothing there.
     pub fn is_met(&self, stream: Stream, name: &str, found: &[u8]) -> bool {
         let mut said = false;
         let mut is_whole = false;
         let mut may_be = false;
+        let mut says_all = stream == Stream::All;
         for wanted in &self.wanted {
+            says_all |= wanted.stream == Stream::All;
             if wanted.stream != stream || wanted.name.as_str() != name {
                 continue;
             }
@@ -103,7 +105,7 @@ impl Case {
         if said {
             !is_whole || may_be
         } else {
-            found.is_empty()
+            says_all || found.is_empty()
         }
     }
 }

@@ -5,7 +5,7 @@ use thiserror::Error;
 /// Why a line of a file of cases can't be read.
 #[derive(Clone, Copy, Debug, PartialEq, Eq, Drop, Error)]
 pub enum Why {
-    #[error("no line begins so; it begins with `text`, `case`, `$`, `file`, `status`, `out`, `err`, `saved`, `or`, `rows`, `-`, `|`, a quote, `=` or `#`")]
+    #[error("no line begins so; it begins with `text`, `case`, `$`, `file`, `status`, `out`, `err`, `all`, `saved`, `or`, `rows`, `-`, `|`, a quote, `=` or `#`")]
     UnknownLine,
     #[error("this line belongs to a case: write `case NAME` above it, after a blank line")]
     NoCase,
@@ -13,9 +13,9 @@ pub enum Why {
     NoBlankLine,
     #[error("it is out of order: a case has its words, its files, its status, what it writes, what it saves, and its rows")]
     OutOfOrder,
-    #[error("content belongs below `text`, `file`, `out`, `err` or `saved`")]
+    #[error("content belongs below `text`, `file`, `out`, `err`, `all` or `saved`")]
     NoPlace,
-    #[error("a name is missing behind the first word")]
+    #[error("a name is missing after the first word")]
     NoName,
     #[error("another text has this name")]
     NameTwice,
@@ -29,9 +29,9 @@ pub enum Why {
     NoCommand,
     #[error("the case has no line `status`")]
     NoStatus,
-    #[error("`out` and `err` stand alone, or with `has`, `lacks`, `begins` or `ends`; `saved NAME` with `has`; `file NAME` alone, or with `no memory` or `full`")]
+    #[error("`out`, `err` and `all` stand alone, or with `has`, `lacks`, `begins` or `ends`; `saved NAME` with `has`; `file NAME` alone, or with `no memory` or `full`")]
     WrongWords,
-    #[error("`or` comes after a whole text of `out` or `err`")]
+    #[error("`or` comes after a whole text of `out`, `err` or `all`")]
     NoAlternative,
     #[error("memory was refused")]
     NoMemory,

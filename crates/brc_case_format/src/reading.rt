@@ -71,6 +71,7 @@ impl Reader {
             "status" => self.set_status(rest),
             "out" => self.add_wanted(Stream::Out, "", rest),
             "err" => self.add_wanted(Stream::Err, "", rest),
+            "all" => self.add_wanted(Stream::All, "", rest),
             "saved" => {
                 let (name, how) = rest.split_once(' ').ok_or(Why::WrongWords)?;
                 self.add_wanted(Stream::Saved, name, how)

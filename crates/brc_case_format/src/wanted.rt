@@ -3,6 +3,8 @@
 pub enum Stream {
     Out,
     Err,
+    /// What it writes to standard output and then what it writes to standard error.
+    All,
     /// A file that it saves.
     Saved,
 }

@@ -62,22 +62,14 @@ fn difference_of<R: System + AllocGlobal>(rt: &R, case: &Case) -> Result<String>
     if case.status != Some(status) {
         said.push_str(format!(in alloc; "status {status}")?.as_str())?;
     }
-    tell(
-        &mut said,
-        case,
-        Stream::Out,
-        "",
-        "standard output",
-        out.as_slice(),
-    )?;
-    tell(
-        &mut said,
-        case,
-        Stream::Err,
-        "",
-        "standard error",
-        err.as_slice(),
-    )?;
+    for (stream, what, found) in [
+        (Stream::Out, "standard output", out.as_slice()),
+        (Stream::Err, "standard error", err.as_slice()),
+    ] {
+        tell(&mut said, case, stream, "", what, found)?;
+    }
+    out.extend_from_slice(err.as_slice())?;
+    tell(&mut said, case, Stream::All, "", "all", out.as_slice())?;
     for wanted in &case.wanted {
         if wanted.stream == Stream::Saved {
             let name = wanted.name.as_str();
