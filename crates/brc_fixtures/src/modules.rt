@@ -1,7 +1,7 @@
-//! The modules whose heaps the tests open.
+//! A module whose heaps the tests open.
 
 ghost use Rattle.std.specs.Prelude.{◌≡◌};
-ghost use Rattle.brc_heap_tests.specs.Modules.{plain_module};
+ghost use Rattle.brc_fixtures.specs.Modules.{plain_module};
 
 use brc_lang::{Module, Sequence, Version};
 use std::alloc::Global;
