@@ -3,8 +3,6 @@
 #![tactic(auto)]
 
 #[cfg(test)]
-mod at_rest;
-#[cfg(test)]
 mod borrowed;
 #[cfg(test)]
 mod chain;
