@@ -14,4 +14,4 @@ pub use at_rest::{
 pub use heaps::{hand_of, opened};
 pub use hosts::hosts_of;
 pub use modules::plain_module;
-pub use texts::{HasParameters, NotAccepted, accepted, is_callable, last_function};
+pub use texts::{accepted, is_callable, last_function};

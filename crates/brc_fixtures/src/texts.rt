@@ -7,26 +7,18 @@ use brc_check::{Checked, check};
 use brc_lang::read;
 use std::alloc::Global;
 
-/// The text isn't an accepted module.
-#[derive(Clone, Copy, Debug, Drop)]
-pub struct NotAccepted;
-
-/// The module's last function has parameters, and workers call none that has.
-#[derive(Clone, Copy, Debug, Drop)]
-pub struct HasParameters;
-
 /// Returns the module of the text, which is accepted.
 ///
 /// # Errors
 ///
-/// `NotAccepted` if the text isn't a module, or is refused.
-pub fn accepted(alloc: Global, text: &[u8]) -> Result<Checked, NotAccepted> {
+/// What doesn't hold, if the text isn't a module, or is refused.
+pub fn accepted(alloc: Global, text: &[u8]) -> Result<Checked, &'static str> {
     let Ok(module) = read(alloc, text) else {
-        return Err(NotAccepted);
+        return Err("the text is a module");
     };
     match check(alloc, module) {
         Ok(checked) => Ok(checked),
-        Err(_) => Err(NotAccepted),
+        Err(_) => Err("the module is accepted"),
     }
 }
 
@@ -44,8 +36,8 @@ pub fn is_callable(checked: &Checked, function: usize) -> bool
 ///
 /// # Errors
 ///
-/// `HasParameters` if it has.
-pub fn last_function(checked: &Checked) -> Result<usize, HasParameters>
+/// What doesn't hold, if it has parameters.
+pub fn last_function(checked: &Checked) -> Result<usize, &'static str>
     ensures function { IfOk result (λ function. function < length checked.now.module.functions) }
     ensures parameters { IfOk result (λ function.
         (function_at checked.now.module.functions function).parameters ≡ []) }
@@ -55,6 +47,6 @@ pub fn last_function(checked: &Checked) -> Result<usize, HasParameters>
     if is_callable(checked, last) {
         Ok(last)
     } else {
-        Err(HasParameters)
+        Err("the last function has no parameters")
     }
 }
