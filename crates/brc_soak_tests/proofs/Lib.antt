@@ -1,3 +1,1 @@
-mod Resting
 mod Counting
-pub mod PlainModules

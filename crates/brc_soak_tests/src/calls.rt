@@ -7,7 +7,8 @@ ghost use Rattle.brc_model.specs.Limits.{text_cells};
 ghost use Rattle.brc_heap.specs.Calls.{IsBornWith, kind_word};
 ghost use Rattle.brc_table.specs.Hands.{IsOf};
 ghost use Rattle.brc_table.specs.Homes.{resources};
-ghost use Rattle.brc_soak_tests.specs.Ready.{IsResting, Tells, counted};
+ghost use Rattle.brc_fixtures.specs.Resting.{IsAtRest};
+ghost use Rattle.brc_soak_tests.specs.Ready.{Tells, counted};
 
 use crate::ledger::Ledger;
 use crate::posts::Posts;
@@ -19,7 +20,7 @@ use brc_queue::Queue;
 use std::sync::Wait;
 
 /// Gives birth to an object, if there is room. Returns its row.
-#[tactic(auto, using(crate::proofs::Resting::rests_after_birth, crate::proofs::Counting::tells_more, crate::proofs::Counting::tells_whole, crate::proofs::PlainModules::born_in_more))]
+#[tactic(auto, using(brc_fixtures::proofs::Resting::rests_after_birth, crate::proofs::Counting::tells_more, crate::proofs::Counting::tells_whole, brc_fixtures::proofs::PlainModules::born_in_more))]
 pub fn bears(
     heap: &Heap<FakeResource>,
     hand: &mut Hand<FakeResource>,
@@ -28,12 +29,12 @@ pub fn bears(
     arg: u32,
     resource: Option<FakeResource>,
 ) -> Option<u32>
-    requires resting { IsResting heap.now hand.old None }
+    requires resting { IsAtRest heap.now hand.old None }
     requires tells { Tells ledger.old hand.old.view.references }
     requires few { ledger.old.total + 1 < 2 ^ 32 }
     requires kind { IsBornWith text_cells kind arg }
     requires resource { resources resource ≡ resources_of (kind_word kind arg) }
-    ensures resting { IsResting heap.now hand.new None }
+    ensures resting { IsAtRest heap.now hand.new None }
     ensures tells { Tells ledger.new hand.new.view.references }
 {
     heap.words().layout_is_plain();
@@ -46,17 +47,17 @@ pub fn bears(
 }
 
 /// Retains an object, if the hand holds it. Returns whether it did.
-#[tactic(auto, using(crate::proofs::Resting::rests_after_call, crate::proofs::Resting::some_counted, crate::proofs::Resting::lists_one_more, crate::proofs::Counting::tells_more, crate::proofs::Counting::tells_whole, crate::proofs::Counting::tells_held))]
+#[tactic(auto, using(brc_fixtures::proofs::Resting::rests_after_call, brc_fixtures::proofs::Resting::some_counted, brc_fixtures::proofs::Resting::lists_one_more, crate::proofs::Counting::tells_more, crate::proofs::Counting::tells_whole, crate::proofs::Counting::tells_held))]
 pub fn retains(
     heap: &Heap<FakeResource>,
     hand: &mut Hand<FakeResource>,
     ledger: &mut Ledger,
     row: u32,
 ) -> bool
-    requires resting { IsResting heap.now hand.old None }
+    requires resting { IsAtRest heap.now hand.old None }
     requires tells { Tells ledger.old hand.old.view.references }
     requires few { ledger.old.total + 1 < 2 ^ 32 }
-    ensures resting { IsResting heap.now hand.new None }
+    ensures resting { IsAtRest heap.now hand.new None }
     ensures tells { Tells ledger.new hand.new.view.references }
 {
     if row == 0 || ledger.count(row) == 0 {
@@ -69,7 +70,7 @@ pub fn retains(
 
 /// Gives up a reference to an object, if the hand holds it, and finalises what dies. Returns how many closes have
 /// failed, or `None` if the hand doesn't hold it.
-#[tactic(auto, using(crate::proofs::Resting::some_counted, crate::proofs::Counting::tells_whole, crate::proofs::Counting::tells_held))]
+#[tactic(auto, using(brc_fixtures::proofs::Resting::some_counted, crate::proofs::Counting::tells_whole, crate::proofs::Counting::tells_held))]
 pub fn gives_up<R: Wait>(
     rt: &R,
     heap: &Heap<FakeResource>,
@@ -80,9 +81,9 @@ pub fn gives_up<R: Wait>(
     row: u32,
 ) -> Option<u64>
     requires posts { posts.now ≡ heap.now }
-    requires resting { IsResting heap.now hand.old None }
+    requires resting { IsAtRest heap.now hand.old None }
     requires tells { Tells ledger.old hand.old.view.references }
-    ensures resting { IsResting heap.now hand.new None }
+    ensures resting { IsAtRest heap.now hand.new None }
     ensures tells { Tells ledger.new hand.new.view.references }
 {
     if row == 0 || ledger.count(row) == 0 {
@@ -103,9 +104,9 @@ pub fn merges<R: Wait>(
     ledger: &Ledger,
     host: &mut FakeHost<'_>,
 ) -> Option<u64>
-    requires resting { IsResting heap.now hand.old None }
+    requires resting { IsAtRest heap.now hand.old None }
     requires tells { Tells ledger.now hand.old.view.references }
-    ensures resting { IsResting heap.now hand.new None }
+    ensures resting { IsAtRest heap.now hand.new None }
     ensures tells { Tells ledger.now hand.new.view.references }
 {
     if hand.head() != 0 {
@@ -124,7 +125,7 @@ pub fn leaves<R: Wait>(
     ledger: &Ledger,
     host: &mut FakeHost<'_>,
 ) -> Option<u64>
-    requires resting { IsResting heap.now hand.old None }
+    requires resting { IsAtRest heap.now hand.old None }
     requires tells { Tells ledger.now hand.old.view.references }
     ensures table { IsOf heap.now hand.new }
     ensures thread { hand.new.view.thread ≡ hand.old.view.thread }

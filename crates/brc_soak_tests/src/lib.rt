@@ -9,8 +9,6 @@ mod ledger;
 #[cfg(test)]
 mod log;
 #[cfg(test)]
-mod modules;
-#[cfg(test)]
 mod posts;
 #[cfg(test)]
 mod recount;

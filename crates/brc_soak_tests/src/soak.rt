@@ -1,15 +1,13 @@
 //! A soak with one seed: eight workers, their leave, and the end of the heap beside the workers' notes.
 
-ghost use Rattle.std.specs.Prelude.{◌≡◌, ◌≤◌, ◌<◌, IfOk, OnOk, None, [], ◌∷◌};
-ghost use Rattle.brc_model.specs.Layout.{root_row};
-ghost use Rattle.brc_table.specs.Hands.{IsOf};
-ghost use Rattle.brc_soak_tests.specs.Ready.{IsFresh, IsResting};
+ghost use Rattle.std.specs.Prelude.{◌≡◌, OnOk};
+ghost use Rattle.brc_fixtures.specs.Resting.{IsAlone};
 
 use crate::ledger::ROWS;
 use crate::log::{CELLS, Log};
-use crate::modules::plain_module;
 use crate::recount::Recount;
 use crate::worker::{Worker, works};
+use brc_fixtures::{hand_of, opened};
 use brc_heap::{Final, Hand, Heap, ROOT};
 use brc_host::{FakeHost, FakeResource, Host};
 use brc_lang::Kind;
@@ -49,24 +47,6 @@ pub struct Soaked {
     pub least: u64,
 }
 
-/// Gives out a worker's hand.
-#[tactic(auto, using(crate::proofs::Resting::rests_after_giving, crate::proofs::Resting::fresh_hand))]
-fn fresh(
-    heap: &Heap<FakeResource>,
-    main: &mut Hand<FakeResource>,
-    thread: u8,
-) -> Result<Hand<FakeResource>, Fail>
-    requires resting { IsResting heap.now main.old None }
-    requires references { main.old.view.references ≡ root_row ∷ [] }
-    requires main { main.old.view.thread ≡ 0 }
-    ensures resting { OnOk result (IsResting heap.now main.new None) }
-    ensures references { OnOk result (main.new.view.references ≡ root_row ∷ []) }
-    ensures main { OnOk result (main.new.view.thread ≡ 0) }
-    ensures fresh { IfOk result (IsFresh heap.now) }
-{
-    Ok(heap.hand_out(main, thread)?)
-}
-
 /// Returns the workers, each with a seed of its own.
 fn workers_of<'a>(
     alloc: Global,
@@ -74,16 +54,14 @@ fn workers_of<'a>(
     main: &mut Hand<FakeResource>,
     seed: u64,
 ) -> Result<Vec<Worker<'a>>, Fail>
-    requires resting { IsResting heap.now main.old None }
-    requires references { main.old.view.references ≡ root_row ∷ [] }
+    requires alone { IsAlone heap.now main.old }
     requires main { main.old.view.thread ≡ 0 }
-    ensures resting { OnOk result (IsResting heap.now main.new None) }
-    ensures references { OnOk result (main.new.view.references ≡ root_row ∷ []) }
+    ensures alone { OnOk result (IsAlone heap.now main.new) }
     ensures main { OnOk result (main.new.view.thread ≡ 0) }
 {
     let mut workers = vec![in alloc]?;
     for thread in 1..WORKERS + 1 {
-        let hand = fresh(heap, main, thread)?;
+        let hand = hand_of(heap, main, thread)?;
         let own = seed.wrapping_mul(1000).wrapping_add(u64::from(thread));
         workers.push(Worker::new(heap, hand, own))?;
     }
@@ -118,8 +96,7 @@ fn ended<R: Wait>(
     main: Hand<FakeResource>,
     log: &mut Log,
 ) -> Option<Final<FakeResource>>
-    requires resting { IsResting heap main None }
-    requires references { main.view.references ≡ root_row ∷ [] }
+    requires alone { IsAlone heap main }
     requires main { main.view.thread ≡ 0 }
 {
     let mut main = main;
@@ -232,23 +209,52 @@ fn compared(end: &Final<FakeResource>, log: &Log) -> Soaked {
     }
 }
 
+/// Lets the workers make random calls from this seed on, and leave. Returns their notes.
+fn noted<R: Threads + Wait + Sync>(
+    rt: &R,
+    alloc: Global,
+    heap: &Heap<FakeResource>,
+    main: &mut Hand<FakeResource>,
+    seed: u64,
+) -> Result<Log, Fail>
+    requires alone { IsAlone heap.now main.old }
+    requires main { main.old.view.thread ≡ 0 }
+    ensures alone { OnOk result (IsAlone heap.now main.new) }
+    ensures main { OnOk result (main.new.view.thread ≡ 0) }
+{
+    let workers = workers_of(alloc, heap, main, seed)?;
+    let all = Mutex::new(Log::new());
+    all_work(rt, workers, &all)?;
+    let mut log = all.into_inner();
+    log.born[ROOT as usize] = 1;
+    Ok(log)
+}
+
+/// Does what `soak` does, with the heap.
+fn soak_in<R: Threads + Wait + Sync>(
+    rt: &R,
+    alloc: Global,
+    heap: Heap<FakeResource>,
+    mut main: Hand<FakeResource>,
+    seed: u64,
+) -> Result<Option<Soaked>, Fail>
+    requires alone { IsAlone heap main }
+    requires main { main.view.thread ≡ 0 }
+{
+    let mut log = noted(rt, alloc, &heap, &mut main, seed)?;
+    match ended(rt, heap, main, &mut log) {
+        Some(end) => Ok(Some(compared(&end, &log))),
+        None => Ok(None),
+    }
+}
+
 /// Lets eight workers make random calls from this seed on, and leave. Returns what they have come to, or `None` if a
 /// thread couldn't leave.
-#[tactic(auto, using(crate::proofs::PlainModules::has_no_lines, crate::proofs::PlainModules::has_no_lists))]
 pub fn soak<R: Threads + Wait + Sync>(
     rt: &R,
     alloc: Global,
     seed: u64,
 ) -> Result<Option<Soaked>, Fail> {
-    let plain = plain_module(alloc);
-    let (heap, mut main) = Heap::new(alloc, WORKERS, 8, &plain)?;
-    let workers = workers_of(alloc, &heap, &mut main, seed)?;
-    let all = Mutex::new(Log::new());
-    all_work(rt, workers, &all)?;
-    let mut log = all.into_inner();
-    log.born[ROOT as usize] = 1;
-    match ended(rt, heap, main, &mut log) {
-        Some(end) => Ok(Some(compared(&end, &log))),
-        None => Ok(None),
-    }
+    let (heap, main) = opened(alloc, WORKERS, 8)?;
+    soak_in(rt, alloc, heap, main, seed)
 }

@@ -4,9 +4,11 @@ ghost use Rattle.std.specs.Prelude.{◌≡◌, ◌≢◌, ◌<◌, ◌≤◌, �
 ghost use Rattle.brc_model.specs.Layout.{IsCounted};
 ghost use Rattle.brc_table.specs.Views.{holds};
 ghost use Rattle.brc_table.specs.KnownWords.{KnowsCell};
-ghost use Rattle.brc_soak_tests.specs.Ready.{IsResting, Tells, IsWhole, counted, with_found};
+ghost use Rattle.brc_fixtures.specs.Resting.{IsAtRest};
+ghost use Rattle.brc_soak_tests.specs.Ready.{Tells, IsWhole, counted, with_found};
 
 use crate::ledger::Ledger;
+use brc_fixtures::{locks, unlocks};
 use brc_heap::{Hand, Heap};
 use brc_host::FakeResource;
 use brc_list::Lists;
@@ -22,27 +24,6 @@ pub enum Swapped {
     NoCell,
     /// What the cell had before the swap, as the hand has read it, and what the swap has found there.
     Done(Option<u32>, Option<u32>),
-}
-
-/// Tries to lock an object. Returns whether the hand has locked it.
-fn locks(heap: &Heap<FakeResource>, hand: &mut Hand<FakeResource>, row: u32) -> bool
-    requires resting { IsResting heap.now hand.old None }
-    requires counted { IsCounted heap.now.layout row }
-    requires held { 1 ≤ holds hand.old.view row }
-    ensures resting { IsResting heap.now hand.new (if result then Some row else None) }
-    ensures references { hand.new.view.references ≡ hand.old.view.references }
-{
-    Lists::new(heap).try_lock(hand, row)
-}
-
-/// Unlocks the object.
-fn unlocks(heap: &Heap<FakeResource>, hand: &mut Hand<FakeResource>, row: u32)
-    requires resting { IsResting heap.now hand.old (Some row) }
-    requires held { 1 ≤ holds hand.old.view row }
-    ensures resting { IsResting heap.now hand.new None }
-    ensures references { hand.new.view.references ≡ hand.old.view.references }
-{
-    Lists::new(heap).unlock(hand, row);
 }
 
 /// Counts the reference to what was in a cell. Row 0 has no object.
@@ -65,9 +46,9 @@ fn reads(
     list: u32,
     cell: u32,
 ) -> Option<Option<u32>>
-    requires resting { IsResting heap.now hand.old (Some list) }
+    requires resting { IsAtRest heap.now hand.old (Some list) }
     requires held { 1 ≤ holds hand.old.view list }
-    ensures resting { IsResting heap.now hand.new (Some list) }
+    ensures resting { IsAtRest heap.now hand.new (Some list) }
     ensures references { hand.new.view.references ≡ hand.old.view.references }
     ensures knows { OnSome result (KnowsCell hand.new.view list cell) }
 {
@@ -87,12 +68,12 @@ fn takes_out(
     list: u32,
     cell: u32,
 ) -> Option<u32>
-    requires resting { IsResting heap.now hand.old (Some list) }
+    requires resting { IsAtRest heap.now hand.old (Some list) }
     requires held { 1 ≤ holds hand.old.view list }
     requires tells { Tells ledger.old hand.old.view.references }
     requires few { ledger.old.total + 1 < 2 ^ 32 }
     requires knows { KnowsCell hand.old.view list cell }
-    ensures resting { IsResting heap.now hand.new (Some list) }
+    ensures resting { IsAtRest heap.now hand.new (Some list) }
     ensures held { 1 ≤ holds hand.new.view list }
     ensures tells { Tells ledger.new hand.new.view.references }
 {
@@ -111,7 +92,7 @@ fn puts_in(
     cell: u32,
     item: u32,
 ) -> Option<u32>
-    requires resting { IsResting heap.now hand.old (Some list) }
+    requires resting { IsAtRest heap.now hand.old (Some list) }
     requires held { 1 ≤ holds hand.old.view list }
     requires tells { Tells ledger.old hand.old.view.references }
     requires few { ledger.old.total + 1 < 2 ^ 32 }
@@ -119,7 +100,7 @@ fn puts_in(
     requires item { item ≢ 0 }
     requires some { 1 ≤ counted ledger.old item }
     requires several { item ≡ list → 2 ≤ counted ledger.old item }
-    ensures resting { IsResting heap.now hand.new (Some list) }
+    ensures resting { IsAtRest heap.now hand.new (Some list) }
     ensures held { 1 ≤ holds hand.new.view list }
     ensures tells { Tells ledger.new hand.new.view.references }
 {
@@ -138,11 +119,11 @@ fn swaps_locked(
     cell: u32,
     item: Option<u32>,
 ) -> Swapped
-    requires resting { IsResting heap.now hand.old (Some list) }
+    requires resting { IsAtRest heap.now hand.old (Some list) }
     requires held { 1 ≤ holds hand.old.view list }
     requires tells { Tells ledger.old hand.old.view.references }
     requires few { ledger.old.total + 1 < 2 ^ 32 }
-    ensures resting { IsResting heap.now hand.new (Some list) }
+    ensures resting { IsAtRest heap.now hand.new (Some list) }
     ensures held { 1 ≤ holds hand.new.view list }
     ensures tells { Tells ledger.new hand.new.view.references }
 {
@@ -170,10 +151,10 @@ pub fn swaps(
     cell: u32,
     item: Option<u32>,
 ) -> Swapped
-    requires resting { IsResting heap.now hand.old None }
+    requires resting { IsAtRest heap.now hand.old None }
     requires tells { Tells ledger.old hand.old.view.references }
     requires few { ledger.old.total + 1 < 2 ^ 32 }
-    ensures resting { IsResting heap.now hand.new None }
+    ensures resting { IsAtRest heap.now hand.new None }
     ensures tells { Tells ledger.new hand.new.view.references }
 {
     if list == 0 || ledger.count(list) == 0 {

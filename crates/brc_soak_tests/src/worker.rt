@@ -1,7 +1,8 @@
 //! A worker: it makes random calls, gives up what it holds, and leaves.
 
 ghost use Rattle.std.specs.Prelude.{◌≡◌, ◌<◌, ◌+◌, ◌^◌, None};
-ghost use Rattle.brc_soak_tests.specs.Ready.{IsFresh, IsResting, Tells, fresh-prop};
+ghost use Rattle.brc_fixtures.specs.Resting.{IsAlone, IsAtRest, alone-prop};
+ghost use Rattle.brc_soak_tests.specs.Ready.{Tells};
 
 use crate::calls::{bears, gives_up, leaves, merges, retains};
 use crate::ledger::{Ledger, ROWS};
@@ -32,13 +33,13 @@ pub struct Worker<'a> {
     heap: &'a Heap<FakeResource>,
     hand: Hand<FakeResource>,
     seed: u64,
-    ghost fresh: { IsFresh heap.now hand } by { fresh-prop heap.now hand },
+    ghost fresh: { IsAlone heap.now hand } by { alone-prop heap.now hand },
 }
 
 impl<'a> Worker<'a> {
     /// Returns the worker that has this hand, which was just given out.
     pub fn new(heap: &'a Heap<FakeResource>, hand: Hand<FakeResource>, seed: u64) -> Worker<'a>
-        requires { IsFresh heap.now hand }
+        requires { IsAlone heap.now hand }
     {
         Worker { heap, hand, seed }
     }
@@ -53,10 +54,10 @@ fn bears_any(
     host: &mut FakeHost<'_>,
     random: &mut Xoshiro256PlusPlus,
 )
-    requires resting { IsResting heap.now hand.old None }
+    requires resting { IsAtRest heap.now hand.old None }
     requires tells { Tells ledger.old hand.old.view.references }
     requires few { ledger.old.total + 1 < 2 ^ 32 }
-    ensures resting { IsResting heap.now hand.new None }
+    ensures resting { IsAtRest heap.now hand.new None }
     ensures tells { Tells ledger.new hand.new.view.references }
 {
     if !heap.room(hand) {
@@ -94,10 +95,10 @@ fn swaps_any(
     cell: u32,
     item: Option<u32>,
 )
-    requires resting { IsResting heap.now hand.old None }
+    requires resting { IsAtRest heap.now hand.old None }
     requires tells { Tells ledger.old hand.old.view.references }
     requires few { ledger.old.total + 1 < 2 ^ 32 }
-    ensures resting { IsResting heap.now hand.new None }
+    ensures resting { IsAtRest heap.now hand.new None }
     ensures tells { Tells ledger.new hand.new.view.references }
 {
     match swaps(heap, hand, ledger, list, cell, item) {
@@ -123,9 +124,9 @@ fn gives_up_any<R: Wait>(
     row: u32,
 )
     requires posts { posts.now ≡ heap.now }
-    requires resting { IsResting heap.now hand.old None }
+    requires resting { IsAtRest heap.now hand.old None }
     requires tells { Tells ledger.old hand.old.view.references }
-    ensures resting { IsResting heap.now hand.new None }
+    ensures resting { IsAtRest heap.now hand.new None }
     ensures tells { Tells ledger.new hand.new.view.references }
 {
     if row == ROOT && ledger.count(row) < 2 {
@@ -146,9 +147,9 @@ fn scans<R: Wait>(
     log: &mut Log,
     host: &mut FakeHost<'_>,
 )
-    requires resting { IsResting heap.now hand.old None }
+    requires resting { IsAtRest heap.now hand.old None }
     requires tells { Tells ledger.now hand.old.view.references }
-    ensures resting { IsResting heap.now hand.new None }
+    ensures resting { IsAtRest heap.now hand.new None }
     ensures tells { Tells ledger.now hand.new.view.references }
 {
     if let Some(failed) = merges(rt, heap, hand, ledger, host) {
@@ -169,9 +170,9 @@ fn calls_any<R: Wait>(
     random: &mut Xoshiro256PlusPlus,
 )
     requires posts { posts.now ≡ heap.now }
-    requires resting { IsResting heap.now hand.old None }
+    requires resting { IsAtRest heap.now hand.old None }
     requires tells { Tells ledger.old hand.old.view.references }
-    ensures resting { IsResting heap.now hand.new None }
+    ensures resting { IsAtRest heap.now hand.new None }
     ensures tells { Tells ledger.new hand.new.view.references }
 {
     if ledger.is_full() {
@@ -213,9 +214,9 @@ fn empties<R: Wait>(
     host: &mut FakeHost<'_>,
 )
     requires posts { posts.now ≡ heap.now }
-    requires resting { IsResting heap.now hand.old None }
+    requires resting { IsAtRest heap.now hand.old None }
     requires tells { Tells ledger.old hand.old.view.references }
-    ensures resting { IsResting heap.now hand.new None }
+    ensures resting { IsAtRest heap.now hand.new None }
     ensures tells { Tells ledger.new hand.new.view.references }
 {
     for row in 1..ROWS as u32 {

@@ -1,7 +1,7 @@
 use Rattle.std.proofs.Common.{ℕ, List, ◌∷◌, ◌∙◌, subst}
 use Rattle.std.proofs.lemmas.Bool.{ne_eqb}
 use Rattle.brc_soak_tests.proofs.Counting.{tells_more, tells_equal}
-use Rattle.brc_soak_tests.proofs.Resting.{some_counted, lists_one_more}
+use Rattle.brc_fixtures.proofs.Resting.{some_counted, lists_one_more}
 use Rattle.brc_soak_tests.proofs.calls.retains.Goals as goal
 
 pub returns-clause-tells : goal.returns-clause-tells

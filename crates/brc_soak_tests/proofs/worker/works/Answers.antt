@@ -1,6 +1,6 @@
 use Rattle.std.proofs.Common.{◌∷◌, []}
 use Rattle.brc_model.specs.Layout.{root_row}
-use Rattle.brc_soak_tests.proofs.Resting.{fresh_rests}
+use Rattle.brc_fixtures.proofs.Alone.{alone_rests}
 use Rattle.brc_soak_tests.proofs.Counting.{tells_none, tells_more, tells_whole, tells_equal}
 use Rattle.brc_soak_tests.proofs.worker.works.Goals as goal
 
@@ -11,7 +11,7 @@ more-requires-clause-whole g c =
 
 pub loop-init : goal.loop-init
 loop-init g c = (
-  fresh_rests c.args.worker.fresh,
+  alone_rests c.args.worker.fresh,
   tells_equal c.more.new.self (root_row ∷ []) c.args.worker.hand.view.references
       (tells_more c.new-ledger.result c.more.new.self [] root_row
       (tells_none c.new-ledger.result 66 c.new-ledger.ensures.counts c.new-ledger.ensures.total) c.more.ensures.counts
