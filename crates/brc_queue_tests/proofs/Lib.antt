@@ -4,3 +4,4 @@ pub mod Rows
 pub mod References
 pub mod Between
 pub mod StaticLists
+mod Counting

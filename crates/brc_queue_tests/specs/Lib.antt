@@ -1,3 +1,4 @@
 pub mod Sharing
 pub mod Embedded
 pub mod Modules
+pub mod Ledgers
