@@ -219,10 +219,10 @@ fn what_dies_is_closed(rt: HostRuntime) -> Result<(), Fail> {
     }
     for (plan, [failures, opened, closed, failed_closes]) in PLANS {
         let want = Counts {
-            failures: *failures,
-            opened: *opened,
-            closed: *closed,
-            failed_closes: *failed_closes,
+            failures,
+            opened,
+            closed,
+            failed_closes,
         };
         assert_eq!(rt;
             over_plan(&rt, rt.alloc(), plan)?,

@@ -119,7 +119,7 @@ pub fn over_plan<R: Wait>(rt: &R, alloc: Global, plan: &[u64]) -> Result<Option<
 }
 
 /// Plans, and what each leads to: failures, files that were opened and closed, and failed closes.
-pub const PLANS: &[(&[u64], [u64; 4])] = &[
+pub const PLANS: [(&[u64], [u64; 4]); 10] = [
     (&[0], [1, 0, 0, 0]),
     (&[1], [1, 1, 1, 0]),
     (&[2], [1, 1, 1, 0]),
