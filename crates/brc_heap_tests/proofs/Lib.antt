@@ -1,4 +1,3 @@
 pub mod Readiness
 mod Claiming
 mod Marking
-pub mod PlainModules

@@ -8,16 +8,17 @@ use Rattle.brc_model.specs.declared.duty.Duty.{Duty}
 use Rattle.brc_model.specs.declared.layout.Layout.{Layout}
 use Rattle.brc_model.specs.Layout.{root_row, is_immortal_row}
 use Rattle.brc_table.specs.declared.view.View.{View}
-use Rattle.brc_table.specs.Views.{holds, work_about, open_work, with_reference, without_reference, without_one, main_view, worker_view, next_row}
-use Rattle.brc_heap_tests.specs.Modules.{plain_layout}
+use Rattle.brc_table.specs.Views.{holds, work_about, open_work, with_reference, without_reference, without_one, next_row}
 use Rattle.brc_model.specs.OpenWork.{is_about}
 use Rattle.std.specs.List.{filter}
 use Rattle.brc_table.specs.Hands.{TableState, HandState, IsOf, IsRunning, HoldsOne, Borrows, KeepsLock, MayWait, carried_place, CarriesNothing, most_references}
 use Rattle.brc_table.specs.Calls.{CanAct}
-use Rattle.brc_heap.specs.Calls.{Leaves, HasGiven, HasBorn}
+use Rattle.brc_heap.specs.Calls.{Leaves, HasBorn}
 use Rattle.brc_heap.proofs.Leaving.{leaves_then}
 use Rattle.brc_heap.proofs.Borrowing.{borrows_still}
-use Rattle.brc_heap_tests.specs.Ready.{IsReady, IsReadyAt, IsAlone, IsResting}
+use Rattle.brc_fixtures.specs.Resting.{IsAlone}
+use Rattle.brc_fixtures.proofs.Alone.{alone_work}
+use Rattle.brc_heap_tests.specs.Ready.{IsReady, IsReadyAt, IsResting}
 
 -- What follows from a fact holds where the fact does.
 pub on_some : {A P Q : Type 0} (o : Option A) → (P → Q) → OnSome o P → OnSome o Q
@@ -104,35 +105,7 @@ ready_again ready table leaves same = record {
 
 -- ---- one reference, to the root
 
--- Main's hand has nothing to do at first, and holds the root,
-pub main_alone : {heap : TableState} {main : HandState} {layout : Layout} → IsOf heap main
-    → main.view ≡ main_view layout → IsAlone heap main
-main_alone table is = record {
-  table = table;
-  status = ap (λ (v : View). v.actor.status) is;
-  agenda = ap (λ (v : View). v.actor.agenda) is;
-  aside = ap (λ (v : View). v.actor.aside) is;
-  references = ap (λ (v : View). v.references) is;
-  unlocked = ap (λ (v : View). v.actor.locked) is;
-}
-
--- and so does a worker's.
-pub worker_alone : {heap : TableState} {hand : HandState} {thread : ℕ} → IsOf heap hand
-    → hand.view ≡ worker_view heap.layout thread → IsAlone heap hand
-worker_alone table is = record {
-  table = table;
-  status = ap (λ (v : View). v.actor.status) is;
-  agenda = ap (λ (v : View). v.actor.agenda) is;
-  aside = ap (λ (v : View). v.actor.aside) is;
-  references = ap (λ (v : View). v.references) is;
-  unlocked = ap (λ (v : View). v.actor.locked) is;
-}
-
--- Such a hand has no work at all,
-pub alone_work : {heap : TableState} {hand : HandState} → IsAlone heap hand → open_work hand.view ≡ []
-alone_work {heap} {hand} alone = ap (λ (ds : List Duty). ds ++ hand.view.actor.aside) alone.agenda ∙ alone.aside
-
--- is ready to retain and release the root,
+-- A hand with one reference, to the root, and no work is ready to retain and release the root,
 pub ready_alone : {heap : TableState} {hand : HandState} → IsAlone heap hand → IsReady heap hand
 ready_alone {heap} {hand} alone = record {
   table = alone.table;
@@ -147,7 +120,7 @@ ready_alone {heap} {hand} alone = record {
   unlocked = alone.unlocked;
 }
 
--- has locked nothing,
+-- rests,
 pub resting_alone : {heap : TableState} {hand : HandState} → IsAlone heap hand → IsResting heap hand None
 resting_alone alone = record {
   table = alone.table;
@@ -158,19 +131,7 @@ resting_alone alone = record {
   returned = tt;
 }
 
--- Main's hand is as before after it has given out a worker's,
-pub alone_after_giving : {heap : TableState} {before after : HandState} {thread : ℕ} → IsAlone heap before
-    → IsOf heap after → HasGiven thread before.view after.view → IsAlone heap after
-alone_after_giving alone table gives = record {
-  table = table;
-  status = gives.keeps.status ∙ alone.status;
-  agenda = gives.agenda;
-  aside = gives.keeps.aside ∙ alone_work alone;
-  references = gives.keeps.references ∙ alone.references;
-  unlocked = gives.keeps.locked ∙ alone.unlocked;
-}
-
--- and any hand after a call that leaves nothing to do, and the same references.
+-- and is as before after a call that leaves nothing to do, and the same references.
 pub alone_again : {heap : TableState} {before after : HandState} {x : ℕ} → IsAlone heap before → IsOf heap after
     → Leaves x [] before.view after.view → after.view.references ≡ before.view.references → IsAlone heap after
 alone_again {heap} {before} {after} {x} alone table leaves same = record {
@@ -180,6 +141,7 @@ alone_again {heap} {before} {after} {x} alone table leaves same = record {
   aside = leaves.keeps.aside ∙ ap (filter (λ (d : Duty). not (is_about x d))) (alone_work alone);
   references = same ∙ alone.references;
   unlocked = leaves.keeps.locked ∙ alone.unlocked;
+  no_lists = alone.no_lists;
 }
 
 -- Work about another row is as it was.

@@ -1,21 +1,16 @@
 //! Hands that retain and release the root.
 
-ghost use Rattle.std.specs.Prelude.{◌≡◌, ◌<◌, ◌≤◌, [], ◌∷◌, IfOk, OnOk, OnSome};
+ghost use Rattle.std.specs.Prelude.{◌≡◌, [], ◌∷◌, OnSome};
 ghost use Rattle.brc_model.specs.declared.duty.Reason.TheVariants.{Own};
 ghost use Rattle.brc_model.specs.declared.duty.Duty.TheVariants.{SharedLoad};
 ghost use Rattle.brc_model.specs.Layout.{root_row};
-ghost use Rattle.brc_model.specs.Limits.{worker_limit, row_limit};
-ghost use Rattle.brc_table.specs.Views.{work_about, without_reference, worker_view};
-ghost use Rattle.brc_table.specs.Hands.{IsOf, IsRunning, HoldsOne, KeepsLock, HasNoWork, CarriesNothing};
+ghost use Rattle.brc_table.specs.Views.{work_about, without_reference};
+ghost use Rattle.brc_table.specs.Hands.{IsOf, IsRunning, HoldsOne, KeepsLock, HasNoWork};
 ghost use Rattle.brc_table.specs.Calls.{CanAct};
 ghost use Rattle.brc_heap.specs.Calls.{Leaves, shared_left};
-ghost use Rattle.brc_heap_tests.specs.Modules.{plain_layout};
-ghost use Rattle.brc_heap_tests.specs.Ready.{IsReady, IsAlone};
+ghost use Rattle.brc_heap_tests.specs.Ready.{IsReady};
 
-use crate::modules::plain_module;
 use brc_heap::{Hand, Heap, LocalRelease, SharedRelease};
-use std::alloc::Global;
-use std::test::*;
 
 /// The row of none, which is immortal.
 pub const NONE: u32 = 0;
@@ -25,33 +20,6 @@ pub const ROOT: u32 = 1;
 
 /// More tries than a release through the shared word takes.
 const TRIES: u32 = 100_000_000;
-
-/// Returns a heap, and main's hand.
-#[tactic(auto, using(crate::proofs::Readiness::main_alone, crate::proofs::PlainModules::has_no_lines))]
-pub fn opened(alloc: Global, workers: u8, rows: u16) -> Result<(Heap<u32>, Hand<u32>), Fail>
-    requires workers { (0 < workers) × (workers ≤ worker_limit) }
-    requires rows { (0 < rows) × (rows ≤ row_limit) }
-    ensures layout { IfOk result (λ made. made.0.layout ≡ plain_layout workers rows) }
-    ensures alone { IfOk result (λ made. IsAlone made.0 made.1) }
-    ensures main { IfOk result (λ made. made.1.view.thread ≡ 0) }
-{
-    let plain = plain_module(alloc);
-    Ok(Heap::new(alloc, workers, rows, &plain)?)
-}
-
-/// Gives out the worker's hand. Main's hand is as before.
-#[tactic(auto, using(crate::proofs::Readiness::alone_after_giving, crate::proofs::Readiness::worker_alone))]
-pub fn worker(heap: &Heap<u32>, main: &mut Hand<u32>, thread: u8) -> Result<Hand<u32>, Fail>
-    requires alone { IsAlone heap.now main.old }
-    requires main { main.old.view.thread ≡ 0 }
-    ensures view { IfOk result (λ hand. hand.view ≡ worker_view heap.now.layout thread) }
-    ensures worker { IfOk result (λ hand. IsAlone heap.now hand) }
-    ensures none { IfOk result CarriesNothing }
-    ensures alone { OnOk result (IsAlone heap.now main.new) }
-    ensures main { OnOk result (main.new.view.thread ≡ 0) }
-{
-    Ok(heap.hand_out(main, thread)?)
-}
 
 /// Tries to release the root through its shared word, until no other thread changes the word in between.
 pub fn release_shared(heap: &Heap<u32>, hand: &mut Hand<u32>) -> SharedRelease

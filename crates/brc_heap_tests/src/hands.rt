@@ -1,16 +1,23 @@
 //! Hands that are given out once each.
 
 ghost use Rattle.std.specs.Prelude.{◌≡◌, true};
-ghost use Rattle.brc_heap_tests.specs.Ready.{IsAlone};
+ghost use Rattle.brc_table.specs.Hands.{IsOf};
+ghost use Rattle.brc_fixtures.specs.Modules.{plain_layout};
+ghost use Rattle.brc_fixtures.specs.Resting.{IsAlone};
 
-use crate::calls::{opened, retain_and_release, worker};
-use crate::modules::plain_module;
+use crate::calls::{ROOT, retain_and_release};
+use brc_fixtures::{hand_of, opened};
 use brc_heap::{Hand, Heap, LocalRelease};
+use brc_word::{kind_argument, kind_number};
 use std::alloc::Global;
+use std::process::Abort;
 use std::test::*;
 
-/// The most rows of a worker.
-const MOST_ROWS: u16 = 1024;
+/// The number of the kind list.
+const LIST: u32 = 3;
+
+/// The cells of the root.
+const CELLS: u32 = 8;
 
 /// Asks for the worker's hand. Returns whether it is refused; main's hand is then as before.
 fn refuses(heap: &Heap<u32>, main: &mut Hand<u32>, thread: u8) -> bool
@@ -18,60 +25,91 @@ fn refuses(heap: &Heap<u32>, main: &mut Hand<u32>, thread: u8) -> bool
     requires main { main.old.view.thread ≡ 0 }
     ensures same { result ≡ true → main.new ≡ main.old }
 {
-    heap.hand_out(main, thread).is_err()
+    hand_of(heap, main, thread).is_err()
 }
 
-#[test]
-fn taken(rt: HostRuntime) -> Result<(), Fail> {
-    let (heap, mut main) = opened(rt.alloc(), 2, 1)?;
-    let _hand = worker(&heap, &mut main, 1)?;
-    assert!(rt; refuses(&heap, &mut main, 0));
-    assert!(rt; refuses(&heap, &mut main, 1));
-    assert!(rt; refuses(&heap, &mut main, 3));
-    let _other = worker(&heap, &mut main, 2)?;
+/// Asserts that main, worker 1, which has its hand, and worker 3 of two are refused a hand.
+fn others_are_refused<R: Abort>(rt: &R, heap: &Heap<u32>, main: &mut Hand<u32>)
+    requires alone { IsAlone heap.now main.old }
+    requires main { main.old.view.thread ≡ 0 }
+    ensures alone { IsAlone heap.now main.new }
+    ensures main { main.new.view.thread ≡ 0 }
+{
+    assert!(rt; refuses(heap, main, 0));
+    assert!(rt; refuses(heap, main, 1));
+    assert!(rt; refuses(heap, main, 3));
+}
+
+/// Asserts that each hand is given out once.
+pub fn hands_are_taken<R: Abort>(rt: &R, alloc: Global) -> Result<(), Fail> {
+    let (heap, mut main) = opened(alloc, 2, 1)?;
+    let _hand = hand_of(&heap, &mut main, 1)?;
+    others_are_refused(rt, &heap, &mut main);
+    let _other = hand_of(&heap, &mut main, 2)?;
     let kept = retain_and_release(&heap, &mut main);
     assert_eq!(rt; kept, Some(LocalRelease::Kept));
     Ok(())
 }
 
-#[test]
-fn running_threads_keep_the_heap(rt: HostRuntime) -> Result<(), Fail> {
-    let (heap, mut main) = opened(rt.alloc(), 2, 1)?;
-    let hand = worker(&heap, &mut main, 1)?;
-    drop(hand);
+/// Tries to end the heap. Returns whether worker 1 has its hand, or `None` if the heap ends.
+fn is_given_one(heap: Heap<u32>, main: Hand<u32>) -> Option<bool>
+    requires table { IsOf heap main }
+    requires main { main.view.thread ≡ 0 }
+{
     match heap.finish(main) {
-        Ok(_) => assert!(rt; false, "a heap ends while main runs"),
-        Err(back) => assert!(rt; back.main.has_given(1)),
+        Ok(_) => None,
+        Err(back) => Some(back.main.has_given(1)),
     }
+}
+
+/// Asserts that a heap doesn't end while main runs, after a worker's hand was given out and dropped.
+pub fn running_threads_keep_the_heap<R: Abort>(rt: &R, alloc: Global) -> Result<(), Fail> {
+    let (heap, mut main) = opened(alloc, 2, 1)?;
+    drop(hand_of(&heap, &mut main, 1)?);
+    assert_eq!(rt; is_given_one(heap, main), Some(true));
     Ok(())
 }
 
-/// Returns how many mark words a heap of four workers with these rows has, or `None` if there is no such heap.
-fn mark_words(alloc: Global, rows: u16) -> Result<Option<usize>, Fail> {
-    if rows == 0 || rows > MOST_ROWS {
-        return Ok(None);
+/// Returns the second row of main's block, or `None` if main hasn't used it.
+fn second_row(heap: &Heap<u32>, main: &Hand<u32>) -> Option<u32>
+    requires table { IsOf heap.now main.now }
+{
+    if main.used() > 1 {
+        Some(heap.words().own_row(main, 1))
+    } else {
+        None
     }
-    let (heap, _main) = opened(alloc, 4, rows)?;
-    Ok(Some(heap.words().mark_words()))
 }
 
-// Main's block has one mark word, and each worker's block has one for every 64 rows that it begins.
-#[test]
-fn mark_words_of_four_workers(rt: HostRuntime) -> Result<(), Fail> {
-    for (rows, words) in [(64, 5), (65, 9), (130, 13), (1024, 65)] {
-        let found = mark_words(rt.alloc(), rows)?;
-        assert_eq!(rt; found, Some(words), "{rows} rows");
-    }
+/// Asserts what main finds out before a hand is given out.
+fn main_finds<R: Abort>(rt: &R, heap: &Heap<u32>, main: &mut Hand<u32>)
+    requires layout { heap.now.layout ≡ plain_layout 2 1 }
+    requires alone { IsAlone heap.now main.old }
+    requires main { main.old.view.thread ≡ 0 }
+    ensures table { IsOf heap.now main.new }
+    ensures main { main.new.view.thread ≡ 0 }
+{
+    let word = heap.words().kind_load(main, ROOT);
+    assert_eq!(rt; kind_number(word), LIST);
+    assert_eq!(rt; kind_argument(word), CELLS);
+    assert_eq!(rt; main.head(), 0);
+    assert_eq!(rt; second_row(heap, main), Some(ROOT));
+    assert_eq!(rt; heap.words().mark_claim(main, ROOT), 0);
+}
+
+/// Asserts what main finds out before a hand is given out, and that the heap doesn't end.
+pub fn main_at_first<R: Abort>(rt: &R, alloc: Global) -> Result<(), Fail> {
+    let (heap, mut main) = opened(alloc, 2, 1)?;
+    main_finds(rt, &heap, &mut main);
+    assert_eq!(rt; is_given_one(heap, main), Some(false));
     Ok(())
 }
 
 // Under `rt try --test --fail-alloc N` the Nth allocation fails. A heap of 32 workers makes 37: for its first words,
 // the list of spares, what each of 33 hands carries, and the words and slots of its table.
 #[test]
-#[tactic(auto, using(crate::proofs::PlainModules::has_no_lines))]
 fn no_memory(rt: HostRuntime) -> Result<(), Fail> {
-    let plain = plain_module(rt.alloc());
-    match Heap::<u32>::new(rt.alloc(), 32, 1024, &plain) {
+    match opened::<u32>(rt.alloc(), 32, 1024) {
         Ok((heap, main)) => assert_eq!(rt; heap.words().workers(), 32),
         Err(error) => assert_eq!(rt; format!(in rt.alloc(); "{error}")?.as_str(), "no memory"),
     }

@@ -14,8 +14,8 @@ mod kinds;
 #[cfg(test)]
 mod lists;
 #[cfg(test)]
-mod modules;
-#[cfg(test)]
 mod queue;
+#[cfg(test)]
+mod scenarios;
 #[cfg(test)]
 mod threads;

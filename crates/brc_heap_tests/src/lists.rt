@@ -2,13 +2,16 @@
 
 ghost use Rattle.std.specs.Prelude.{◌≡◌, ◌<◌, ◌≤◌, None, Some, if◌then◌else◌, length};
 ghost use Rattle.brc_model.specs.Layout.{root_row};
-ghost use Rattle.brc_table.specs.Views.{next_row};
+ghost use Rattle.brc_table.specs.Views.{next_row, worker_view};
+ghost use Rattle.brc_fixtures.specs.Modules.{plain_layout};
+ghost use Rattle.brc_fixtures.specs.Resting.{IsAlone};
 ghost use Rattle.brc_heap_tests.specs.Ready.{IsResting};
 
-use crate::calls::{ROOT, opened, worker};
+use crate::calls::ROOT;
 use brc_heap::{Hand, Heap};
 use brc_lang::Kind;
 use brc_list::Lists;
+use std::process::Abort;
 use std::test::*;
 
 /// The cells of the root.
@@ -93,35 +96,44 @@ fn borrowed(heap: &Heap<u32>, hand: &mut Hand<u32>) -> Option<(Kind, u32)>
     }
 }
 
-#[test]
-fn a_locked_list_has_its_items(rt: HostRuntime) -> Result<(), Fail> {
-    let (heap, mut main) = opened(rt.alloc(), 2, 1)?;
-    let mut one = worker(&heap, &mut main, 1)?;
-    let mut other = worker(&heap, &mut main, 2)?;
-    let first = locks(&heap, &mut one);
+/// Asserts that one hand at a time locks a list, and what its cells have.
+#[tactic(auto, using(crate::proofs::Readiness::resting_alone))]
+pub fn locked_lists_have_their_items<R: Abort>(
+    rt: &R,
+    heap: &Heap<u32>,
+    one: &mut Hand<u32>,
+    other: &mut Hand<u32>,
+)
+    requires layout { heap.now.layout ≡ plain_layout 2 1 }
+    requires view { one.old.view ≡ worker_view heap.now.layout 1 }
+    requires one { IsAlone heap.now one.old }
+    requires other { IsAlone heap.now other.old }
+{
+    let first = locks(heap, one);
     assert!(rt; first);
-    let meanwhile = locks(&heap, &mut other);
+    let meanwhile = locks(heap, other);
     assert!(rt; !meanwhile);
-    unlocks(&heap, &mut one);
-    let second = locks(&heap, &mut other);
+    unlocks(heap, one);
+    let second = locks(heap, other);
     assert!(rt; second);
-    unlocks(&heap, &mut other);
-    let again = locks(&heap, &mut one);
+    unlocks(heap, other);
+    let again = locks(heap, one);
     assert!(rt; again);
-    assert_eq!(rt; items(&heap, &mut one), Some([None, None]));
+    assert_eq!(rt; items(heap, one), Some([None, None]));
     assert_eq!(rt;
-        put_and_taken(&heap, &mut one),
+        put_and_taken(heap, one),
         Some([None, Some(2), Some(2), None])
     );
-    Ok(())
 }
 
-#[test]
-fn a_borrowed_number_has_its_value(rt: HostRuntime) -> Result<(), Fail> {
-    let (heap, mut main) = opened(rt.alloc(), 1, 1)?;
-    let mut hand = worker(&heap, &mut main, 1)?;
-    let locked = locks(&heap, &mut hand);
+/// Asserts that a number which is borrowed from a cell has its value.
+#[tactic(auto, using(crate::proofs::Readiness::resting_alone))]
+pub fn borrowed_numbers_have_their_values<R: Abort>(rt: &R, heap: &Heap<u32>, hand: &mut Hand<u32>)
+    requires layout { heap.now.layout ≡ plain_layout 1 1 }
+    requires view { hand.old.view ≡ worker_view heap.now.layout 1 }
+    requires alone { IsAlone heap.now hand.old }
+{
+    let locked = locks(heap, hand);
     assert!(rt; locked);
-    assert_eq!(rt; borrowed(&heap, &mut hand), Some((Kind::Num, VALUE)));
-    Ok(())
+    assert_eq!(rt; borrowed(heap, hand), Some((Kind::Num, VALUE)));
 }

@@ -6,13 +6,14 @@ ghost use Rattle.brc_model.specs.Layout.{root_row};
 ghost use Rattle.brc_table.specs.Views.{work_about};
 ghost use Rattle.brc_table.specs.Hands.{IsOf, CarriesNothing};
 ghost use Rattle.brc_table.specs.Calls.{CanAct};
-ghost use Rattle.brc_heap_tests.specs.Ready.{IsAlone};
+ghost use Rattle.brc_fixtures.specs.Resting.{IsAlone};
 
-use crate::calls::{ROOT, opened, retain_and_release, worker};
+use crate::calls::{ROOT, retain_and_release};
 use brc_heap::{Hand, Heap, LocalRelease, MergeStep, SharedRelease, Work};
 use brc_model::{Duty, Reason};
 use brc_queue::{Looked, Queue};
 use brc_word::{Phase, Shared, local_count, pack};
+use std::process::Abort;
 use std::test::*;
 
 /// The word of a running thread.
@@ -148,28 +149,41 @@ fn merges_own(heap: &Heap<u32>, main: &mut Hand<u32>) -> Option<(u32, u64, u64)>
     Some((carried, queued, left))
 }
 
-#[test]
-fn main_runs_when_the_root_is_queued(rt: HostRuntime) -> Result<(), Fail> {
-    let (heap, mut main) = opened(rt.alloc(), 2, 1)?;
-    let mut one = worker(&heap, &mut main, 1)?;
-    let mut other = worker(&heap, &mut main, 2)?;
-    let own = retain_and_release(&heap, &mut main);
-    let shared = retain_and_release(&heap, &mut one);
+/// Asserts that main runs when the root is put into its queue.
+pub fn main_runs_when_the_root_is_queued<R: Abort>(
+    rt: &R,
+    heap: &Heap<u32>,
+    main: &mut Hand<u32>,
+    one: &mut Hand<u32>,
+    other: &mut Hand<u32>,
+)
+    requires main { IsAlone heap.now main.old }
+    requires one { IsAlone heap.now one.old }
+    requires other { IsAlone heap.now other.old }
+{
+    let own = retain_and_release(heap, main);
+    let shared = retain_and_release(heap, one);
     assert_eq!(rt; own, Some(LocalRelease::Kept));
     assert_eq!(rt; shared, Some(LocalRelease::Share));
-    let over = hands_over(&heap, &mut other);
+    let over = hands_over(heap, other);
     assert!(rt; over);
-    assert_eq!(rt; marked(&heap, &mut other), RUNNING);
-    Ok(())
+    assert_eq!(rt; marked(heap, other), RUNNING);
 }
 
-#[test]
-fn the_owner_merges_what_is_in_its_queue(rt: HostRuntime) -> Result<(), Fail> {
-    let (heap, mut main) = opened(rt.alloc(), 1, 1)?;
-    let mut hand = worker(&heap, &mut main, 1)?;
-    let over = hands_over(&heap, &mut hand);
+/// Asserts what the owner finds when it merges the root, which a worker has put into its queue.
+pub fn owners_merge_what_is_in_their_queues<R: Abort>(
+    rt: &R,
+    heap: &Heap<u32>,
+    main: &mut Hand<u32>,
+    hand: &mut Hand<u32>,
+)
+    requires main { IsAlone heap.now main.old }
+    requires thread { main.old.view.thread ≡ 0 }
+    requires hand { IsAlone heap.now hand.old }
+{
+    let over = hands_over(heap, hand);
     assert!(rt; over);
-    assert_eq!(rt; Queue::new(&heap).post(&mut hand, ROOT), Looked::Left);
+    assert_eq!(rt; Queue::new(heap).post(hand, ROOT), Looked::Left);
     let queued = pack(Shared {
         count: 0,
         phase: Phase::Queued,
@@ -178,15 +192,20 @@ fn the_owner_merges_what_is_in_its_queue(rt: HostRuntime) -> Result<(), Fail> {
         count: 2,
         phase: Phase::Merged,
     });
-    assert_eq!(rt; merges_own(&heap, &mut main), Some((2, queued, merged)));
-    Ok(())
+    assert_eq!(rt; merges_own(heap, main), Some((2, queued, merged)));
 }
 
-#[test]
-fn the_poster_merges_for_a_leaving_owner(rt: HostRuntime) -> Result<(), Fail> {
-    let (heap, mut main) = opened(rt.alloc(), 1, 1)?;
-    let mut hand = worker(&heap, &mut main, 1)?;
-    let became = between_mark_and_look(&heap, &mut main, &mut hand);
+/// Asserts that the root dies by a worker that merges it for main, which leaves meanwhile.
+pub fn posters_merge_for_a_leaving_owner<R: Abort>(
+    rt: &R,
+    heap: &Heap<u32>,
+    main: &mut Hand<u32>,
+    hand: &mut Hand<u32>,
+)
+    requires main { IsAlone heap.now main.old }
+    requires hand { IsAlone heap.now hand.old }
+    requires carries { CarriesNothing hand.old }
+{
+    let became = between_mark_and_look(heap, main, hand);
     assert_eq!(rt; became, Some(SharedRelease::Dying));
-    Ok(())
 }

@@ -2,10 +2,12 @@
 //! calls.
 
 ghost use Rattle.std.specs.Prelude.{◌≡◌, true, OnOk};
-ghost use Rattle.brc_heap_tests.specs.Ready.{IsAlone, IsReadyAt, alone-prop};
+ghost use Rattle.brc_fixtures.specs.Resting.{IsAlone, alone-prop};
+ghost use Rattle.brc_heap_tests.specs.Ready.{IsReadyAt};
 
-use crate::calls::{opened, retain_and_release, worker};
+use crate::calls::retain_and_release;
 use crate::lists::{locks, unlocks};
+use brc_fixtures::{hand_of, opened};
 use brc_heap::{Hand, Heap, LocalRelease};
 use brc_lang::Kind;
 use crossbeam_queue::ArrayQueue;
@@ -15,8 +17,11 @@ use std::test::*;
 use std::thread;
 use std::thread::Threads;
 
-/// How many workers count, beside main. The next worker holds the lock.
-const WORKERS: u8 = 4;
+/// The worker that holds the lock.
+const LOCKER: u8 = 1;
+
+/// The last worker. Those behind the locker count, and so does main.
+const LAST: u8 = 5;
 
 /// How often a hand looks for a signal before it misses it.
 const MOST_TURNS: u32 = 100_000_000;
@@ -25,8 +30,8 @@ const MOST_TURNS: u32 = 100_000_000;
 const VALUE: u32 = 7;
 
 /// For each hand, by its thread's number, how often it has retained and released the root, and how often a number of
-/// its own, with a reference left each time. Main has no number.
-type Counts = [[u32; 2]; 5];
+/// its own, with a reference left each time. Main has no number, and the locker doesn't count.
+type Counts = [[u32; 2]; 6];
 
 /// What the hands of a round have done so far.
 #[derive(Drop)]
@@ -105,7 +110,7 @@ fn waits<R: Wait>(rt: &R, signal: &ArrayQueue<()>) -> bool {
 
 /// Waits until all hands but the locker's have counted. Returns whether they have.
 fn waits_for_all<R: Wait>(rt: &R, progress: &Progress) -> bool {
-    for _ in 0..WORKERS + 1 {
+    for _ in 0..LAST {
         if !waits(rt, &progress.done) {
             return false;
         }
@@ -142,8 +147,8 @@ fn crew<'a>(
     ensures alone { OnOk result (IsAlone heap.now main.new) }
 {
     let mut workers = vec![in alloc]?;
-    for thread in 1..WORKERS + 1 {
-        let hand = worker(heap, main, thread)?;
+    for thread in LOCKER + 1..LAST + 1 {
+        let hand = hand_of(heap, main, thread)?;
         workers.push(Worker { heap, hand, times })?;
     }
     Ok(workers)
@@ -159,7 +164,7 @@ fn all_count<R: Threads + Wait + Sync>(
     locker: Option<Worker<'_>>,
 ) -> Result<Option<Counts>, AllocError> {
     let progress = Progress {
-        counts: Mutex::new([[0; 2]; 5]),
+        counts: Mutex::new([[0; 2]; 6]),
         locked: ArrayQueue::new(alloc, 1)?,
         done: ArrayQueue::new(alloc, 5)?,
     };
@@ -195,15 +200,29 @@ fn round<R: Threads + Wait + Sync>(
     locked: bool,
     times: u32,
 ) -> Result<Option<Counts>, Fail> {
-    let (heap, mut main) = opened(alloc, WORKERS + 1, 1)?;
-    let hand = worker(&heap, &mut main, WORKERS + 1)?;
-    let workers = crew(alloc, &heap, &mut main, times)?;
+    let (heap, main) = opened(alloc, LAST, 1)?;
+    round_in(rt, alloc, &heap, main, locked, times)
+}
+
+/// Does what `round` does, with the heap.
+fn round_in<R: Threads + Wait + Sync>(
+    rt: &R,
+    alloc: Global,
+    heap: &Heap<u32>,
+    mut main: Hand<u32>,
+    locked: bool,
+    times: u32,
+) -> Result<Option<Counts>, Fail>
+    requires alone { IsAlone heap.now main }
+    requires main { main.view.thread ≡ 0 }
+{
+    let hand = hand_of(heap, &mut main, LOCKER)?;
+    let workers = crew(alloc, heap, &mut main, times)?;
     let main = Worker {
-        heap: &heap,
+        heap,
         hand: main,
         times,
     };
-    let heap = &heap;
     let locker = if locked {
         Some(Worker { heap, hand, times })
     } else {
@@ -212,12 +231,13 @@ fn round<R: Threads + Wait + Sync>(
     Ok(all_count(rt, alloc, workers, main, locker)?)
 }
 
+// In the last round hand 1 holds the root's lock until the others have made their pairs.
 #[test]
-fn all_hands_count_at_once(rt: HostRuntime) -> Result<(), Fail> {
+fn no_big_lock(rt: HostRuntime) -> Result<(), Fail> {
     for (locked, times) in [(false, 10_000), (true, 1_000)] {
         let counts = round(&rt, rt.alloc(), locked, times)?;
         let both = [times, times];
-        let want = Some([[times, 0], both, both, both, both]);
+        let want = Some([[times, 0], [0, 0], both, both, both, both]);
         assert_eq!(rt; counts, want, "locked: {locked}");
     }
     Ok(())

@@ -16,7 +16,7 @@ use Rattle.brc_heap.specs.Calls.{HasBorn, HasGiven, Leaves}
 use Rattle.brc_list.specs.Calls.{KeepsWork, KeepsButSlot, KeepsBesides, SwapsItem, row_in, word_of}
 use Rattle.brc_free.specs.Works.{HasReleased, HasWorked, ComesToSettle, AtOnce, to_settle}
 use Rattle.brc_heap.specs.Steps as steps
-use Rattle.brc_queue_tests.specs.Resting.{HasBack}
+use Rattle.brc_fixtures.specs.Resting.{HasBack}
 use Rattle.brc_queue_tests.specs.Embedded.{IsResting, Holds}
 use Rattle.brc_queue_tests.proofs.References.{without_with, word_row}
 

@@ -8,7 +8,7 @@ use Rattle.brc_table.specs.Views.{open_work}
 use Rattle.brc_table.specs.Swaps.{with_item}
 use Rattle.brc_table.specs.Hands.{TableState, HandState, IsOf, IsRunning, MayWait}
 use Rattle.brc_list.specs.Calls.{word_of}
-use Rattle.brc_queue_tests.specs.Resting.{HasBack}
+use Rattle.brc_fixtures.specs.Resting.{HasBack}
 
 -- The hand runs, has nothing to do and no dying object, and has locked this row's object, or none. It holds a reference
 -- to the root, one to the item, if there is one, and no other.

@@ -1,4 +1,4 @@
 pub mod Sharing
-pub mod Resting
 pub mod Embedded
 pub mod Modules
+pub mod Ledgers

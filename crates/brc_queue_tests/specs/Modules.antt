@@ -1,17 +1,9 @@
--- The modules whose heaps the tests open.
+-- A module with static lists, whose heaps the tests open.
 use Rattle.std.specs.Prelude.{ℕ, List, [], ◌∷◌}
 use Rattle.brc_lang.specs.declared.module.Module.{Module}
 use Rattle.brc_lang.specs.declared.version.Version.TheVariants as versions
 use Rattle.brc_model.specs.declared.layout.Layout.{Layout}
 use Rattle.brc_model.specs.StepMachine.{layout_of}
-
--- a module of the first version, with no static list. It has no function either, for which no heap asks.
-abbrev pub plain_module : Module
-plain_module = record { version = versions.One; statics = []; functions = [] }
-
--- the layout of its heaps
-abbrev pub plain_layout : ℕ → ℕ → Layout
-plain_layout workers rows = layout_of plain_module workers rows
 
 -- a module of the third version, with two static lists: one of two numbers, and one of one
 abbrev pub static_lines : List (List ℕ)

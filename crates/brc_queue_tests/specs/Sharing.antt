@@ -6,7 +6,7 @@ use Rattle.brc_model.specs.declared.duty.Duty.{Duty}
 use Rattle.brc_model.specs.declared.layout.Layout.{Layout}
 use Rattle.brc_model.specs.Layout.{root_row}
 use Rattle.brc_table.specs.Hands.{TableState, HandState, IsOf, carried_of}
-use Rattle.brc_queue_tests.specs.Modules.{plain_layout}
+use Rattle.brc_fixtures.specs.Modules.{plain_layout}
 
 -- the tests' heaps: two workers with two rows each
 abbrev pub small_layout : Layout

@@ -9,6 +9,7 @@ use brc_heap::{Hand, Heap, LocalRelease, ROOT, SharedRelease, ZeroStep};
 use brc_host::{FakeHost, FakeResource};
 use brc_lang::Kind;
 use brc_list::Lists;
+use std::alloc::Global;
 use std::sync::Wait;
 use std::test::*;
 
@@ -88,11 +89,9 @@ fn borrowed_and_retained<R: Wait>(
         && leaves(rt, heap, main, &mut host)
 }
 
-#[test]
-fn a_borrowed_item_is_retained(rt: HostRuntime) -> Result<(), Fail> {
-    let (heap, mut main, mut one, mut two) = opened(rt.alloc())?;
-    let done = borrowed_and_retained(&rt, &heap, &mut main, &mut one, &mut two);
-    let closed = all_closed(heap, main);
-    assert_eq!(rt; (done, closed), (true, Some(true)));
-    Ok(())
+/// Plays this over a heap of its own. Returns whether each step went so, and whether all objects are closed at the end.
+pub fn borrowed<R: Wait>(rt: &R, alloc: Global) -> Result<(bool, Option<bool>), Fail> {
+    let (heap, mut main, mut one, mut two) = opened(alloc)?;
+    let done = borrowed_and_retained(rt, &heap, &mut main, &mut one, &mut two);
+    Ok((done, all_closed(heap, main)))
 }

@@ -2,9 +2,9 @@
 
 ghost use Rattle.std.specs.Prelude.{◌≡◌, None, [], ◌∷◌, IfSome, OnSome};
 ghost use Rattle.brc_model.specs.Layout.{root_row, IsCounted};
-ghost use Rattle.brc_queue_tests.specs.Resting.{IsAtRest};
+ghost use Rattle.brc_fixtures.specs.Resting.{IsAtRest};
 
-use crate::at_rest::{born, gives_up, locks, puts, unlocks};
+use brc_fixtures::{born, gives_up, locks, puts, unlocks};
 use brc_heap::{Hand, Heap};
 use brc_host::{FakeHost, FakeResource};
 use brc_lang::Kind;
@@ -15,7 +15,7 @@ const LISTS: u32 = 1000;
 
 /// Gives birth to a list, and puts the one that the hand holds into it. Returns the new list's row, or `None` if the
 /// heap has no room for it.
-#[tactic(auto, using(crate::proofs::Resting::holds_first, crate::proofs::Resting::holds_second, crate::proofs::Resting::keeps_other, crate::proofs::Resting::without_second))]
+#[tactic(auto, using(brc_fixtures::proofs::Resting::holds_first, brc_fixtures::proofs::Resting::holds_second, brc_fixtures::proofs::Resting::keeps_other, brc_fixtures::proofs::Resting::without_second))]
 pub fn around(heap: &Heap<FakeResource>, hand: &mut Hand<FakeResource>, inner: u32) -> Option<u32>
     requires resting { IsAtRest heap.now hand.old None }
     requires counted { IsCounted heap.now.layout inner }
@@ -40,7 +40,7 @@ pub fn around(heap: &Heap<FakeResource>, hand: &mut Hand<FakeResource>, inner: u
 
 /// Makes the lists, and gives up the last one. Returns how many closes have failed, or `None` if the heap has no room
 /// for all of them.
-#[tactic(auto, using(crate::proofs::Resting::holds_first, crate::proofs::Resting::without_first))]
+#[tactic(auto, using(brc_fixtures::proofs::Resting::holds_first, brc_fixtures::proofs::Resting::without_first))]
 pub fn chain_of_lists<R: Wait>(
     rt: &R,
     heap: &Heap<FakeResource>,

@@ -3,10 +3,10 @@
 ghost use Rattle.std.specs.Prelude.{◌≡◌, ◌<◌, None, [], ◌∷◌, length, IfSome, OnSome};
 ghost use Rattle.brc_model.specs.Layout.{root_row, IsCounted};
 ghost use Rattle.brc_table.specs.Hands.{most_references};
-ghost use Rattle.brc_queue_tests.specs.Resting.{IsAtRest};
+ghost use Rattle.brc_fixtures.specs.Resting.{IsAtRest};
 
-use crate::at_rest::{born, gives_up, releases, settles};
 use crate::chain::around;
+use brc_fixtures::{born, gives_up, releases, settles};
 use brc_heap::{Hand, Heap};
 use brc_host::{FakeHost, FakeResource};
 use brc_lang::Kind;
@@ -17,7 +17,7 @@ use std::sync::Wait;
 const VALUE: u32 = 7;
 
 /// Returns the kind and the argument of an object, or `None` if it isn't the first one of the hand's dying chain.
-#[tactic(auto, using(crate::proofs::Resting::rests_after_call))]
+#[tactic(auto, using(brc_fixtures::proofs::Resting::rests_after_call))]
 fn asked(heap: &Heap<FakeResource>, hand: &mut Hand<FakeResource>, row: u32) -> Option<(Kind, u32)>
     requires resting { IsAtRest heap.now hand.old None }
     ensures resting { IsAtRest heap.now hand.new None }
@@ -53,7 +53,7 @@ fn first_item(
 
 /// Takes an object out of the first cell of a list. Returns its row, or `None` if the list isn't the first object of
 /// the hand's dying chain, or has nothing there.
-#[tactic(auto, using(crate::proofs::Resting::some_counted, crate::proofs::Resting::lists_one_more))]
+#[tactic(auto, using(brc_fixtures::proofs::Resting::some_counted, brc_fixtures::proofs::Resting::lists_one_more))]
 fn taken_out(heap: &Heap<FakeResource>, hand: &mut Hand<FakeResource>, row: u32) -> Option<u32>
     requires resting { IsAtRest heap.now hand.old None }
     requires few { length hand.old.view.references < most_references }
@@ -88,7 +88,7 @@ pub struct Seen {
 
 /// Lets a list with a number die, takes the number out of it, settles, and gives the number up. Returns what the hand
 /// has seen, or `None` if the heap has no room, or a close has failed.
-#[tactic(auto, using(crate::proofs::Resting::holds_first, crate::proofs::Resting::without_first))]
+#[tactic(auto, using(brc_fixtures::proofs::Resting::holds_first, brc_fixtures::proofs::Resting::without_first))]
 pub fn taken_from_dying<R: Wait>(
     rt: &R,
     heap: &Heap<FakeResource>,

@@ -5,8 +5,8 @@ ghost use Rattle.brc_model.specs.Layout.{root_row};
 ghost use Rattle.brc_table.specs.Hands.{IsOf};
 ghost use Rattle.brc_queue_tests.specs.Embedded.{Holds, holds-prop};
 
-use crate::modules::plain_module;
 use crate::no_files::NoFiles;
+use brc_fixtures::plain_module;
 use brc_free::Finaliser;
 use brc_heap::{Hand, Heap, NoMemory, ROOT, Taken};
 use brc_lang::Kind;
@@ -224,7 +224,7 @@ fn ended(heap: Heap<()>, main: Hand<()>) -> Option<(u32, u32)>
 }
 
 /// Returns a heap for two workers with four rows each, and main's hand.
-#[tactic(auto, using(crate::proofs::PlainModules::has_no_lines))]
+#[tactic(auto, using(brc_fixtures::proofs::PlainModules::has_no_lines))]
 fn opened(alloc: Global) -> Result<(Heap<()>, Hand<()>), NoMemory>
     ensures main { IfOk result (λ made. made.1.view.thread ≡ 0) }
     ensures holds { IfOk result (λ made. Holds made.0 made.1 None) }

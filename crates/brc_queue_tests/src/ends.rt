@@ -3,12 +3,14 @@
 ghost use Rattle.std.specs.Prelude.{◌≡◌, None, [], ◌∷◌, OnSome};
 ghost use Rattle.brc_model.specs.Layout.{root_row};
 ghost use Rattle.brc_table.specs.Hands.{IsOf};
-ghost use Rattle.brc_queue_tests.specs.Resting.{IsAtRest};
+ghost use Rattle.brc_fixtures.specs.Resting.{IsAlone, IsAtRest};
 
-use crate::at_rest::{ended, leaves, opened, worker};
 use crate::chain::chain_of_lists;
 use crate::dying::{Seen, taken_from_dying};
+use crate::files::{Counts, PLANS, over_plan};
 use crate::in_itself::puts_into_itself;
+use crate::second_word::closes;
+use brc_fixtures::{ended, hand_of, leaves, opened};
 use brc_heap::{Final, Hand, Heap};
 use brc_host::{FakeHost, FakeResource};
 use brc_lang::Kind;
@@ -108,30 +110,63 @@ fn ends<R: Wait>(
     read(&ended(rt, back.heap, back.main, host)?)
 }
 
+/// Lets a worker play the scenario and leave. Returns what it has seen of a dying list, or `None` if the heap has no
+/// room, or a close has failed.
+#[tactic(auto, using(brc_fixtures::proofs::Alone::alone_rests))]
+fn played<R: Wait>(
+    rt: &R,
+    heap: &Heap<FakeResource>,
+    main: &mut Hand<FakeResource>,
+    host: &mut FakeHost<'_>,
+    scenario: Scenario,
+) -> Option<Option<Seen>>
+    requires alone { IsAlone heap.now main.old }
+    requires main { main.old.view.thread ≡ 0 }
+    ensures alone { OnSome result (IsAlone heap.now main.new) }
+    ensures main { OnSome result (main.new.view.thread ≡ 0) }
+{
+    let Ok(mut hand) = hand_of(heap, main, 1) else {
+        return None;
+    };
+    let seen = plays(rt, heap, &mut hand, host, scenario)?;
+    match leaves(rt, heap, &mut hand, host) {
+        Some(0) => Some(seen),
+        _ => None,
+    }
+}
+
 /// Lets a worker play the scenario and leave, and ends the heap. Returns what the worker has seen of a dying list, and
 /// what the ended heap tells.
+#[tactic(auto, using(brc_fixtures::proofs::Alone::alone_rests))]
 fn ended_after<R: Wait>(
+    rt: &R,
+    heap: Heap<FakeResource>,
+    mut main: Hand<FakeResource>,
+    scenario: Scenario,
+) -> Option<(Option<Seen>, Answers)>
+    requires alone { IsAlone heap main }
+    requires main { main.view.thread ≡ 0 }
+{
+    let mut host = FakeHost::new(&[]);
+    let seen = played(rt, &heap, &mut main, &mut host, scenario)?;
+    let answers = ends(rt, heap, main, &mut host)?;
+    Some((seen, answers))
+}
+
+/// Opens a heap, lets a worker play the scenario, and ends the heap.
+fn end_after<R: Wait>(
     rt: &R,
     alloc: Global,
     scenario: Scenario,
 ) -> Result<Option<(Option<Seen>, Answers)>, Fail> {
-    let mut host = FakeHost::new(&[]);
-    let (heap, mut main) = opened(alloc, 1000)?;
-    let mut hand = worker(&heap, &mut main)?;
-    let Some(seen) = plays(rt, &heap, &mut hand, &mut host, scenario) else {
-        return Ok(None);
-    };
-    let Some(0) = leaves(rt, &heap, &mut hand, &mut host) else {
-        return Ok(None);
-    };
-    match ends(rt, heap, main, &mut host) {
-        Some(answers) => Ok(Some((seen, answers))),
-        None => Ok(None),
-    }
+    let (heap, main) = opened(alloc, 1, 1000)?;
+    Ok(ended_after(rt, heap, main, scenario))
 }
 
+/// A heap ends with what is left; a file is closed once, whichever calls fail; and the second mark word is looked
+/// through.
 #[test]
-fn a_heap_ends_with_what_is_left(rt: HostRuntime) -> Result<(), Fail> {
+fn what_dies_is_closed(rt: HostRuntime) -> Result<(), Fail> {
     let seen = Seen {
         list: Some((Kind::List, 1)),
         before: Some(Some(2)),
@@ -177,10 +212,27 @@ fn a_heap_ends_with_what_is_left(rt: HostRuntime) -> Result<(), Fail> {
             closed,
         };
         assert_eq!(rt;
-            ended_after(&rt, rt.alloc(), scenario)?,
+            end_after(&rt, rt.alloc(), scenario)?,
             Some((seen, want)),
             "{scenario:?}"
         );
+    }
+    for (plan, [failures, opened, closed, failed_closes]) in PLANS {
+        let want = Counts {
+            failures,
+            opened,
+            closed,
+            failed_closes,
+        };
+        assert_eq!(rt;
+            over_plan(&rt, rt.alloc(), plan)?,
+            Some(want),
+            "plan {plan:?}"
+        );
+    }
+    for leaving in [false, true] {
+        let closed = closes(&rt, rt.alloc(), leaving)?;
+        assert_eq!(rt; closed, Some([0, 1]), "leaving: {leaving}");
     }
     Ok(())
 }

@@ -2,9 +2,9 @@
 
 ghost use Rattle.std.specs.Prelude.{◌≡◌, None, Some, ◌∷◌, IfSome, OnSome};
 ghost use Rattle.brc_model.specs.Layout.{IsCounted};
-ghost use Rattle.brc_queue_tests.specs.Resting.{IsAtRest};
+ghost use Rattle.brc_fixtures.specs.Resting.{IsAlone, IsAtRest};
 
-use crate::at_rest::{gives_up, opened, unlocks, worker};
+use brc_fixtures::{gives_up, hand_of, opened, unlocks};
 use brc_heap::{Hand, Heap};
 use brc_host::{FakeHost, FakeResource, Host};
 use brc_lang::{Kind, Mode};
@@ -21,11 +21,11 @@ const BYTES: u16 = 5;
 
 /// What a plan leads to: the host's counts, and how many closes have failed as the chain was settled.
 #[derive(Clone, Copy, Debug, PartialEq, Eq)]
-struct Counts {
-    failures: u64,
-    opened: u64,
-    closed: u64,
-    failed_closes: u64,
+pub struct Counts {
+    pub failures: u64,
+    pub opened: u64,
+    pub closed: u64,
+    pub failed_closes: u64,
 }
 
 /// Reads from the file that the hand has locked, and writes to it. It reads and writes whichever call fails.
@@ -43,7 +43,7 @@ fn uses(heap: &Heap<FakeResource>, hand: &mut Hand<FakeResource>, host: &mut Fak
 }
 
 /// Gives birth to a file with the resource, and locks it. Returns its row, or `None` if the heap has no room for it.
-#[tactic(auto, using(crate::proofs::Resting::rests_after_birth, crate::proofs::Resting::some_counted, crate::proofs::Resting::holds_first))]
+#[tactic(auto, using(brc_fixtures::proofs::Resting::rests_after_birth, brc_fixtures::proofs::Resting::some_counted, brc_fixtures::proofs::Resting::holds_first))]
 fn locked_file(
     heap: &Heap<FakeResource>,
     hand: &mut Hand<FakeResource>,
@@ -72,7 +72,7 @@ fn locked_file(
 
 /// Opens a file, uses it, and gives it up. Returns how many closes have failed, or `None` if the heap has no room for
 /// the file. If the file can't be opened, there is nothing to close.
-#[tactic(auto, using(crate::proofs::Resting::holds_first))]
+#[tactic(auto, using(brc_fixtures::proofs::Resting::holds_first))]
 fn use_file<R: Wait>(
     rt: &R,
     heap: &Heap<FakeResource>,
@@ -90,49 +90,44 @@ fn use_file<R: Wait>(
     Some(gives_up(rt, heap, hand, host, row))
 }
 
-/// Lets a worker use a file of a host that fails by the plan, which names the calls by number: 0 opens the file, 1
-/// reads, 2 writes and 3 closes.
-fn over_plan<R: Wait>(rt: &R, alloc: Global, plan: &[u64]) -> Result<Option<Counts>, Fail> {
+/// Uses a file of a host that fails by the plan. Returns what the plan leads to.
+#[tactic(auto, using(brc_fixtures::proofs::Alone::alone_rests))]
+fn counted<R: Wait>(
+    rt: &R,
+    heap: &Heap<FakeResource>,
+    hand: &mut Hand<FakeResource>,
+    plan: &[u64],
+) -> Option<Counts>
+    requires alone { IsAlone heap.now hand.old }
+{
     let mut host = FakeHost::new(plan);
-    let (heap, mut main) = opened(alloc, 1)?;
-    let mut hand = worker(&heap, &mut main)?;
-    let Some(failed_closes) = use_file(rt, &heap, &mut hand, &mut host) else {
-        return Ok(None);
-    };
-    Ok(Some(Counts {
+    let failed_closes = use_file(rt, heap, hand, &mut host)?;
+    Some(Counts {
         failures: host.failures(),
         opened: host.opened(),
         closed: host.closed(),
         failed_closes,
-    }))
+    })
 }
 
-#[test]
-fn a_file_is_closed_once_whichever_calls_fail(rt: HostRuntime) -> Result<(), Fail> {
-    let rows: [(&[u64], [u64; 4]); 10] = [
-        (&[0], [1, 0, 0, 0]),
-        (&[1], [1, 1, 1, 0]),
-        (&[2], [1, 1, 1, 0]),
-        (&[3], [1, 1, 1, 1]),
-        (&[0, 1], [1, 0, 0, 0]),
-        (&[0, 2], [1, 0, 0, 0]),
-        (&[0, 3], [1, 0, 0, 0]),
-        (&[1, 2], [2, 1, 1, 0]),
-        (&[1, 3], [2, 1, 1, 1]),
-        (&[2, 3], [2, 1, 1, 1]),
-    ];
-    for (plan, [failures, opened, closed, failed_closes]) in rows {
-        let want = Counts {
-            failures,
-            opened,
-            closed,
-            failed_closes,
-        };
-        assert_eq!(rt;
-            over_plan(&rt, rt.alloc(), plan)?,
-            Some(want),
-            "plan {plan:?}"
-        );
-    }
-    Ok(())
+/// Lets a worker use a file of a host that fails by the plan, which names the calls by number: 0 opens the file, 1
+/// reads, 2 writes and 3 closes.
+pub fn over_plan<R: Wait>(rt: &R, alloc: Global, plan: &[u64]) -> Result<Option<Counts>, Fail> {
+    let (heap, mut main) = opened(alloc, 1, 1)?;
+    let mut hand = hand_of(&heap, &mut main, 1)?;
+    Ok(counted(rt, &heap, &mut hand, plan))
 }
+
+/// Plans, and what each leads to: failures, files that were opened and closed, and failed closes.
+pub const PLANS: [(&[u64], [u64; 4]); 10] = [
+    (&[0], [1, 0, 0, 0]),
+    (&[1], [1, 1, 1, 0]),
+    (&[2], [1, 1, 1, 0]),
+    (&[3], [1, 1, 1, 1]),
+    (&[0, 1], [1, 0, 0, 0]),
+    (&[0, 2], [1, 0, 0, 0]),
+    (&[0, 3], [1, 0, 0, 0]),
+    (&[1, 2], [2, 1, 1, 0]),
+    (&[1, 3], [2, 1, 1, 1]),
+    (&[2, 3], [2, 1, 1, 1]),
+];

@@ -2,9 +2,9 @@
 
 ghost use Rattle.std.specs.Prelude.{◌≡◌, None, [], ◌∷◌, OnSome};
 ghost use Rattle.brc_model.specs.Layout.{root_row};
-ghost use Rattle.brc_queue_tests.specs.Resting.{IsAtRest};
+ghost use Rattle.brc_fixtures.specs.Resting.{IsAtRest};
 
-use crate::at_rest::{born, gives_up, locks, puts, retains, unlocks};
+use brc_fixtures::{born, gives_up, locks, puts, retains, unlocks};
 use brc_heap::{Hand, Heap};
 use brc_host::{FakeHost, FakeResource};
 use brc_lang::Kind;
@@ -12,7 +12,7 @@ use std::sync::Wait;
 
 /// Gives birth to a list, puts it into its own cell, and gives up the other reference to it. Returns how many closes
 /// have failed, or `None` if the heap has no room for the list.
-#[tactic(auto, using(crate::proofs::Resting::holds_first, crate::proofs::Resting::holds_both, crate::proofs::Resting::without_first))]
+#[tactic(auto, using(brc_fixtures::proofs::Resting::holds_first, brc_fixtures::proofs::Resting::holds_both, brc_fixtures::proofs::Resting::without_first))]
 pub fn puts_into_itself<R: Wait>(
     rt: &R,
     heap: &Heap<FakeResource>,

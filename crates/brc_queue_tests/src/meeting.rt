@@ -2,15 +2,17 @@
 
 ghost use Rattle.std.specs.Prelude.{◌≡◌, ◌≢◌, ◌<◌, [], ◌∷◌, true};
 ghost use Rattle.brc_model.specs.Layout.{IsCounted, root_row};
+ghost use Rattle.brc_table.specs.Hands.{IsOf};
 ghost use Rattle.brc_queue_tests.specs.Sharing.{HasWork, HoldsRoot, small_layout, holds-prop};
 
+use crate::borrowed::borrowed;
 use crate::sharing::{ROW, all_closed, bears, leaves, opened, settles, tries_put, tries_take};
 use brc_free::Finaliser;
 use brc_heap::{Hand, Heap};
 use brc_host::{FakeHost, FakeResource};
 use brc_lang::Kind;
 use brc_queue::Queue;
-use std::alloc::AllocError;
+use std::alloc::{AllocError, Global};
 use std::sync::Wait;
 use std::test::*;
 use std::thread;
@@ -117,14 +119,39 @@ pub fn ready<'a>(heap: &'a Heap<FakeResource>, hand: Hand<FakeResource>) -> Work
     Worker { heap, hand }
 }
 
-#[test]
-fn two_workers_post_to_each_other(rt: HostRuntime) -> Result<(), Fail> {
-    let (heap, mut main, one, two) = opened(rt.alloc())?;
+/// Lets the workers exchange their numbers, and main leave. Returns whether all have left.
+fn all_exchange<R: Threads + Wait + Sync>(
+    rt: &R,
+    heap: &Heap<FakeResource>,
+    main: &mut Hand<FakeResource>,
+    one: Hand<FakeResource>,
+    two: Hand<FakeResource>,
+) -> bool
+    requires main { HoldsRoot heap.now main.old }
+    requires one { HoldsRoot heap.now one }
+    requires two { HoldsRoot heap.now two }
+    ensures table { IsOf heap.now main.new }
+    ensures thread { main.new.view.thread ≡ main.old.view.thread }
+{
     let mut host = FakeHost::new(&[]);
-    let done = both_exchange(&rt, ready(&heap, one), ready(&heap, two))?;
-    let left = leaves(&rt, &heap, &mut main, &mut host);
-    let closed = all_closed(heap, main);
-    assert!(rt; done && left);
-    assert_eq!(rt; closed, Some(true));
+    let done = both_exchange(rt, ready(heap, one), ready(heap, two));
+    leaves(rt, heap, main, &mut host) && done.unwrap_or(false)
+}
+
+/// Plays this over a heap of its own. Returns whether all have left, and whether all objects are closed at the end.
+fn exchanged<R: Threads + Wait + Sync>(
+    rt: &R,
+    alloc: Global,
+) -> Result<(bool, Option<bool>), Fail> {
+    let (heap, mut main, one, two) = opened(alloc)?;
+    let done = all_exchange(rt, &heap, &mut main, one, two);
+    Ok((done, all_closed(heap, main)))
+}
+
+/// A borrowed item is retained; and two workers, in threads of their own, post to each other.
+#[test]
+fn what_is_shared_is_closed(rt: HostRuntime) -> Result<(), Fail> {
+    assert_eq!(rt; borrowed(&rt, rt.alloc())?, (true, Some(true)));
+    assert_eq!(rt; exchanged(&rt, rt.alloc())?, (true, Some(true)));
     Ok(())
 }

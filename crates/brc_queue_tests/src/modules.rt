@@ -1,21 +1,10 @@
-//! The modules whose heaps the tests open.
+//! A module with static lists, whose heaps the tests open.
 
 ghost use Rattle.std.specs.Prelude.{◌≡◌, IfOk};
-ghost use Rattle.brc_queue_tests.specs.Modules.{plain_module, static_module};
+ghost use Rattle.brc_queue_tests.specs.Modules.{static_module};
 
 use brc_lang::{Module, Sequence, Version};
 use std::alloc::{AllocError, Global};
-
-/// Returns a module of the first version, which has no static list, and no function either.
-pub fn plain_module(alloc: Global) -> Module
-    ensures { result ≡ plain_module }
-{
-    Module {
-        version: Version::One,
-        statics: Sequence::new(alloc),
-        functions: Sequence::new(alloc),
-    }
-}
 
 /// Returns a module of the third version, with two static lists: one of two numbers, and one of one.
 pub fn static_module(alloc: Global) -> Result<Module, AllocError>

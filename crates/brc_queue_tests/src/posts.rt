@@ -1,35 +1,50 @@
-//! What becomes of an object that a worker posts to its owner, by what the owner does meanwhile.
+//! A queue that counts what a worker puts into it.
 
-use crate::held_post::{Owner, Signals, both_go};
-use crate::meeting::ready;
-use crate::sharing::{all_closed, leaves, opened};
-use brc_heap::{MergeStep, SharedRelease};
-use brc_host::FakeHost;
-use brc_queue::Looked;
-use std::test::*;
+ghost use Rattle.std.specs.Prelude.{◌≡◌};
 
-#[test]
-fn objects_that_are_posted_die(rt: HostRuntime) -> Result<(), Fail> {
-    let dying = Some((MergeStep::Kept, SharedRelease::Dying));
-    let kept = Some((MergeStep::Kept, SharedRelease::Kept));
-    let rows = [
-        (Owner::LeavesLate, 0, (Looked::Left, None)),
-        (Owner::Leaves, 0, (Looked::Claimed, dying)),
-        (Owner::LeavesTheItem, 0, (Looked::Claimed, kept)),
-        (Owner::Stays, 1, (Looked::Left, None)),
-    ];
-    for (owner, files, want) in rows {
-        let (heap, mut main, one, two) = opened(rt.alloc())?;
-        let mut host = FakeHost::new(&[]);
-        let between = Signals::new(rt.alloc())?;
-        let found = both_go(&rt, ready(&heap, one), ready(&heap, two), &between, owner)?;
-        let left = leaves(&rt, &heap, &mut main, &mut host);
-        let closed = all_closed(heap, main);
-        assert_eq!(rt;
-            (found, left, closed),
-            ((Some(files), Some(want)), true, Some(true)),
-            "the owner: {owner:?}"
-        );
+use brc_heap::{Hand, Heap, Looked, Marker};
+use brc_host::FakeResource;
+use brc_queue::Queue;
+use std::marker::Model;
+use std::sync::atomic::{AtomicU64, Ordering};
+
+/// The queues of a heap's threads, with how many objects were put there by this value.
+#[derive(Drop)]
+pub struct Posts<'h> {
+    queue: Queue<'h, FakeResource>,
+    posts: AtomicU64,
+}
+
+impl<'h> Model for Posts<'h> {
+    ghost use Rattle.brc_table.specs.Hands.{TableState};
+
+    ghost Value = { TableState };
+
+    ghost view = { λ posts. posts.queue };
+}
+
+impl<'h> Posts<'h> {
+    /// Returns the queues of the heap's threads.
+    pub fn new(heap: &'h Heap<FakeResource>) -> Posts<'h>
+        ensures { result ≡ heap.now }
+    {
+        Posts {
+            queue: Queue::new(heap),
+            posts: AtomicU64::new(0),
+        }
     }
-    Ok(())
+
+    /// Returns how many objects were put into their owners' queues.
+    pub fn count(&self) -> u64 {
+        self.posts.load(Ordering::SeqCst)
+    }
+}
+
+impl<'h> Marker<FakeResource> for Posts<'h> {
+    ghost heap = { λ posts. posts };
+
+    fn post(&self, hand: &mut Hand<FakeResource>, row: u32) -> Looked {
+        self.posts.fetch_add(1, Ordering::SeqCst);
+        Marker::post(&self.queue, hand, row)
+    }
 }

@@ -2,14 +2,13 @@
 
 ghost use Rattle.std.specs.Prelude.{◌≡◌, None, [], ◌∷◌, IfSome, OnSome};
 ghost use Rattle.brc_model.specs.Layout.{root_row, IsCounted};
-ghost use Rattle.brc_queue_tests.specs.Resting.{IsAtRest};
+ghost use Rattle.brc_fixtures.specs.Resting.{IsAlone, IsAtRest};
 
-use crate::at_rest::{born, gives_up, leaves, locks, opened, puts, unlocks, worker};
+use brc_fixtures::{born, gives_up, hand_of, leaves, locks, looks_through, opened, puts, unlocks};
 use brc_heap::{Hand, Heap, ROOT};
 use brc_host::{FakeHost, FakeResource, Host};
 use brc_lang::{Kind, Mode};
 use brc_list::Lists;
-use brc_queue::Queue;
 use std::alloc::Global;
 use std::sync::Wait;
 use std::test::*;
@@ -28,7 +27,7 @@ const VALUE: u32 = 7;
 
 /// Uses the rows of the first mark word: gives birth to a number in each, which dies at once. Returns `None` if the
 /// block has no room for the numbers, or a close has failed.
-#[tactic(auto, using(crate::proofs::Resting::holds_first, crate::proofs::Resting::without_first))]
+#[tactic(auto, using(brc_fixtures::proofs::Resting::holds_first, brc_fixtures::proofs::Resting::without_first))]
 fn fills_first_word<R: Wait>(
     rt: &R,
     heap: &Heap<FakeResource>,
@@ -50,7 +49,7 @@ fn fills_first_word<R: Wait>(
 }
 
 /// Gives birth to a file of this host. Returns its row, or `None` if the block has no room for it.
-#[tactic(auto, using(crate::proofs::Resting::rests_after_birth, crate::proofs::Resting::some_counted))]
+#[tactic(auto, using(brc_fixtures::proofs::Resting::rests_after_birth, brc_fixtures::proofs::Resting::some_counted))]
 fn file_born(
     heap: &Heap<FakeResource>,
     hand: &mut Hand<FakeResource>,
@@ -76,7 +75,7 @@ fn file_born(
 }
 
 /// Puts a new file into the root. Returns its row, or `None` if the file isn't there.
-#[tactic(auto, using(crate::proofs::Resting::holds_first, crate::proofs::Resting::holds_second, crate::proofs::Resting::keeps_other, crate::proofs::Resting::without_first, crate::proofs::References::root_counted))]
+#[tactic(auto, using(brc_fixtures::proofs::Resting::holds_first, brc_fixtures::proofs::Resting::holds_second, brc_fixtures::proofs::Resting::keeps_other, brc_fixtures::proofs::Resting::without_first, crate::proofs::References::root_counted))]
 fn shares(
     heap: &Heap<FakeResource>,
     hand: &mut Hand<FakeResource>,
@@ -102,7 +101,7 @@ fn shares(
 }
 
 /// Takes the object out of the root, with the cell's reference. Returns its row, or `None` if the root has none.
-#[tactic(auto, using(crate::proofs::Resting::holds_first, crate::proofs::Resting::holds_second, crate::proofs::Resting::some_counted, crate::proofs::Resting::lists_one_more, crate::proofs::References::root_counted))]
+#[tactic(auto, using(brc_fixtures::proofs::Resting::holds_first, brc_fixtures::proofs::Resting::holds_second, brc_fixtures::proofs::Resting::some_counted, brc_fixtures::proofs::Resting::lists_one_more, crate::proofs::References::root_counted))]
 fn takes(heap: &Heap<FakeResource>, hand: &mut Hand<FakeResource>) -> Option<u32>
     requires resting { IsAtRest heap.now hand.old None }
     requires references { hand.old.view.references ≡ root_row ∷ [] }
@@ -126,28 +125,9 @@ fn takes(heap: &Heap<FakeResource>, hand: &mut Hand<FakeResource>) -> Option<u32
     Some(item)
 }
 
-/// Looks through the hand's own queue. Returns how many closes have failed, or `None` if the hand's dying chain isn't
-/// empty.
-#[tactic(auto, using(crate::proofs::Resting::rests_while_free, crate::proofs::Resting::free_at_rest))]
-fn looks_through<R: Wait>(
-    rt: &R,
-    heap: &Heap<FakeResource>,
-    hand: &mut Hand<FakeResource>,
-    host: &mut FakeHost<'_>,
-) -> Option<u64>
-    requires resting { IsAtRest heap.now hand.old None }
-    ensures resting { OnSome result (IsAtRest heap.now hand.new None) }
-    ensures references { OnSome result (hand.new.view.references ≡ hand.old.view.references) }
-{
-    if hand.head() != 0 {
-        return None;
-    }
-    Some(Queue::new(heap).merge_pending(rt, hand, host))
-}
-
 /// Lets the worker share a file whose mark is in the second mark word, and main give the file up, so that it is in the
 /// worker's queue. Returns `None` if one of the steps doesn't go so.
-#[tactic(auto, using(crate::proofs::Resting::holds_first, crate::proofs::Resting::without_first))]
+#[tactic(auto, using(brc_fixtures::proofs::Resting::holds_first, brc_fixtures::proofs::Resting::without_first))]
 fn queues<R: Wait>(
     rt: &R,
     heap: &Heap<FakeResource>,
@@ -197,25 +177,27 @@ fn merges<R: Wait>(
 }
 
 /// Returns how many files are closed once the file is in the worker's queue, and once the worker has merged it.
-fn closes<R: Wait>(rt: &R, alloc: Global, leaving: bool) -> Result<Option<[u64; 2]>, Fail> {
+#[tactic(auto, using(brc_fixtures::proofs::Alone::alone_rests))]
+fn closed<R: Wait>(
+    rt: &R,
+    heap: &Heap<FakeResource>,
+    main: &mut Hand<FakeResource>,
+    hand: &mut Hand<FakeResource>,
+    leaving: bool,
+) -> Option<[u64; 2]>
+    requires main { IsAlone heap.now main.old }
+    requires alone { IsAlone heap.now hand.old }
+{
     let mut host = FakeHost::new(&[]);
-    let (heap, mut main) = opened(alloc, ROWS)?;
-    let mut hand = worker(&heap, &mut main)?;
-    let Some(()) = queues(rt, &heap, &mut main, &mut hand, &mut host) else {
-        return Ok(None);
-    };
+    queues(rt, heap, main, hand, &mut host)?;
     let before = host.closed();
-    match merges(rt, &heap, &mut hand, &mut host, leaving) {
-        Some(after) => Ok(Some([before, after])),
-        None => Ok(None),
-    }
+    let after = merges(rt, heap, hand, &mut host, leaving)?;
+    Some([before, after])
 }
 
-#[test]
-fn the_second_mark_word_is_looked_through(rt: HostRuntime) -> Result<(), Fail> {
-    for leaving in [false, true] {
-        let closed = closes(&rt, rt.alloc(), leaving)?;
-        assert_eq!(rt; closed, Some([0, 1]), "leaving: {leaving}");
-    }
-    Ok(())
+/// Opens a heap whose worker has a second mark word, and returns how many files are closed, as `closed` does.
+pub fn closes<R: Wait>(rt: &R, alloc: Global, leaving: bool) -> Result<Option<[u64; 2]>, Fail> {
+    let (heap, mut main) = opened(alloc, 1, ROWS)?;
+    let mut hand = hand_of(&heap, &mut main, 1)?;
+    Ok(closed(rt, &heap, &mut main, &mut hand, leaving))
 }

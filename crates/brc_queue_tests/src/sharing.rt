@@ -11,7 +11,7 @@ ghost use Rattle.brc_heap.specs.Calls.{IsBornWith, kind_word, shared_left};
 ghost use Rattle.brc_heap.specs.Marks.{look_left};
 ghost use Rattle.brc_queue_tests.specs.Sharing.{small_layout, shared_row, HasWork, HoldsRoot, HoldsBoth, HasLeft};
 
-use crate::modules::plain_module;
+use brc_fixtures::plain_module;
 use brc_free::Finaliser;
 use brc_heap::{Hand, Heap, LocalRelease, MergeStep, ROOT, SharedRelease};
 use brc_host::{FakeHost, FakeResource};
@@ -29,7 +29,7 @@ pub const ROW: u32 = 2;
 pub const CELLS: u32 = 8;
 
 /// Returns a heap for two workers with two rows each, and the hands of main and both workers.
-#[tactic(auto, using(crate::proofs::PlainModules::has_no_lines))]
+#[tactic(auto, using(brc_fixtures::proofs::PlainModules::has_no_lines))]
 pub fn opened(
     alloc: Global,
 ) -> Result<

@@ -1,3 +1,2 @@
-mod Callable
 mod Holding
 pub mod Opening

@@ -1,11 +1,18 @@
 //! What a worker asks of its host, and when: within its calls, and what the instructions say.
 
+ghost use Rattle.std.specs.Prelude.{◌≡◌, ◌<◌, [], length};
+ghost use Rattle.brc_model.specs.Threads.{function_at};
+ghost use Rattle.brc_work.specs.Fits.{IsHeapOf};
+ghost use Rattle.brc_work_tests.specs.Ready.{HoldsRoot};
 ghost use Rattle.brc_host.specs.FakeHost.{AnswersByPlan};
 
-use crate::calls::{accepted, last_function, makes_calls, opened, worker_hand};
-use crate::hearing::Hearing;
+use crate::calls::{makes_calls, opened, worker_hand};
+use crate::hearing::{Hearing, ORDERS, heard_after};
 use crate::runs::MOST_ROWS;
 use bitflags::Flags;
+use brc_check::Checked;
+use brc_fixtures::{accepted, last_function};
+use brc_heap::{Hand, Heap};
 use brc_host::{FakeHost, FakeResource, Fault, Host};
 use brc_lang::Mode;
 use std::alloc::Global;
@@ -104,7 +111,36 @@ impl Host for NotingHost<'_> {
 /// Lets a worker call the last function of the text's module twice. Returns what the host has noted.
 fn noted<R: Wait>(rt: &R, alloc: Global, text: &[u8], asked: Asked<'_>) -> Result<Notes, Fail> {
     let checked = accepted(alloc, text)?;
-    let function = last_function(&checked)?;
+    noted_of(rt, alloc, &checked, asked)
+}
+
+/// Does what `noted` does, of a module that is accepted.
+fn noted_of<R: Wait>(
+    rt: &R,
+    alloc: Global,
+    checked: &Checked,
+    asked: Asked<'_>,
+) -> Result<Notes, Fail> {
+    let function = last_function(checked)?;
+    let (heap, mut main) = opened(alloc, checked, MOST_ROWS)?;
+    let mut hand = worker_hand(&heap, &mut main)?;
+    Ok(notes_of(rt, &heap, checked, function, &mut hand, asked))
+}
+
+/// Lets the worker make its calls. Returns what the host has noted.
+fn notes_of<R: Wait>(
+    rt: &R,
+    heap: &Heap<FakeResource>,
+    checked: &Checked,
+    function: usize,
+    hand: &mut Hand<FakeResource>,
+    asked: Asked<'_>,
+) -> Notes
+    requires function { function < length checked.now.module.functions }
+    requires parameters { (function_at checked.now.module.functions function).parameters ≡ [] }
+    requires heap { IsHeapOf checked.now.module heap.now }
+    requires holds { HoldsRoot heap.now hand.old }
+{
     let gate = Hearing::new();
     let mut host = NotingHost {
         fake: FakeHost::new(&[]),
@@ -115,20 +151,18 @@ fn noted<R: Wait>(rt: &R, alloc: Global, text: &[u8], asked: Asked<'_>) -> Resul
             others: 0,
         },
     };
-    let (heap, mut main) = opened(alloc, &checked, MOST_ROWS)?;
-    let mut hand = worker_hand(&heap, &mut main)?;
     makes_calls(
         rt,
-        &heap,
-        &checked,
+        heap,
+        checked,
         function,
         2,
         u64::MAX,
-        &mut hand,
+        hand,
         &mut host,
         &gate,
     );
-    Ok(host.notes)
+    host.notes
 }
 
 /// Reads from a file, and writes to a peer how many bytes that were. A `FakeHost` reads as many as it is asked for.
@@ -157,6 +191,7 @@ fn written(bytes: &[u8]) -> Asked<'_> {
     }
 }
 
+/// The gate by which the host knows that it is within a call notes, for its part, what is out of order.
 #[test]
 fn the_host_is_asked_for_what_the_instructions_say(rt: HostRuntime) -> Result<(), Fail> {
     let told = Asked {
@@ -174,6 +209,9 @@ fn the_host_is_asked_for_what_the_instructions_say(rt: HostRuntime) -> Result<()
         let notes = noted(&rt, rt.alloc(), text, asked)?;
         let want = Notes { right, others: 0 };
         assert_eq!(rt; notes, want, "{name}");
+    }
+    for (name, calls, heard) in ORDERS {
+        assert_eq!(rt; heard_after(calls), *heard, "{name}");
     }
     Ok(())
 }

@@ -1,13 +1,14 @@
 //! Workers that are stopped by a bound: they have given up what they held, and everything that isn't in a cycle is
 //! closed.
 
-use crate::calls::accepted;
 use crate::faults::{COPY, FILE_IN_CALLS};
 use crate::hearing::Hearing;
 use crate::runs::{MOST_ROWS, run_apart, run_in_thread, run_over};
 use crate::worked::{
     FOUR_PASSES, HAND_BACK, IN_ITSELF, KEEP, NOTHING, OWN_TURNS, SET_OUT_OF_RANGE, THREE_OPEN,
 };
+use brc_check::Checked;
+use brc_fixtures::accepted;
 use brc_host::FakeHost;
 use std::alloc::Global;
 use std::sync::Wait;
@@ -107,32 +108,6 @@ const CASES: &[Case] = &[
     ),
 ];
 
-#[test]
-fn a_stopped_worker_has_given_up_what_it_owned(rt: HostRuntime) -> Result<(), Fail> {
-    for (name, text, instructions, wants) in CASES {
-        for steps in 0..=MOST_STEPS {
-            let ran = run_over(&rt, rt.alloc(), text, MOST_ROWS, 1, steps, &[])?;
-            let apart = run_in_thread(&rt, rt.alloc(), text, MOST_ROWS, 1, steps, &[])?;
-            assert_eq!(rt; apart, ran, "{name}, {steps} steps, in a thread of its own");
-            let want = wants.get(steps as usize).or(wants.last());
-            let [created, closed, alive, host_faults, close_faults] = ran.counts;
-            assert_eq!(rt;
-                Some(&[created, closed, alive]),
-                want,
-                "{name}, {steps} steps"
-            );
-            assert_eq!(rt;
-                (host_faults, close_faults),
-                (0, 0),
-                "{name}, {steps} steps"
-            );
-            assert_eq!(rt; ran.opened, ran.closed, "closes of {name}, {steps} steps");
-            assert_eq!(rt; ran.done, steps >= *instructions, "{name}, {steps} steps");
-        }
-    }
-    Ok(())
-}
-
 /// A run with a bound, which none meets at `u64::MAX`: its name, the module, the calls, the bound, whether the worker
 /// makes all calls, and how many beginnings and ends of calls the gate hears.
 type Bounded<'a> = (&'a str, &'a [u8], u32, u64, bool, u64);
@@ -166,15 +141,6 @@ const BOUNDED: &[Bounded] = &[
     ),
 ];
 
-#[test]
-fn a_run_is_done_unless_its_bound_is_met(rt: HostRuntime) -> Result<(), Fail> {
-    for (name, text, times, steps, done, heard) in BOUNDED {
-        let ran = run_over(&rt, rt.alloc(), text, MOST_ROWS, *times, *steps, &[])?;
-        assert_eq!(rt; (ran.done, ran.heard), (*done, Some(*heard)), "{name}");
-    }
-    Ok(())
-}
-
 /// Two functions that store objects in the root. `own` puts a number into two cells, and then none; `other` takes what
 /// is in the second cell, and stores it in the first.
 const TWO_FUNCTIONS: &[u8] =
@@ -195,10 +161,21 @@ fn two_stopped<R: Threads + Wait + Sync>(
     steps: u64,
 ) -> Result<(bool, [u64; 3]), Fail> {
     let checked = accepted(alloc, TWO_FUNCTIONS)?;
+    both_stop(rt, alloc, &checked, function, steps)
+}
+
+/// Does what `two_stopped` does, of the module.
+fn both_stop<R: Threads + Wait + Sync>(
+    rt: &R,
+    alloc: Global,
+    checked: &Checked,
+    function: usize,
+    steps: u64,
+) -> Result<(bool, [u64; 3]), Fail> {
     let mut hosts = [FakeHost::new(&[]), FakeHost::new(&[])];
     let gate = Hearing::new();
     let (ends, objects, _) = run_apart(
-        rt, alloc, &checked, function, 2, MOST_ROWS, 4, steps, &mut hosts, &gate,
+        rt, alloc, checked, function, 2, MOST_ROWS, 4, steps, &mut hosts, &gate,
     )?;
     let [Some(one), Some(other)] = ends else {
         return Err("there are two workers")?;
@@ -206,9 +183,35 @@ fn two_stopped<R: Threads + Wait + Sync>(
     Ok((one.is_done() || other.is_done(), objects))
 }
 
-/// Four calls begin more instructions than any of the bounds, so both workers stop.
+/// A stopped worker has given up what it owned; a run is done unless its bound is met; and of two workers both stop, as
+/// their four calls begin more instructions than any of the bounds.
 #[test]
-fn two_workers_stop_at_each_bound(rt: HostRuntime) -> Result<(), Fail> {
+fn bounds_stop_workers(rt: HostRuntime) -> Result<(), Fail> {
+    for (name, text, instructions, wants) in CASES {
+        for steps in 0..=MOST_STEPS {
+            let ran = run_over(&rt, rt.alloc(), text, MOST_ROWS, 1, steps, &[])?;
+            let apart = run_in_thread(&rt, rt.alloc(), text, MOST_ROWS, 1, steps, &[])?;
+            assert_eq!(rt; apart, ran, "{name}, {steps} steps, in a thread of its own");
+            let want = wants.get(steps as usize).or(wants.last());
+            let [created, closed, alive, host_faults, close_faults] = ran.counts;
+            assert_eq!(rt;
+                Some(&[created, closed, alive]),
+                want,
+                "{name}, {steps} steps"
+            );
+            assert_eq!(rt;
+                (host_faults, close_faults),
+                (0, 0),
+                "{name}, {steps} steps"
+            );
+            assert_eq!(rt; ran.opened, ran.closed, "closes of {name}, {steps} steps");
+            assert_eq!(rt; ran.done, steps >= *instructions, "{name}, {steps} steps");
+        }
+    }
+    for (name, text, times, steps, done, heard) in BOUNDED {
+        let ran = run_over(&rt, rt.alloc(), text, MOST_ROWS, *times, *steps, &[])?;
+        assert_eq!(rt; (ran.done, ran.heard), (*done, Some(*heard)), "{name}");
+    }
     for steps in 0..=MOST_STEPS {
         let numbers = 2 * steps.div_ceil(OWN_STEPS);
         for (function, created) in [(0, 1 + numbers), (1, 1)] {

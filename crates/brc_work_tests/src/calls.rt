@@ -1,6 +1,6 @@
 //! Calls over a heap of one worker. The contract of each carries what the next one requires.
 
-ghost use Rattle.std.specs.Prelude.{◌≡◌, ◌<◌, ◌≤◌, true, [], length, IfOk, OnOk};
+ghost use Rattle.std.specs.Prelude.{◌≡◌, ◌<◌, ◌≤◌, [], length, IfOk, OnOk};
 ghost use Rattle.brc_model.specs.Limits.{row_limit};
 ghost use Rattle.brc_model.specs.Threads.{function_at};
 ghost use Rattle.brc_table.specs.Hands.{IsOf};
@@ -8,51 +8,14 @@ ghost use Rattle.brc_work.specs.Fits.{IsHeapOf};
 ghost use Rattle.brc_work_tests.specs.Ready.{HoldsRoot};
 
 use crate::hearing::{Hearing, WORKER};
-use brc_check::{Checked, check};
+use brc_check::Checked;
 use brc_heap::{Final, Hand, Heap, Taken};
 use brc_host::{FakeResource, Host};
-use brc_lang::read;
 use brc_queue::Queue;
 use brc_work::{Ran, Worker};
 use std::alloc::Global;
 use std::sync::Wait;
 use std::test::*;
-
-/// Returns the module of the text, which is accepted.
-pub fn accepted(alloc: Global, text: &[u8]) -> Result<Checked, Fail> {
-    let Ok(module) = read(alloc, text) else {
-        return Err("the text is a module")?;
-    };
-    match check(alloc, module) {
-        Ok(checked) => Ok(checked),
-        Err(_) => Err("the module is accepted")?,
-    }
-}
-
-/// Returns whether the module has a function with this number, which has no parameters, as those that workers call.
-#[tactic(auto, using(crate::proofs::Callable::has_no_parameters))]
-pub fn is_callable(checked: &Checked, function: usize) -> bool
-    ensures function { result ≡ true → function < length checked.now.module.functions }
-    ensures parameters { result ≡ true → (function_at checked.now.module.functions function).parameters ≡ [] }
-{
-    let functions = checked.module().functions.as_slice();
-    function < functions.len() && functions[function].parameters.len() == 0
-}
-
-/// Returns the number of the module's last function, which has no parameters.
-pub fn last_function(checked: &Checked) -> Result<usize, Fail>
-    ensures function { IfOk result (λ function. function < length checked.now.module.functions) }
-    ensures parameters { IfOk result (λ function.
-        (function_at checked.now.module.functions function).parameters ≡ []) }
-{
-    // The accepted module has a function.
-    let last = checked.module().functions.len() - 1;
-    if is_callable(checked, last) {
-        Ok(last)
-    } else {
-        Err("the last function has no parameters")?
-    }
-}
 
 /// Returns a heap of the module for one worker that has `rows` rows, and main's hand.
 #[tactic(auto, using(crate::proofs::Opening::lists_have_rows, crate::proofs::Opening::is_heap_of))]

@@ -1,9 +1,9 @@
 //! Runs over a host that fails: its faults are counted, and each file or connection that it has opened is closed once.
 
-use crate::calls::accepted;
 use crate::hearing::Hearing;
 use crate::runs::{Counts, MOST_ROWS, run_apart, run_in_thread, run_over};
 use brc_check::Checked;
+use brc_fixtures::accepted;
 use brc_host::{FakeHost, Host};
 use brc_work::Totals;
 use std::alloc::Global;
@@ -85,25 +85,6 @@ pub const CASES: &[Case] = &[
     ),
 ];
 
-#[test]
-fn everything_is_closed_whichever_two_calls_fail(rt: HostRuntime) -> Result<(), Fail> {
-    for second in 1..7u64 {
-        for first in 0..second {
-            let plan = [first, second];
-            let ran = run_over(&rt, rt.alloc(), COPY, MOST_ROWS, 1, u64::MAX, &plan)?;
-            let apart = run_in_thread(&rt, rt.alloc(), COPY, MOST_ROWS, 1, u64::MAX, &plan)?;
-            assert_eq!(rt; apart, ran, "calls {first} and {second} in a thread");
-            let [created, closed, alive, _, _] = ran.counts;
-            assert_eq!(rt;
-                (closed, alive, ran.closed),
-                (created, 0, ran.opened),
-                "calls {first} and {second}"
-            );
-        }
-    }
-    Ok(())
-}
-
 /// What a worker has left: the births, the faults of calls and of closes that it has counted, and the files and
 /// connections that its host has opened and closed.
 type Left = (u32, u64, u64, u64, u64);
@@ -160,9 +141,24 @@ fn left_by(totals: Totals, host: &FakeHost<'_>) -> Left {
     )
 }
 
-/// The first worker's open fails; of the second, which makes the whole copy, both closes fail.
+/// Everything is closed, whichever two calls of a copy fail. Of two workers, the first one's open fails, and of the
+/// second, which makes the whole copy, both closes.
 #[test]
-fn each_worker_counts_its_own_hosts_faults(rt: HostRuntime) -> Result<(), Fail> {
+fn faults_of_hosts_are_counted(rt: HostRuntime) -> Result<(), Fail> {
+    for second in 1..7u64 {
+        for first in 0..second {
+            let plan = [first, second];
+            let ran = run_over(&rt, rt.alloc(), COPY, MOST_ROWS, 1, u64::MAX, &plan)?;
+            let apart = run_in_thread(&rt, rt.alloc(), COPY, MOST_ROWS, 1, u64::MAX, &plan)?;
+            assert_eq!(rt; apart, ran, "calls {first} and {second} in a thread");
+            let [created, closed, alive, _, _] = ran.counts;
+            assert_eq!(rt;
+                (closed, alive, ran.closed),
+                (created, 0, ran.opened),
+                "calls {first} and {second}"
+            );
+        }
+    }
     let (left, objects, last) = two_copies(&rt, rt.alloc(), [&[0], &[4, 5]])?;
     assert_eq!(rt; left, [(0, 1, 0, 0, 0), (3, 0, 2, 2, 2)]);
     assert_eq!(rt; (objects, last), ([4, 4, 0], 0));

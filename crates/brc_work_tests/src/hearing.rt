@@ -2,7 +2,6 @@
 
 use brc_work::Gate;
 use std::sync::atomic::{AtomicBool, AtomicU64, Ordering};
-use std::test::*;
 
 /// The thread of the one worker.
 pub const WORKER: u8 = 1;
@@ -53,7 +52,7 @@ impl Gate for Hearing {
 }
 
 /// Returns what a gate has heard after these beginnings (`true`) and ends of calls, each with its thread and number.
-fn heard_after(calls: &[(bool, u8, u32)]) -> Option<u64> {
+pub fn heard_after(calls: &[(bool, u8, u32)]) -> Option<u64> {
     let gate = Hearing::new();
     for (begins, thread, call) in calls {
         if *begins {
@@ -66,9 +65,9 @@ fn heard_after(calls: &[(bool, u8, u32)]) -> Option<u64> {
 }
 
 /// Calls in an order, and what the gate has heard.
-type Order<'a> = (&'a str, &'a [(bool, u8, u32)], Option<u64>);
+pub type Order<'a> = (&'a str, &'a [(bool, u8, u32)], Option<u64>);
 
-const ORDERS: &[Order] = &[
+pub const ORDERS: &[Order] = &[
     ("no call", &[], Some(0)),
     (
         "a call and a half",
@@ -80,10 +79,3 @@ const ORDERS: &[Order] = &[
     ("not from 0", &[(true, 1, 1)], None),
     ("main's thread", &[(true, 0, 0)], None),
 ];
-
-#[test]
-fn the_tests_gate_notes_what_is_out_of_order(rt: HostRuntime) {
-    for (name, calls, heard) in ORDERS {
-        assert_eq!(rt; heard_after(calls), *heard, "{name}");
-    }
-}

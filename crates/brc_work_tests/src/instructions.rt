@@ -1,10 +1,7 @@
 //! Instructions that the worked runs don't reach, or reach by one exit alone. What each module leads to follows from
 //! docs/LANGUAGE.md; the comment beside it says how. The root is one of the objects in each count.
 
-use crate::faults;
 use crate::faults::Case;
-use crate::runs::{MOST_ROWS, expect};
-use std::test::*;
 
 /// The root's first cell has the number: it is borrowed, and a reference to it is made and returned. Nothing else is
 /// created.
@@ -100,7 +97,7 @@ const RET: &[u8] =
 /// The caller releases the file that it gets, which is call 1 of the host.
 const RET_FILE: &[u8] = b"module 1\nfunc f\nopen v1 0 r else @2\nret v1\nfail\nend\n";
 
-const CASES: &[Case] = &[
+pub const CASES: &[Case] = &[
     ("borrow", BORROW, &[], [2, 2, 0, 0, 0]),
     (
         "borrow of an empty cell",
@@ -148,13 +145,3 @@ const CASES: &[Case] = &[
         [2, 2, 0, 0, 1],
     ),
 ];
-
-#[test]
-fn each_run_makes_and_gives_up_what_its_instructions_say(rt: HostRuntime) -> Result<(), Fail> {
-    for cases in [CASES, faults::CASES] {
-        for (name, text, plan, want) in cases {
-            expect(&rt, rt.alloc(), name, text, (MOST_ROWS, 1, plan), 0, *want)?;
-        }
-    }
-    Ok(())
-}

@@ -1,15 +1,17 @@
 //! A worker that somebody may stop: it makes its calls in rounds. docs/EMBED.md quotes this file.
 
-ghost use Rattle.std.specs.Prelude.{◌≡◌, [], OnSome};
+ghost use Rattle.std.specs.Prelude.{◌≡◌, ◌<◌, [], length, OnSome};
 ghost use Rattle.brc_model.specs.Threads.{function_at};
 ghost use Rattle.brc_table.specs.Hands.{IsOf};
 ghost use Rattle.brc_work.specs.Fits.{IsHeapOf};
 ghost use Rattle.brc_work_tests.specs.Ready.{HoldsRoot};
 
-use crate::calls::{accepted, is_callable, leaves, opened, worker_hand};
+use crate::calls::{leaves, makes_calls, opened, worker_hand};
+use crate::hearing::Hearing;
 use crate::runs::{MOST_ROWS, objects_left};
 use crate::worked::FOUR_PASSES;
 use brc_check::Checked;
+use brc_fixtures::{accepted, is_callable, last_function};
 use brc_heap::{Hand, Heap};
 use brc_host::{FakeHost, FakeResource};
 use brc_queue::Queue;
@@ -82,11 +84,20 @@ impl Gate for Enough {
 /// bound, and the objects that were created, closed and are alive.
 fn in_rounds<R: Wait>(rt: &R, alloc: Global, text: &[u8]) -> Result<(u32, [u64; 3]), Fail> {
     let checked = accepted(alloc, text)?;
-    if !is_callable(&checked, 0) {
+    in_rounds_of(rt, alloc, &checked)
+}
+
+/// Does what `in_rounds` does, of a module that is accepted.
+fn in_rounds_of<R: Wait>(
+    rt: &R,
+    alloc: Global,
+    checked: &Checked,
+) -> Result<(u32, [u64; 3]), Fail> {
+    if !is_callable(checked, 0) {
         return Err("the first function has no parameters")?;
     }
-    let (heap, main) = opened(alloc, &checked, MOST_ROWS)?;
-    match rounds_in(rt, heap, main, &checked) {
+    let (heap, main) = opened(alloc, checked, MOST_ROWS)?;
+    match rounds_in(rt, heap, main, checked) {
         Some(ends) => Ok(ends),
         None => Err("a thread isn't gone")?,
     }
@@ -136,10 +147,72 @@ fn rounds<R: Wait>(
     Some(stopped)
 }
 
-/// A call begins 13 instructions, and makes four numbers. So a round of 100 instructions makes seven calls, and stops
-/// in the eighth one behind its third number. The third round has the call that is more than enough.
+/// The births that a worker has counted in a run, and what its gate has heard.
+type Run = (u32, Option<u64>);
+
+/// Lets a worker call the last function of the text's module `times` times, with at most `steps` instructions, and
+/// then once more without a bound. Each of the two runs has a gate of its own.
+fn two_runs<R: Wait>(
+    rt: &R,
+    alloc: Global,
+    text: &[u8],
+    times: u32,
+    steps: u64,
+) -> Result<[Run; 2], Fail> {
+    let checked = accepted(alloc, text)?;
+    two_runs_of(rt, alloc, &checked, times, steps)
+}
+
+/// Does what `two_runs` does, of a module that is accepted.
+fn two_runs_of<R: Wait>(
+    rt: &R,
+    alloc: Global,
+    checked: &Checked,
+    times: u32,
+    steps: u64,
+) -> Result<[Run; 2], Fail> {
+    let function = last_function(checked)?;
+    let (heap, mut main) = opened(alloc, checked, MOST_ROWS)?;
+    let mut hand = worker_hand(&heap, &mut main)?;
+    let first = run_of(rt, &heap, checked, function, times, steps, &mut hand);
+    let second = run_of(rt, &heap, checked, function, 1, u64::MAX, &mut hand);
+    Ok([first, second])
+}
+
+/// Lets the worker make the calls of one run.
+fn run_of<R: Wait>(
+    rt: &R,
+    heap: &Heap<FakeResource>,
+    checked: &Checked,
+    function: usize,
+    times: u32,
+    steps: u64,
+    hand: &mut Hand<FakeResource>,
+) -> Run
+    requires function { function < length checked.now.module.functions }
+    requires parameters { (function_at checked.now.module.functions function).parameters ≡ [] }
+    requires heap { IsHeapOf checked.now.module heap.now }
+    requires holds { HoldsRoot heap.now hand.old }
+    ensures holds { HoldsRoot heap.now hand.new }
+{
+    let mut host = FakeHost::new(&[]);
+    let gate = Hearing::new();
+    let ran = makes_calls(
+        rt, heap, checked, function, times, steps, hand, &mut host, &gate,
+    );
+    (ran.totals().created, gate.heard())
+}
+
+/// Each run counts its own births and calls. In rounds, a call begins 13 instructions, and makes four numbers. So a round
+/// of 100 instructions makes seven calls, and stops in the eighth one behind its third number. The third round has the
+/// call that is more than enough.
 #[test]
-fn a_worker_stops_between_two_rounds(rt: HostRuntime) -> Result<(), Fail> {
+fn a_worker_runs_again(rt: HostRuntime) -> Result<(), Fail> {
+    let runs = two_runs(&rt, rt.alloc(), FOUR_PASSES, 3, u64::MAX)?;
+    assert_eq!(rt; runs, [(12, Some(6)), (4, Some(2))]);
+    // The first run stops in its first call, behind its second number. The hand can go on all the same.
+    let runs = two_runs(&rt, rt.alloc(), FOUR_PASSES, 3, 5)?;
+    assert_eq!(rt; runs, [(2, Some(1)), (4, Some(2))]);
     let numbers = 3 * (7 * 4 + 3);
     let want = (3, [1 + numbers, 1 + numbers, 0]);
     assert_eq!(rt; in_rounds(&rt, rt.alloc(), FOUR_PASSES)?, want);

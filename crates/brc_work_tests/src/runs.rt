@@ -9,11 +9,10 @@ ghost use Rattle.brc_work.specs.Fits.{IsHeapOf};
 ghost use Rattle.brc_work.specs.Mains.{MayFanOut};
 ghost use Rattle.brc_work_tests.specs.Ready.{HoldsRoot};
 
-use crate::calls::{
-    accepted, ended, is_callable, last_function, leaves, makes_calls, opened, worker_hand,
-};
+use crate::calls::{ended, leaves, makes_calls, opened, worker_hand};
 use crate::hearing::Hearing;
 use brc_check::Checked;
+use brc_fixtures::{accepted, is_callable, last_function};
 use brc_heap::{Final, Hand, Heap, ROOT};
 use brc_host::{FakeHost, FakeResource, Host};
 use brc_queue::Queue;
@@ -28,8 +27,8 @@ use std::thread::Threads;
 pub const MOST_ROWS: u16 = 1024;
 
 /// What a run leads to, as in a report: how many objects were created, closed and are alive, how many calls of the host
-/// failed, and how many closes. The root counts as an object, and so
-/// does a number in a cell of a static list. None and the static lists don't.
+/// failed, and how many closes. The root counts as an object, and so does a number in a cell of a static list. None and
+/// the static lists don't.
 pub type Counts = [u64; 5];
 
 /// What a run has left.

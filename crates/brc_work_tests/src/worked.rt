@@ -1,19 +1,8 @@
 //! Worked runs: what is born, what dies with it, and what is left.
 
-ghost use Rattle.std.specs.Prelude.{◌≡◌, ◌<◌, [], length};
-ghost use Rattle.brc_model.specs.Threads.{function_at};
-ghost use Rattle.brc_work.specs.Fits.{IsHeapOf};
-ghost use Rattle.brc_work_tests.specs.Ready.{HoldsRoot};
-
-use crate::calls::{accepted, last_function, makes_calls, opened, worker_hand};
 use crate::faults::COPY;
-use crate::hearing::Hearing;
 use crate::runs::{Counts, MOST_ROWS, expect};
-use brc_check::Checked;
-use brc_heap::{Hand, Heap, Taken};
-use brc_host::{FakeHost, FakeResource};
-use std::alloc::Global;
-use std::sync::Wait;
+use crate::{faults, instructions};
 use std::test::*;
 
 /// A run in which no call of the host fails: its name, the module, the worker's rows, the number of calls, and what it
@@ -209,7 +198,7 @@ const STATIC_CASES: &[(Case, u32)] = &[
 ];
 
 #[test]
-fn worked_runs_close_all_but_what_lists_hold(rt: HostRuntime) -> Result<(), Fail> {
+fn runs_make_and_close_what_their_modules_say(rt: HostRuntime) -> Result<(), Fail> {
     for (name, text, rows, times, want) in CASES {
         expect(&rt, rt.alloc(), name, text, (*rows, *times, &[]), 0, *want)?;
     }
@@ -217,79 +206,10 @@ fn worked_runs_close_all_but_what_lists_hold(rt: HostRuntime) -> Result<(), Fail
         let run = (*rows, *times, [].as_slice());
         expect(&rt, rt.alloc(), name, text, run, *numbers, *want)?;
     }
-    Ok(())
-}
-
-/// The births that a worker has counted in a run, and what its gate has heard.
-type Run = (u32, Option<u64>);
-
-/// Lets a worker call the last function of the text's module `times` times, with at most `steps` instructions, and
-/// then once more without a bound. Each of the two runs has a gate of its own.
-fn two_runs<R: Wait>(
-    rt: &R,
-    alloc: Global,
-    text: &[u8],
-    times: u32,
-    steps: u64,
-) -> Result<[Run; 2], Fail> {
-    let checked = accepted(alloc, text)?;
-    let function = last_function(&checked)?;
-    let (heap, main) = opened(alloc, &checked, MOST_ROWS)?;
-    Ok(two_runs_in(rt, heap, main, &checked, function, times, steps)?)
-}
-
-/// Does what `two_runs` does, with the heap.
-fn two_runs_in<R: Wait>(
-    rt: &R,
-    heap: Heap<FakeResource>,
-    mut main: Hand<FakeResource>,
-    checked: &Checked,
-    function: usize,
-    times: u32,
-    steps: u64,
-) -> Result<[Run; 2], Taken>
-    requires function { function < length checked.now.module.functions }
-    requires parameters { (function_at checked.now.module.functions function).parameters ≡ [] }
-    requires heap { IsHeapOf checked.now.module heap }
-    requires main { HoldsRoot heap main }
-    requires thread { main.view.thread ≡ 0 }
-{
-    let mut hand = worker_hand(&heap, &mut main)?;
-    let first = run_of(rt, &heap, checked, function, times, steps, &mut hand);
-    let second = run_of(rt, &heap, checked, function, 1, u64::MAX, &mut hand);
-    Ok([first, second])
-}
-
-/// Lets the worker make the calls of one run.
-fn run_of<R: Wait>(
-    rt: &R,
-    heap: &Heap<FakeResource>,
-    checked: &Checked,
-    function: usize,
-    times: u32,
-    steps: u64,
-    hand: &mut Hand<FakeResource>,
-) -> Run
-    requires function { function < length checked.now.module.functions }
-    requires parameters { (function_at checked.now.module.functions function).parameters ≡ [] }
-    requires heap { IsHeapOf checked.now.module heap.now }
-    requires holds { HoldsRoot heap.now hand.old }
-    ensures holds { HoldsRoot heap.now hand.new }
-{
-    let mut host = FakeHost::new(&[]);
-    let gate = Hearing::new();
-    let ran = makes_calls(
-        rt, heap, checked, function, times, steps, hand, &mut host, &gate,
-    );
-    (ran.totals().created, gate.heard())
-}
-
-#[test]
-fn each_run_counts_its_own_births_and_calls(rt: HostRuntime) -> Result<(), Fail> {
-    let runs = two_runs(&rt, rt.alloc(), FOUR_PASSES, 3, u64::MAX)?;
-    assert_eq!(rt; runs, [(12, Some(6)), (4, Some(2))]);
-    // The first run stops in its first call, behind its second number. The hand can go on all the same.
-    let runs = two_runs(&rt, rt.alloc(), FOUR_PASSES, 3, 5)?;
-    assert_eq!(rt; runs, [(2, Some(1)), (4, Some(2))]);
+    for cases in [instructions::CASES, faults::CASES] {
+        for (name, text, plan, want) in cases {
+            expect(&rt, rt.alloc(), name, text, (MOST_ROWS, 1, plan), 0, *want)?;
+        }
+    }
     Ok(())
 }

@@ -1,4 +1,5 @@
-use Rattle.brc_heap_tests.specs.Ready.{IsAlone, IsReadyAt}
+use Rattle.brc_fixtures.specs.Resting.{IsAlone}
+use Rattle.brc_heap_tests.specs.Ready.{IsReadyAt}
 use Rattle.brc_heap_tests.proofs.threads.counts.Given as goal
 
 abbrev pub invariant-loop-kept : goal.invariant-loop-kept

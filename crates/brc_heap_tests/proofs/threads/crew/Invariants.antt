@@ -1,5 +1,5 @@
 use Rattle.std.specs.Prelude.{◌≡◌}
-use Rattle.brc_heap_tests.specs.Ready.{IsAlone}
+use Rattle.brc_fixtures.specs.Resting.{IsAlone}
 use Rattle.brc_heap_tests.proofs.threads.crew.Given as goal
 
 abbrev pub invariant-loop-thread : goal.invariant-loop-thread

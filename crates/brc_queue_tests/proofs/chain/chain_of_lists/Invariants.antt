@@ -1,6 +1,6 @@
 use Rattle.std.specs.Prelude.{◌≡◌, None, [], ◌∷◌}
 use Rattle.brc_model.specs.Layout.{root_row, IsCounted}
-use Rattle.brc_queue_tests.specs.Resting.{IsAtRest}
+use Rattle.brc_fixtures.specs.Resting.{IsAtRest}
 use Rattle.brc_queue_tests.proofs.chain.chain_of_lists.Given as goal
 
 abbrev pub invariant-loop : goal.invariant-loop

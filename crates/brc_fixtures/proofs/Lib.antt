@@ -1,0 +1,4 @@
+pub mod PlainModules
+mod Callable
+pub mod Alone
+pub mod Resting

@@ -1,0 +1,6 @@
+use Rattle.std.specs.Prelude.{◌≡◌}
+use Rattle.brc_fixtures.specs.Resting.{IsAlone}
+use Rattle.brc_queue_tests.proofs.soak.workers_of.Given as goal
+
+abbrev pub invariant-loop-thread : goal.invariant-loop-thread
+invariant-loop-thread l = IsAlone l.heap l.main × (l.main.view.thread ≡ 0)

@@ -1,3 +1,0 @@
-mod Resting
-mod Counting
-pub mod PlainModules

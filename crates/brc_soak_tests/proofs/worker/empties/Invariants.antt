@@ -1,9 +1,0 @@
-use Rattle.std.specs.Prelude.{None}
-use Rattle.brc_soak_tests.specs.Ready.{IsResting, Tells}
-use Rattle.brc_soak_tests.proofs.worker.empties.Given as goal
-
-abbrev pub invariant-loop-row : goal.invariant-loop-row
-invariant-loop-row g l = IsResting l.heap l.hand None × Tells l.ledger l.hand.view.references
-
-abbrev pub invariant-loop : goal.invariant-loop
-invariant-loop g l = IsResting l.heap l.hand None × Tells l.ledger l.hand.view.references

@@ -1,6 +1,0 @@
-use Rattle.std.specs.Prelude.{None}
-use Rattle.brc_soak_tests.specs.Ready.{IsResting, Tells}
-use Rattle.brc_soak_tests.proofs.worker.works.Given as goal
-
-abbrev pub invariant-loop : goal.invariant-loop
-invariant-loop g l = IsResting l.heap l.hand None × Tells l.ledger l.hand.view.references
