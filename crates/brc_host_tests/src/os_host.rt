@@ -20,14 +20,17 @@ type Written = Result<(Result<(), Fault>, Result<u16, Fault>, Result<(), Fault>)
 const WRITTEN: Written = Ok((Ok(()), Err(Fault), Ok(())));
 
 /// What five reads, a write and the close have answered, or the fault of the open.
-type ReadOn = Result<([Result<u16, Fault>; 5], Result<(), Fault>, Result<(), Fault>), Fault>;
+type ReadOn = Result<
+    (
+        [Result<u16, Fault>; 5],
+        Result<(), Fault>,
+        Result<(), Fault>,
+    ),
+    Fault,
+>;
 
 /// A read of a file of 5000 bytes goes on where the last one ended. A file that is only read can't be written.
-const READ_ON: ReadOn = Ok((
-    [Ok(0), Ok(1), Ok(4096), Ok(903), Ok(0)],
-    Err(Fault),
-    Ok(()),
-));
+const READ_ON: ReadOn = Ok(([Ok(0), Ok(1), Ok(4096), Ok(903), Ok(0)], Err(Fault), Ok(())));
 
 fn counts_of<H: Host>(host: &H) -> Counts {
     [host.failures(), host.opened(), host.closed()]
@@ -158,7 +161,14 @@ fn read_on<H: Host>(host: &mut H) -> ReadOn {
 const RESET: [bool; 3] = [false, true, true];
 
 /// What two reads, a write and the close have answered, or the fault of the connection.
-type Talked = Result<([Result<u16, Fault>; 2], Result<(), Fault>, Result<(), Fault>), Fault>;
+type Talked = Result<
+    (
+        [Result<u16, Fault>; 2],
+        Result<(), Fault>,
+        Result<(), Fault>,
+    ),
+    Fault,
+>;
 
 /// The peer sends one byte and shuts its side.
 const TALKED: Talked = Ok(([Ok(1), Ok(0)], Ok(()), Ok(())));

@@ -135,12 +135,7 @@ const WRITES: &[Written] = &[
 ];
 
 /// Returns whether the write answers as it has to, and has written these bytes.
-fn writes_as(
-    alloc: Global,
-    plan: &[Answer],
-    want: Result<(), ErrorKind>,
-    written: &[u8],
-) -> bool {
+fn writes_as(alloc: Global, plan: &[Answer], want: Result<(), ErrorKind>, written: &[u8]) -> bool {
     let mut target = Target {
         plan,
         calls: 0,
