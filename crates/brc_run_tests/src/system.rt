@@ -143,8 +143,7 @@ fn missed_bound<R: AllocGlobal + System>(rt: &R, file: &str, peer: &str) -> Opti
 /// Copies to a peer that closes at once. Returns whether, whatever faults are counted, everything that was made is
 /// closed.
 fn closes_all<R: AllocGlobal + System>(rt: &R, file: &str, peer: &str) -> bool {
-    match report_on(rt, COPY, u64::MAX, &[file], &[peer]) {
-        Some([1, 0, 4, 4, 0, _, _]) => true,
-        _ => false,
-    }
+    let counts = report_on(rt, COPY, u64::MAX, &[file], &[peer]);
+    let [_, _, _, _, _, host_faults, close_faults] = counts.unwrap_or([0; 7]);
+    counts == Some([1, 0, 4, 4, 0, host_faults, close_faults])
 }
