@@ -3,9 +3,11 @@
 use crate::accepted_examples::ACCEPTED;
 use crate::shelf::{replayed, stepped};
 use brc_lang::{Module, read, write_bytes};
+use brc_run::System;
 use rand::RngExt;
 use rand_core::SeedableRng;
 use rand_xoshiro::Xoshiro256PlusPlus;
+use std::alloc::{AllocGlobal, Global};
 use std::io;
 use std::io::Write;
 
@@ -58,20 +60,44 @@ fn machine_and_world_agree(rt: HostRuntime) {
     let mut random = Xoshiro256PlusPlus::seed_from_u64(1);
     for number in 0..SCHEDULES {
         let (name, text) = ACCEPTED[number as usize % ACCEPTED.len()];
-        let Ok(module) = read(rt.alloc(), text) else {
-            assert!(rt; false, "{name}");
-            return;
-        };
-        let mut schedule = Vec::new(rt.alloc());
-        let wrote = write_schedule(&module, &mut random, &mut schedule).is_ok();
-        assert!(rt; wrote, "{name}");
-        let one = stepped(&rt, text, schedule.as_slice());
-        let other = replayed(&rt, text, schedule.as_slice());
-        assert_eq!(rt; one.status, 0, "{name} {number}");
-        assert_eq!(rt; other.status, 0, "{name} {number}");
-        assert!(rt;
-            one.out.as_slice() == other.out.as_slice(),
-            "{name} {number}"
-        );
+        assert!(rt; agree_once(&rt, text, &mut random), "{name} {number}");
+    }
+}
+
+/// Returns whether the machine and the world agree on a schedule.
+fn agree_once<R: System + AllocGlobal>(
+    rt: &R,
+    text: &[u8],
+    random: &mut Xoshiro256PlusPlus,
+) -> bool {
+    match schedule_of(rt.alloc(), text, random) {
+        Some(schedule) => agree(rt, text, schedule.as_slice()),
+        None => false,
+    }
+}
+
+fn agree<R: System + AllocGlobal>(rt: &R, text: &[u8], schedule: &[u8]) -> bool {
+    let one = stepped(rt, text, schedule);
+    let other = replayed(rt, text, schedule);
+    one.status == 0 && other.status == 0 && one.out.as_slice() == other.out.as_slice()
+}
+
+/// Returns a schedule of the text's module.
+fn schedule_of(alloc: Global, text: &[u8], random: &mut Xoshiro256PlusPlus) -> Option<Vec<u8>> {
+    match read(alloc, text) {
+        Ok(module) => schedule_for(alloc, &module, random),
+        Err(_) => None,
+    }
+}
+
+fn schedule_for(
+    alloc: Global,
+    module: &Module,
+    random: &mut Xoshiro256PlusPlus,
+) -> Option<Vec<u8>> {
+    let mut schedule = Vec::new(alloc);
+    match write_schedule(module, random, &mut schedule) {
+        Ok(()) => Some(schedule),
+        Err(_) => None,
     }
 }

@@ -3,8 +3,7 @@
 ghost use Rattle.std.specs.Prelude.{⊤};
 
 use brc_command::{
-    Asked, Bounds, Load, LoadError, NoTerminal, Save, SaveError, Unchecked, execute,
-    execute_unchecked,
+    Asked, Load, LoadError, NoTerminal, Save, SaveError, Unchecked, execute, execute_unchecked,
 };
 use brc_run::System;
 
@@ -44,26 +43,11 @@ impl Save for Shelf<'_> {
     }
 }
 
-/// What a command writes, and its status.
+/// What a command writes on standard output, and its status.
 #[derive(Drop)]
 pub struct Written {
     pub out: Vec<u8>,
-    pub err: Vec<u8>,
     pub status: u8,
-}
-
-/// Looks for a run of the module that goes wrong.
-pub fn explained<R: System + AllocGlobal>(rt: &R, module: &[u8], states: u32) -> Written {
-    let asked = Unchecked::Explain {
-        file: "m.brc",
-        bounds: Bounds {
-            workers: 2,
-            rows: 4,
-            states,
-            seconds: None,
-        },
-    };
-    unchecked(rt, &asked, module, b"")
 }
 
 /// Steps the schedule over the module, whether it is accepted or not, with a trace and a picture.
@@ -74,26 +58,17 @@ pub fn replayed<R: System + AllocGlobal>(rt: &R, module: &[u8], schedule: &[u8])
         trace: true,
         picture: Some("p.svg"),
     };
-    unchecked(rt, &asked, module, schedule)
-}
-
-fn unchecked<R: System + AllocGlobal>(
-    rt: &R,
-    asked: &Unchecked<'_>,
-    module: &[u8],
-    schedule: &[u8],
-) -> Written {
     let mut out: Vec<u8> = Vec::new(rt.alloc());
     let mut err: Vec<u8> = Vec::new(rt.alloc());
     let status = execute_unchecked(
         rt.alloc(),
-        asked,
+        &asked,
         &mut Shelf { module, schedule },
         &mut NoTerminal,
         &mut out,
         &mut err,
     );
-    Written { out, err, status }
+    Written { out, status }
 }
 
 /// Steps the schedule over an accepted module, with a trace and a picture.
@@ -113,5 +88,5 @@ pub fn stepped<R: System + AllocGlobal>(rt: &R, module: &[u8], schedule: &[u8]) 
         &mut out,
         &mut err,
     );
-    Written { out, err, status }
+    Written { out, status }
 }

@@ -1,4 +1,4 @@
-//! Tests of the hosts.
+//! Tests of the hosts. What a run shows of calls that fail is in the cases of brc_cases.
 #![tactic(auto)]
 
 #[cfg(test)]

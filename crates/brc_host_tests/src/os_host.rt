@@ -1,16 +1,88 @@
 //! The system's host, over files of a temporary folder and peers on loopback.
 
 use bitflags::Flags;
-use brc_host::Host;
+use brc_host::{Fault, Host};
 use brc_lang::Mode;
 use brc_os::OsHost;
 use std::alloc::Global;
 use std::io::{Read, Write};
-use std::net::{Shutdown, TcpListener};
+use std::net::{Shutdown, SocketAddr, TcpListener};
 use std::test::Fail;
 use std::{env, fs, io, process, thread};
 
-// The modes of the language: r, w, rw, wc and rwc.
+/// How many calls have failed, how many files and peers were opened, and how many closed.
+type Counts = [u64; 3];
+
+/// What a write, a read and the close have answered, or the fault of the open.
+type Written = Result<(Result<(), Fault>, Result<u16, Fault>, Result<(), Fault>), Fault>;
+
+/// A file that is only written can't be read.
+const WRITTEN: Written = Ok((Ok(()), Err(Fault), Ok(())));
+
+/// What five reads, a write and the close have answered, or the fault of the open.
+type ReadOn = Result<
+    (
+        [Result<u16, Fault>; 5],
+        Result<(), Fault>,
+        Result<(), Fault>,
+    ),
+    Fault,
+>;
+
+/// A read of a file of 5000 bytes goes on where the last one ended. A file that is only read can't be written.
+const READ_ON: ReadOn = Ok(([Ok(0), Ok(1), Ok(4096), Ok(903), Ok(0)], Err(Fault), Ok(())));
+
+fn counts_of<H: Host>(host: &H) -> Counts {
+    [host.failures(), host.opened(), host.closed()]
+}
+
+/// Makes a folder for one test.
+fn make_folder(rt: &HostRuntime, test: &str) -> Result<String, Fail> {
+    let name = format!(in rt.alloc(); "brc-{test}-{}", process::id(rt.process()))?;
+    let folder = env::temp_dir(rt)?.join(rt.alloc(), name.as_str())?;
+    fs::create_dir(rt, folder.as_path())?;
+    Ok(folder.into_string())
+}
+
+#[test]
+fn files_are_made_written_and_read(rt: HostRuntime) -> Result<(), Fail> {
+    let folder = make_folder(&rt, "files")?;
+    let used = file_used(&rt, folder.as_str());
+    fs::remove_dir_all(&rt, folder.as_str())?;
+    assert_eq!(rt; used, Some(([true; 6], [3, 10, 10])));
+    Ok(())
+}
+
+/// Uses a file of the folder that isn't there yet. Returns whether each use went as it has to, and what was counted.
+fn file_used(rt: &HostRuntime, folder: &str) -> Option<([bool; 6], Counts)> {
+    let paths = [format!(in rt.alloc(); "{folder}/file").ok()?];
+    let file = paths[0].as_str();
+    let mut host = OsHost::new(rt, &paths, &[]);
+    let uses = uses(rt, &mut host, file);
+    Some((uses, counts_of(&host)))
+}
+
+/// A mode that makes the file makes it empty; no mode empties one that is there; a write changes its own bytes alone; and
+/// a file that was made anew is written and read.
+fn uses<H: Host>(rt: &HostRuntime, host: &mut H, file: &str) -> [bool; 6] {
+    let made = made_empty(rt, host, file);
+    let alike = left_alone(rt, host, file);
+    let changed = written(host, Mode::WRITE, b"17\n");
+    let has_changed = has(rt, file, b"17\ndef");
+    let is_removed = fs::remove_file(rt, file).is_ok();
+    let made_anew = written(host, Mode::WRITE.union(Mode::CREATE), &[7; 5000]);
+    let got = read_on(host);
+    [
+        made == 2,
+        alike == 5,
+        changed == WRITTEN,
+        has_changed && is_removed,
+        made_anew == WRITTEN,
+        got == READ_ON,
+    ]
+}
+
+/// The modes of the language: r, w, rw, wc and rwc.
 fn modes() -> [Mode; 5] {
     let read_write = Mode::READ.union(Mode::WRITE);
     [
@@ -22,194 +94,168 @@ fn modes() -> [Mode; 5] {
     ]
 }
 
-fn counts_of<H: Host>(host: &H) -> [u64; 3] {
-    [host.failures(), host.opened(), host.closed()]
+/// Returns whether the file has just these bytes.
+fn has(rt: &HostRuntime, file: &str, bytes: &[u8]) -> bool {
+    match fs::read(rt, file) {
+        Ok(read) => read.as_slice() == bytes,
+        Err(_) => false,
+    }
 }
 
-// Makes a folder for one test.
-fn make_folder(rt: &HostRuntime, test: &str) -> Result<String, Fail> {
-    let name = format!(in rt.alloc(); "brc-{test}-{}", process::id(rt.process()))?;
-    let folder = env::temp_dir(rt)?.join(rt.alloc(), name.as_str())?;
-    fs::create_dir(rt, folder.as_path())?;
-    Ok(folder.into_string())
+/// Opens the file and closes it. Returns whether it could.
+fn is_opened<H: Host>(host: &mut H, mode: Mode) -> bool {
+    match host.open(0, mode) {
+        Ok(file) => host.close(file).is_ok(),
+        Err(_) => false,
+    }
 }
 
-// A path that isn't there, with a mode that makes no file; a folder, with a mode that writes; a number without a path.
+/// Opens the absent file in each of the modes that make one. Returns how many have made it empty.
+fn made_empty<H: Host>(rt: &HostRuntime, host: &mut H, file: &str) -> u64 {
+    let mut made: u64 = 0;
+    for mode in &modes()[3..] {
+        if is_opened(host, *mode) && has(rt, file, b"") && fs::remove_file(rt, file).is_ok() {
+            made = made.saturating_add(1);
+        }
+    }
+    made
+}
+
+/// Opens a file of six bytes in each mode. Returns how many have left it as it was.
+fn left_alone<H: Host>(rt: &HostRuntime, host: &mut H, file: &str) -> u64 {
+    let mut alike: u64 = 0;
+    if fs::write(rt, file, "abcdef").is_err() {
+        return alike;
+    }
+    for mode in &modes() {
+        if is_opened(host, *mode) && has(rt, file, b"abcdef") {
+            alike = alike.saturating_add(1);
+        }
+    }
+    alike
+}
+
+/// Opens the file, writes the bytes, reads, and closes it.
+fn written<H: Host>(host: &mut H, mode: Mode, bytes: &[u8]) -> Written {
+    let mut file = host.open(0, mode)?;
+    let written = host.write(&mut file, bytes);
+    let read = host.read(&mut file, 1);
+    Ok((written, read, host.close(file)))
+}
+
+/// Opens the file, reads it to its end, writes, and closes it.
+fn read_on<H: Host>(host: &mut H) -> ReadOn {
+    let mut file = host.open(0, Mode::READ)?;
+    let got = [
+        host.read(&mut file, 0),
+        host.read(&mut file, 1),
+        host.read(&mut file, 4096),
+        host.read(&mut file, 4096),
+        host.read(&mut file, 4096),
+    ];
+    let written = host.write(&mut file, b"17\n");
+    Ok((got, written, host.close(file)))
+}
+
+/// Which calls of a connection have failed that the peer resets: two writes and the close.
+const RESET: [bool; 3] = [false, true, true];
+
+/// What two reads, a write and the close have answered, or the fault of the connection.
+type Talked = Result<
+    (
+        [Result<u16, Fault>; 2],
+        Result<(), Fault>,
+        Result<(), Fault>,
+    ),
+    Fault,
+>;
+
+/// The peer sends one byte and shuts its side.
+const TALKED: Talked = Ok(([Ok(1), Ok(0)], Ok(()), Ok(())));
+
 #[test]
-fn open_fails(rt: HostRuntime) -> Result<(), Fail> {
-    let folder = make_folder(&rt, "open")?;
-    let missing = format!(in rt.alloc(); "{folder}/missing")?;
-    let paths = vec![in rt.alloc(); missing, folder]?;
-    let mut host = OsHost::new(&rt, paths.as_slice(), &[]);
-    let modes = modes();
-    for mode in &modes[..3] {
-        assert!(rt; host.open(0, *mode).is_err(), "missing {}", mode.name());
-    }
-    for mode in &modes[1..] {
-        assert!(rt; host.open(1, *mode).is_err(), "folder {}", mode.name());
-    }
-    for path in [2, 255] {
-        assert!(rt; host.open(path, Mode::READ).is_err(), "path {path}");
-    }
-    assert_eq!(rt; counts_of(&host), [9, 0, 0]);
-    let mut folder = host.open(1, Mode::READ)?;
-    assert!(rt; host.read(&mut folder, 1).is_err());
-    host.close(folder)?;
-    assert_eq!(rt; counts_of(&host), [10, 1, 1]);
-    // The folder is still empty.
-    fs::remove_dir(&rt, paths.as_slice()[1].as_str())?;
+fn a_peer_resets_and_talks(rt: HostRuntime) -> Result<(), Fail> {
+    let listener = TcpListener::bind(&rt, "127.0.0.1:0")?;
+    let peer = listener.local_addr()?;
+    let silent = silent_address(&rt)?;
+    let reset = peers_used(&rt, peer, silent, &listener);
+    let alloc = rt.alloc();
+    let Ok(server) = thread::spawn(&rt, move || serve(alloc, &listener)) else {
+        return Err(Fail::new("no thread"));
+    };
+    let talked = peer_talked(&rt, peer);
+    let is_received = server.join(&rt)?;
+    assert_eq!(rt; reset, Some(([true, true], RESET, [4, 1, 1])));
+    assert_eq!(rt; talked, Some((TALKED, [0, 1, 1])));
+    assert!(rt; is_received);
     Ok(())
 }
 
-#[test]
-fn a_file_is_made_empty_and_never_truncated(rt: HostRuntime) -> Result<(), Fail> {
-    let folder = make_folder(&rt, "make")?;
-    let file = format!(in rt.alloc(); "{folder}/file")?;
-    let paths = vec![in rt.alloc(); file]?;
-    let file = paths.as_slice()[0].as_str();
-    let mut host = OsHost::new(&rt, paths.as_slice(), &[]);
-    let modes = modes();
-    for mode in &modes[3..] {
-        let made = host.open(0, *mode)?;
-        host.close(made)?;
-        assert_eq!(rt;
-            fs::read(&rt, file)?.as_slice(),
-            b"".as_slice(),
-            "{}",
-            mode.name()
-        );
-        fs::remove_file(&rt, file)?;
-    }
-    fs::write(&rt, file, "abcdef")?;
-    for mode in &modes {
-        let opened = host.open(0, *mode)?;
-        host.close(opened)?;
-        assert_eq!(rt;
-            fs::read(&rt, file)?.as_slice(),
-            b"abcdef".as_slice(),
-            "{}",
-            mode.name()
-        );
-    }
-    let mut written = host.open(0, Mode::WRITE)?;
-    host.write(&mut written, b"17\n")?;
-    host.close(written)?;
-    assert_eq!(rt; fs::read(&rt, file)?.as_slice(), b"17\ndef".as_slice());
-    assert_eq!(rt; counts_of(&host), [0, 8, 8]);
-    fs::remove_dir_all(&rt, folder.as_str())?;
-    Ok(())
+/// Returns an address where nobody listens.
+fn silent_address(rt: &HostRuntime) -> io::Result<SocketAddr> {
+    TcpListener::bind(rt, "127.0.0.1:0")?.local_addr()
 }
 
-// A read goes on where the last one ended. A file that is only written can't be read, nor the other way round.
-#[test]
-fn reads_on_to_the_end(rt: HostRuntime) -> Result<(), Fail> {
-    let folder = make_folder(&rt, "read")?;
-    let paths = vec![in rt.alloc(); format!(in rt.alloc(); "{folder}/file")?]?;
-    let mut host = OsHost::new(&rt, paths.as_slice(), &[]);
-    let mut written = host.open(0, Mode::WRITE.union(Mode::CREATE))?;
-    host.write(&mut written, &[7; 5000])?;
-    assert!(rt; host.read(&mut written, 1).is_err());
-    host.close(written)?;
-    assert_eq!(rt; counts_of(&host), [1, 1, 1]);
-    let mut read = host.open(0, Mode::READ)?;
-    for (most, got) in [(0, 0), (1, 1), (4096, 4096), (4096, 903), (4096, 0)] {
-        assert_eq!(rt; host.read(&mut read, most), Ok(got), "at most {most}");
-    }
-    assert!(rt; host.write(&mut read, b"17\n").is_err());
-    host.close(read)?;
-    assert_eq!(rt; counts_of(&host), [2, 2, 2]);
-    fs::remove_dir_all(&rt, folder.as_str())?;
-    Ok(())
+/// Connects to a peer that listens by its name, which would be found, and to one that doesn't listen; and then to the
+/// first by its address, which resets the connection. Returns whether each of the first two has failed, which calls of
+/// the third have, and what was counted.
+fn peers_used(
+    rt: &HostRuntime,
+    peer: SocketAddr,
+    silent: SocketAddr,
+    listener: &TcpListener,
+) -> Option<([bool; 2], [bool; 3], Counts)> {
+    let peers = [
+        format!(in rt.alloc(); "{peer}").ok()?,
+        format!(in rt.alloc(); "localhost:{}", peer.port()).ok()?,
+        format!(in rt.alloc(); "{silent}").ok()?,
+    ];
+    let mut host = OsHost::new(rt, &[], &peers);
+    let missed = [is_missed(&mut host, 1), is_missed(&mut host, 2)];
+    let reset = reset(&mut host, listener);
+    Some((missed, reset, counts_of(&host)))
 }
 
-// Sends one byte and no more, and returns what comes until the other side is shut.
-fn serve(alloc: Global, listener: &TcpListener) -> io::Result<Vec<u8>> {
+fn is_missed<H: Host>(host: &mut H, peer: u8) -> bool {
+    host.connect(peer).is_err()
+}
+
+/// Writes twice to the peer and closes the connection, which the peer closes between the writes. It hasn't read what
+/// was sent, so the connection is reset (RFC 1122, 4.2.2.13). Returns which of the three calls have failed.
+fn reset<H: Host>(host: &mut H, listener: &TcpListener) -> [bool; 3] {
+    match host.connect(0) {
+        Ok(mut stream) => {
+            let first = host.write(&mut stream, b"17\n").is_err();
+            let is_closed = listener.accept().is_ok();
+            let second = host.write(&mut stream, b"17\n").is_err();
+            [first, is_closed && second, host.close(stream).is_err()]
+        }
+        Err(_) => [true; 3],
+    }
+}
+
+/// Sends one byte and no more. Returns whether what comes until the other side is shut is what it has to be.
+fn serve(alloc: Global, listener: &TcpListener) -> io::Result<bool> {
     let (mut stream, _) = listener.accept()?;
     stream.write_all(b"h")?;
     stream.shutdown(Shutdown::Write)?;
     let mut received = Vec::new(alloc);
     stream.read_to_end(&mut received)?;
-    Ok(received)
+    Ok(received.as_slice() == b"17\n".as_slice())
 }
 
-#[test]
-fn talks_to_a_peer(rt: HostRuntime) -> Result<(), Fail> {
-    let listener = TcpListener::bind(&rt, "127.0.0.1:0")?;
-    let peers = vec![in rt.alloc(); format!(in rt.alloc(); "{}", listener.local_addr()?)?]?;
-    let alloc = rt.alloc();
-    let Ok(peer) = thread::spawn(&rt, move || serve(alloc, &listener)) else {
-        return Err(Fail::new("no thread"));
-    };
-    let mut host = OsHost::new(&rt, &[], peers.as_slice());
+/// Talks to the peer. Returns what the calls have answered, and what was counted.
+fn peer_talked(rt: &HostRuntime, peer: SocketAddr) -> Option<(Talked, Counts)> {
+    let peers = [format!(in rt.alloc(); "{peer}").ok()?];
+    let mut host = OsHost::new(rt, &[], &peers);
+    let talked = talk(&mut host);
+    Some((talked, counts_of(&host)))
+}
+
+/// Reads from the peer until it has shut its side, writes, and closes the connection.
+fn talk<H: Host>(host: &mut H) -> Talked {
     let mut stream = host.connect(0)?;
-    assert_eq!(rt; host.read(&mut stream, 4096), Ok(1));
-    assert_eq!(rt; host.read(&mut stream, 4096), Ok(0));
-    host.write(&mut stream, b"17\n")?;
-    host.close(stream)?;
-    assert_eq!(rt; peer.join(&rt)?.as_slice(), b"17\n".as_slice());
-    assert_eq!(rt; counts_of(&host), [0, 1, 1]);
-    Ok(())
-}
-
-// A name, though it would be found; an address without a port; no text; a port where nobody listens; a number without
-// a peer.
-#[test]
-fn connect_fails(rt: HostRuntime) -> Result<(), Fail> {
-    let listener = TcpListener::bind(&rt, "127.0.0.1:0")?;
-    let port = listener.local_addr()?.port();
-    let silent = TcpListener::bind(&rt, "127.0.0.1:0")?.local_addr()?;
-    let peers = vec![in rt.alloc();
-        format!(in rt.alloc(); "localhost:{port}")?,
-        format!(in rt.alloc(); "127.0.0.1")?,
-        format!(in rt.alloc(); "")?,
-        format!(in rt.alloc(); "{silent}")?,
-    ]?;
-    let mut host = OsHost::new(&rt, &[], peers.as_slice());
-    for peer in [0, 1, 2, 3, 4, 255] {
-        assert!(rt; host.connect(peer).is_err(), "peer {peer}");
-    }
-    assert_eq!(rt; counts_of(&host), [6, 0, 0]);
-    Ok(())
-}
-
-// The peer closes what it hasn't read, so the connection is reset (RFC 1122, 4.2.2.13).
-#[test]
-fn a_connection_is_reset(rt: HostRuntime) -> Result<(), Fail> {
-    let listener = TcpListener::bind(&rt, "127.0.0.1:0")?;
-    let peers = vec![in rt.alloc(); format!(in rt.alloc(); "{}", listener.local_addr()?)?]?;
-    let mut host = OsHost::new(&rt, &[], peers.as_slice());
-    let mut stream = host.connect(0)?;
-    host.write(&mut stream, b"17\n")?;
-    drop(listener.accept()?);
-    assert!(rt; host.write(&mut stream, b"17\n").is_err());
-    assert_eq!(rt; counts_of(&host), [1, 1, 0]);
-    assert!(rt; host.close(stream).is_err());
-    assert_eq!(rt; counts_of(&host), [2, 1, 1]);
-    Ok(())
-}
-
-// As the workers of a run, each with a host of its own.
-#[test]
-fn two_threads_have_a_host_each(rt: HostRuntime) -> Result<(), Fail> {
-    let folder = make_folder(&rt, "threads")?;
-    let paths = vec![in rt.alloc(); folder]?;
-    let mut hosts = [
-        OsHost::new(&rt, paths.as_slice(), &[]),
-        OsHost::new(&rt, paths.as_slice(), &[]),
-    ];
-    thread::for_each_mut(
-        &rt,
-        &mut hosts,
-        2,
-        &|_, host| {
-            if let Ok(folder) = host.open(0, Mode::READ) {
-                let _ = host.close(folder);
-            }
-        },
-    );
-    for host in &hosts {
-        assert_eq!(rt; counts_of(host), [0, 1, 1]);
-    }
-    fs::remove_dir(&rt, paths.as_slice()[0].as_str())?;
-    Ok(())
+    let got = [host.read(&mut stream, 4096), host.read(&mut stream, 4096)];
+    let written = host.write(&mut stream, b"17\n");
+    Ok((got, written, host.close(stream)))
 }

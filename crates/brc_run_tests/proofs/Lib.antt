@@ -1,1 +1,1 @@
-mod Callable
+pub mod Opening

@@ -1,15 +1,9 @@
-//! Many workers that a bound stops wherever they are.
+//! Many workers that a bound stops wherever they are, and a million locks of one list.
 
-use crate::runs::{Open, report_of};
-use crate::seeds::after;
-use crate::worked::THREE_OPEN;
-use std::test::*;
+use crate::runs::{Open, Run, THREE_OPEN, after, report_of};
 
 /// The modules, and how many runs of each there are.
 const MODULES: [(&[u8], u64); 2] = [(SHARED, 1000), (THREE_OPEN, 300)];
-
-/// The workers, their rows and their calls.
-const RUN: (u8, u16, u32) = (32, 8, 4);
 
 /// The greatest bound. The calls of a worker begin more instructions.
 const MOST_STEPS: u64 = 50;
@@ -20,17 +14,34 @@ const SHARED: &[u8] =
     fetch v2 v0 0 else @17\nunlock v0\nas v2 list else @15\nnum v3 7 else @12\nlock v2\nset v2 0 v3 else @11\n\
     unlock v2\ndrop v2\nnone v1\nret v1\ndrop v2\nfail\nunlock v0\nfail\nend\n";
 
+/// Puts a static list's first number into its second cell too.
+const SAME_IN_BOTH: &[u8] =
+    b"module 3\nstatic 5 6\nfunc f\ntake v1 0\nlock v1\nfetch v2 v1 0 else @8\nput v1 1 v2 else @4\nunlock v1\n\
+    drop v2\ndrop v1\nfail\nunlock v1\ndrop v1\nfail\nend\n";
+
 #[test]
-fn workers_that_are_stopped_leave_nothing(rt: HostRuntime) -> Result<(), Fail> {
+fn workers_that_are_stopped_leave_nothing(rt: HostRuntime) {
     let mut number = 0;
     for (text, runs) in MODULES {
         for _ in 0..runs {
             number = after(number);
             let steps = (number >> 33) % (MOST_STEPS + 1);
-            let counts = report_of(&rt, rt.alloc(), text, RUN, steps, &Open)?;
-            let created = counts[2];
-            assert_eq!(rt; counts, [32, 0, created, created, 0, 0, 0], "{steps} steps");
+            let run: Run = (32, 8, 4, steps);
+            let counts = report_of(&rt, rt.alloc(), text, run, &[], &[], &Open);
+            let created = counts.unwrap_or([0; 7])[2];
+            assert_eq!(rt;
+                counts,
+                Some([32, 0, created, created, 0, 0, 0]),
+                "{steps} steps"
+            );
         }
     }
-    Ok(())
+}
+
+// Locks and changes of one list. The number that was in the second cell is closed once.
+#[test]
+fn a_million_locks(rt: HostRuntime) {
+    let run: Run = (32, 4, 31_250, u64::MAX);
+    let counts = report_of(&rt, rt.alloc(), SAME_IN_BOTH, run, &[], &[], &Open);
+    assert_eq!(rt; counts, Some([32, 0, 3, 2, 1, 0, 0]));
 }

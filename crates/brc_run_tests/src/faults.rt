@@ -1,23 +1,19 @@
 //! Runs over hosts that fail by plan: the report has the faults of each worker's host, and of main's.
 
-use crate::runs::{Counts, MOST_ROWS, Open, report_over};
+use crate::runs::{COPY, Counts, Open, report_over};
 use brc_host::{FakeHost, Host};
 use brc_work::Gate;
+use std::alloc::AllocGlobal;
+use std::sync::Wait;
 use std::sync::atomic::{AtomicBool, AtomicU64, Ordering};
-use std::test::*;
-
-/// Writes to a peer how many bytes it has read from a file. The host's calls are 0 open, 1 connect, 2 read, 3 write,
-/// and if those of opening succeed, at the end the closes of the connection and of the file: 4 and 5 in a whole copy.
-const COPY: &[u8] =
-    b"module 1\nfunc f\nopen v1 0 r else @13\nconnect v2 0 else @12\nlock v1\nread v3 v1 4 else @10\n\
-    unlock v1\nlock v2\nwrite v2 v3 else @7\nunlock v2\ndrop v3\ngoto @11\nunlock v1\ndrop v2\ndrop v1\nfail\nend\n";
+use std::thread::Threads;
 
 /// Opens a file and puts it into the root, in the place of the file that another worker has put there.
 const KEPT: &[u8] =
     b"module 1\nfunc f\nopen v1 0 r else @4\nlock v0\nset v0 0 v1 else @3\nunlock v0\nfail\nend\n";
 
 /// Which calls of each of two workers' hosts fail, and the report, each worker having made one copy.
-const CASES: &[([&[u64]; 2], Counts)] = &[
+const COPIES: &[([&[u64]; 2], Counts)] = &[
     ([&[], &[]], [2, 0, 7, 7, 0, 0, 0]),
     ([&[0], &[]], [2, 0, 4, 4, 0, 1, 0]),
     ([&[], &[1]], [2, 0, 5, 5, 0, 1, 0]),
@@ -30,57 +26,35 @@ const CASES: &[([&[u64]; 2], Counts)] = &[
 ];
 
 #[test]
-fn a_report_has_the_faults_of_all_hosts(rt: HostRuntime) -> Result<(), Fail> {
-    for ([one, other], want) in CASES {
-        let mut hosts = [FakeHost::new(one), FakeHost::new(other)];
-        let mut main_host = FakeHost::new(&[]);
-        let counts = report_over(
-            &rt,
-            rt.alloc(),
-            COPY,
-            2,
-            MOST_ROWS,
-            1,
-            u64::MAX,
-            &mut hosts,
-            &mut main_host,
-            &Open,
-        )?;
-        assert_eq!(rt; counts, *want);
-        for host in &hosts {
-            assert_eq!(rt; host.opened(), host.closed());
-        }
+fn everything_is_closed_whichever_calls_fail(rt: HostRuntime) {
+    for (plans, want) in COPIES {
+        assert_eq!(rt; copied(&rt, *plans), Some((*want, true)));
     }
-    Ok(())
-}
-
-#[test]
-fn everything_is_closed_whichever_two_calls_fail(rt: HostRuntime) -> Result<(), Fail> {
     for second in 1..7u64 {
         for first in 0..second {
             let plan = [first, second];
-            let mut hosts = [FakeHost::new(&plan), FakeHost::new(&plan)];
-            let mut main_host = FakeHost::new(&[]);
-            let counts = report_over(
-                &rt,
-                rt.alloc(),
-                COPY,
-                2,
-                MOST_ROWS,
-                1,
-                u64::MAX,
-                &mut hosts,
-                &mut main_host,
-                &Open,
-            )?;
-            let [threads, running, created, closed, alive, _, _] = counts;
-            assert_eq!(rt; (threads, running, closed, alive), (2, 0, created, 0));
-            for host in &hosts {
-                assert_eq!(rt; host.opened(), host.closed());
-            }
+            let copied = copied(&rt, [&plan, &plan]);
+            let [_, _, created, _, _, host_faults, close_faults] = copied
+                .unwrap_or(([0; 7], false))
+                .0;
+            let want = [2, 0, created, created, 0, host_faults, close_faults];
+            assert_eq!(rt; copied, Some((want, true)), "{first} and {second}");
         }
     }
-    Ok(())
+}
+
+/// Lets each of two workers make a copy, over hosts of these plans. Returns the report, and whether each host has closed
+/// what it had opened.
+fn copied<R: AllocGlobal + Threads + Wait + Sync>(
+    rt: &R,
+    [one, other]: [&[u64]; 2],
+) -> Option<(Counts, bool)> {
+    let mut hosts = [FakeHost::new(one), FakeHost::new(other)];
+    let mut main_host = FakeHost::new(&[]);
+    let counts = report_over(rt, rt.alloc(), COPY, &mut hosts, &mut main_host, &Open)?;
+    let [one, other] = &hosts;
+    let are_closed = one.opened() == one.closed() && other.opened() == other.closed();
+    Some((counts, are_closed))
 }
 
 /// How often a worker looks for the other before it misses it.
@@ -120,41 +94,39 @@ impl Gate for Turns {
     }
 }
 
+/// Which calls of the first worker's host and of main's fail, and how many closes then have failed.
+const EXITS: [([&[u64]; 2], u64); 4] = [
+    ([&[], &[]], 0),
+    ([&[1], &[]], 1),
+    ([&[], &[0]], 1),
+    ([&[1], &[0]], 2),
+];
+
 /// The second worker takes the first one's file out of the root, which it doesn't own: so the first one's exit merges
 /// and closes it, by call 1 of the first host. The second file is closed as main leaves, by call 0 of main's host.
 #[test]
-fn a_report_has_the_faults_of_the_exits(rt: HostRuntime) -> Result<(), Fail> {
-    let cases: [([&[u64]; 2], u64); 4] = [
-        ([&[], &[]], 0),
-        ([&[1], &[]], 1),
-        ([&[], &[0]], 1),
-        ([&[1], &[0]], 2),
-    ];
-    for ([first, main], close_faults) in cases {
-        let gate = Turns {
-            ended: AtomicU64::new(0),
-            missed: AtomicBool::new(false),
-        };
-        let mut hosts = [FakeHost::new(first), FakeHost::new(&[1])];
-        let mut main_host = FakeHost::new(main);
-        let counts = report_over(
-            &rt,
-            rt.alloc(),
-            KEPT,
-            2,
-            MOST_ROWS,
-            1,
-            u64::MAX,
-            &mut hosts,
-            &mut main_host,
-            &gate,
-        )?;
-        assert_eq!(rt; counts, [2, 0, 3, 3, 0, 0, close_faults]);
-        assert_eq!(rt;
-            (hosts[0].closed(), hosts[1].closed(), main_host.closed()),
-            (1, 0, 1)
-        );
-        assert!(rt; !gate.missed.load(Ordering::SeqCst));
+fn a_report_has_the_faults_of_the_exits(rt: HostRuntime) {
+    for (plans, close_faults) in EXITS {
+        let counts = [2, 0, 3, 3, 0, 0, close_faults];
+        assert_eq!(rt; kept(&rt, plans), Some((counts, [1, 0, 1], false)));
     }
-    Ok(())
+}
+
+/// Lets two workers open a file each, one after the other, over hosts of these plans for the first worker and main, and
+/// of one for the second whose close fails. Returns the report, what the workers' hosts and main's have closed, and
+/// whether a worker has missed the other.
+fn kept<R: AllocGlobal + Threads + Wait + Sync>(
+    rt: &R,
+    [first, main]: [&[u64]; 2],
+) -> Option<(Counts, [u64; 3], bool)> {
+    let gate = Turns {
+        ended: AtomicU64::new(0),
+        missed: AtomicBool::new(false),
+    };
+    let mut hosts = [FakeHost::new(first), FakeHost::new(&[1])];
+    let mut main_host = FakeHost::new(main);
+    let counts = report_over(rt, rt.alloc(), KEPT, &mut hosts, &mut main_host, &gate)?;
+    let [one, other] = &hosts;
+    let closed = [one.closed(), other.closed(), main_host.closed()];
+    Some((counts, closed, gate.missed.load(Ordering::SeqCst)))
 }

@@ -1,72 +1,65 @@
 //! Workers that wait for each other: they do run at the same time.
 
 use crate::runs::{Counts, MOST_ROWS, report_of};
-use crate::worked::NOTHING;
+use brc_run::System;
 use brc_work::Gate;
+use crossbeam_queue::ArrayQueue;
+use std::alloc::AllocGlobal;
 use std::sync::Wait;
-use std::sync::atomic::{AtomicBool, AtomicU64, Ordering};
-use std::test::*;
-use std::thread::Threads;
 
 /// How often a worker looks for the others before it misses them.
 const MOST_TURNS: u64 = 100_000_000;
 
-/// Holds each worker before its first call, until as many workers stand there as are to meet.
+/// It does nothing.
+const NOTHING: &[u8] = b"module 1\nfunc f\nfail\nend\n";
+
+/// Holds each worker before its first call, until as many workers are there as are to meet.
 #[derive(Drop)]
-struct Meeting {
-    wanted: u64,
-    come: AtomicU64,
-    missed: AtomicBool,
+struct Meeting<'r, R> {
+    rt: &'r R,
+    wanted: usize,
+    come: ArrayQueue<()>,
+    missed: ArrayQueue<()>,
 }
 
-impl Meeting {
-    /// Returns a gate at which this number of workers meet.
-    fn of(wanted: u64) -> Meeting {
-        Meeting {
-            wanted,
-            come: AtomicU64::new(0),
-            missed: AtomicBool::new(false),
-        }
-    }
-}
-
-impl Gate for Meeting {
+impl<R: Wait> Gate for Meeting<'_, R> {
     fn before(&self, _thread: u8, call: u32) {
         if call > 0 {
             return;
         }
-        self.come.fetch_add(1, Ordering::SeqCst);
+        // There is room for the signal of each worker.
+        let _ = self.come.push(self.rt, ());
         for _ in 0..MOST_TURNS {
-            if self.come.load(Ordering::SeqCst) >= self.wanted {
+            if self.come.len(self.rt) >= self.wanted {
                 return;
             }
         }
-        self.missed.store(true, Ordering::SeqCst);
+        let _ = self.missed.push(self.rt, ());
     }
 
     fn after(&self, _thread: u8, _call: u32) {}
 }
 
-/// Lets this number of workers meet: each one's first call begins once all of them stand before theirs. Returns the
+/// Lets this number of workers meet: each one's first call begins once all of them are there before theirs. Returns the
 /// report's numbers, and whether a worker has missed another one.
-fn meet<R: AllocGlobal + Threads + Wait + Sync>(
-    rt: &R,
-    threads: u8,
-) -> Result<(Counts, bool), Fail> {
-    let gate = Meeting::of(u64::from(threads));
-    let run = (threads, MOST_ROWS, 1);
-    let counts = report_of(rt, rt.alloc(), NOTHING, run, u64::MAX, &gate)?;
-    Ok((counts, gate.missed.load(Ordering::SeqCst)))
+fn meet<R: AllocGlobal + System>(rt: &R, threads: u8) -> Option<(Counts, bool)> {
+    let gate = Meeting {
+        rt,
+        wanted: usize::from(threads),
+        come: ArrayQueue::new(rt.alloc(), 32).ok()?,
+        missed: ArrayQueue::new(rt.alloc(), 32).ok()?,
+    };
+    let run = (threads, MOST_ROWS, 1, u64::MAX);
+    let counts = report_of(rt, rt.alloc(), NOTHING, run, &[], &[], &gate)?;
+    Some((counts, gate.missed.pop(rt).is_some()))
 }
 
 #[test]
-fn two_calls_meet(rt: HostRuntime) -> Result<(), Fail> {
-    assert_eq!(rt; meet(&rt, 2)?, ([2, 0, 1, 1, 0, 0, 0], false));
-    Ok(())
+fn two_calls_meet(rt: HostRuntime) {
+    assert_eq!(rt; meet(&rt, 2), Some(([2, 0, 1, 1, 0, 0, 0], false)));
 }
 
 #[test]
-fn four_calls_meet(rt: HostRuntime) -> Result<(), Fail> {
-    assert_eq!(rt; meet(&rt, 4)?, ([4, 0, 1, 1, 0, 0, 0], false));
-    Ok(())
+fn four_meet(rt: HostRuntime) {
+    assert_eq!(rt; meet(&rt, 4), Some(([4, 0, 1, 1, 0, 0, 0], false)));
 }

@@ -1,26 +1,47 @@
 //! A run of a module's last function, in plain numbers.
 
-ghost use Rattle.std.specs.Prelude.{◌≡◌, ◌<◌, [], length, IfOk};
+ghost use Rattle.std.specs.Prelude.{◌≡◌, ◌<◌, [], length, IfSome};
 ghost use Rattle.brc_model.specs.Threads.{function_at};
 
-use brc_check::{Checked, check};
+use brc_check::Checked;
+use brc_fixtures::{accepted, last_function};
 use brc_host::FakeHost;
-use brc_lang::read;
 use brc_model::Call;
 use brc_report::Tally;
-use brc_run::{Plan, run};
+use brc_run::{Plan, System, run, run_on_system};
 use brc_work::Gate;
-use std::alloc::{AllocError, Global};
+use std::alloc::Global;
 use std::sync::Wait;
-use std::test::*;
 use std::thread::Threads;
 
 /// The most rows that a worker may have.
 pub const MOST_ROWS: u16 = 1024;
 
+/// Each call's number takes the place of the last one's in the root's first cell.
+pub const SWAP: &[u8] =
+    b"module 1\nfunc swap\nnum v1 7 else @7\nlock v0\nset v0 0 v1 else @6\nunlock v0\nnone v1\nret v1\n\
+    unlock v0\nfail\nend\n";
+
+/// `f` lends its second number to `hold`, which returns a reference to it and hands a number of its own to `keep`.
+pub const THREE_OPEN: &[u8] =
+    b"module 2\nfunc keep steal num\nlock v0\nset v0 0 v1 else @2\nunlock v0\nfail\nend\n\
+    func hold borrow any\nnewref v2 v1\nnum v3 9 else @4\ncall v4 keep v3 else @4\ndrop v4\nret v2\nend\n\
+    func f\nnum v1 7 else @7\nnum v2 8 else @6\ncall v3 hold v2 else @5\ndrop v3\ngoto @5\ndrop v2\n\
+    drop v1\nfail\nend\n";
+
+/// Writes to a peer how many bytes it has read from a file, at most 4. The host's calls are 0 open, 1 connect, 2 read,
+/// 3 write, and if those of opening succeed, at the end the closes of the connection and of the file: 4 and 5 in a whole
+/// copy.
+pub const COPY: &[u8] =
+    b"module 1\nfunc f\nopen v1 0 r else @13\nconnect v2 0 else @12\nlock v1\nread v3 v1 4 else @10\n\
+    unlock v1\nlock v2\nwrite v2 v3 else @7\nunlock v2\ndrop v3\ngoto @11\nunlock v1\ndrop v2\ndrop v1\nfail\nend\n";
+
 /// A report: the workers, the threads that run, the objects that were created, closed and are alive, and the faults of
 /// the host's calls and of its closes.
 pub type Counts = [u64; 7];
+
+/// The workers, their rows, their calls, and the most instructions that each begins.
+pub type Run = (u8, u16, u32, u64);
 
 /// A gate that hears of nothing.
 #[derive(Clone, Copy, Debug)]
@@ -32,32 +53,11 @@ impl Gate for Open {
     fn after(&self, _thread: u8, _call: u32) {}
 }
 
-/// Returns the module of the text, which is accepted.
-pub fn accepted(alloc: Global, text: &[u8]) -> Result<Checked, Fail> {
-    let Ok(module) = read(alloc, text) else {
-        return Err("the text is a module")?;
-    };
-    match check(alloc, module) {
-        Ok(checked) => Ok(checked),
-        Err(_) => Err("the module is accepted")?,
-    }
-}
-
-/// Returns the number of the module's last function, which has no parameters.
-#[tactic(auto, using(crate::proofs::Callable::has_no_parameters))]
-pub fn last_function(checked: &Checked) -> Result<usize, Fail>
-    ensures function { IfOk result (λ function. function < length checked.now.module.functions) }
-    ensures parameters { IfOk result (λ function.
-        (function_at checked.now.module.functions function).parameters ≡ []) }
-{
-    // The accepted module has a function.
-    let functions = checked.module().functions.as_slice();
-    let last = functions.len() - 1;
-    if functions[last].parameters.len() == 0 {
-        Ok(last)
-    } else {
-        Err("the last function has no parameters")?
-    }
+/// Returns the next number of a sequence that looks random (Knuth's MMIX generator).
+pub fn after(number: u64) -> u64 {
+    number
+        .wrapping_mul(6_364_136_223_846_793_005)
+        .wrapping_add(1_442_695_040_888_963_407)
 }
 
 /// Returns the tally's numbers.
@@ -73,71 +73,88 @@ pub fn counts_of(tally: &Tally) -> Counts {
     ]
 }
 
-/// Returns `count` hosts, which never fail.
-fn hosts_of(alloc: Global, count: u8) -> Result<Vec<FakeHost<'static>>, AllocError>
-    ensures { IfOk result (λ hosts. length hosts.items ≡ count) }
+/// Returns the plan of a run that calls the module's last function, or `None` if a number is out of range.
+fn plan_of(checked: &Checked, run: Run) -> Option<Plan>
+    ensures function { IfSome result (λ plan. plan.call.function < length checked.now.module.functions) }
+    ensures parameters { IfSome result (λ plan.
+        (function_at checked.now.module.functions plan.call.function).parameters ≡ []) }
 {
-    let mut hosts = Vec::new(alloc);
-    for _ in 0..count {
-        hosts.push(FakeHost::new(&[]))?;
-    }
-    Ok(hosts)
-}
-
-/// Lets `threads` workers, with `rows` rows each, call the last function of the text's module `times` times, with at
-/// most `steps` instructions each and over hosts that never fail. Returns the report's numbers.
-pub fn report_of<R: Threads + Wait + Sync, G: Gate + Sync>(
-    rt: &R,
-    alloc: Global,
-    text: &[u8],
-    (threads, rows, times): (u8, u16, u32),
-    steps: u64,
-    gate: &G,
-) -> Result<Counts, Fail> {
-    let mut hosts = hosts_of(alloc, threads)?;
-    let mut main_host = FakeHost::new(&[]);
-    report_over(
-        rt,
-        alloc,
-        text,
-        threads,
-        rows,
-        times,
-        steps,
-        hosts.as_mut_slice(),
-        &mut main_host,
-        gate,
-    )
-}
-
-/// The same over these hosts, one for each worker, and main's.
-pub fn report_over<'p, R: Threads + Wait + Sync, G: Gate + Sync>(
-    rt: &R,
-    alloc: Global,
-    text: &[u8],
-    threads: u8,
-    rows: u16,
-    times: u32,
-    steps: u64,
-    hosts: &mut [FakeHost<'p>],
-    main_host: &mut FakeHost<'p>,
-    gate: &G,
-) -> Result<Counts, Fail>
-    requires one_each { length hosts.old ≡ threads }
-{
+    let (threads, rows, times, steps) = run;
     if threads == 0 || threads > 32 || rows == 0 || rows > MOST_ROWS {
-        return Err("1 to 32 workers with 1 to 1024 rows each")?;
+        return None;
     }
-    let checked = accepted(alloc, text)?;
-    let function = last_function(&checked)?;
-    let plan = Plan {
+    let function = last_function(checked).ok()?;
+    Some(Plan {
         call: Call { function, times },
         steps,
         threads,
         rows,
+    })
+}
+
+/// Runs the text's module over the system. Returns the report's numbers.
+pub fn report_of<R: System, G: Gate + Sync>(
+    rt: &R,
+    alloc: Global,
+    text: &[u8],
+    run: Run,
+    paths: &[&str],
+    peers: &[&str],
+    gate: &G,
+) -> Option<Counts> {
+    let checked = accepted(alloc, text).ok()?;
+    counts_on(rt, alloc, &checked, run, paths, peers, gate)
+}
+
+fn counts_on<R: System, G: Gate + Sync>(
+    rt: &R,
+    alloc: Global,
+    checked: &Checked,
+    run: Run,
+    paths: &[&str],
+    peers: &[&str],
+    gate: &G,
+) -> Option<Counts> {
+    let plan = plan_of(checked, run)?;
+    match run_on_system(rt, alloc, checked, plan, paths, peers, gate) {
+        Ok(tally) => Some(counts_of(&tally)),
+        Err(_) => None,
+    }
+}
+
+/// Lets two workers call the last function of the text's module once, over these hosts and main's. Returns the report's
+/// numbers.
+pub fn report_over<'p, R: Threads + Wait + Sync, G: Gate + Sync>(
+    rt: &R,
+    alloc: Global,
+    text: &[u8],
+    hosts: &mut [FakeHost<'p>; 2],
+    main_host: &mut FakeHost<'p>,
+    gate: &G,
+) -> Option<Counts> {
+    let checked = accepted(alloc, text).ok()?;
+    counts_over(rt, alloc, &checked, hosts, main_host, gate)
+}
+
+fn counts_over<'p, R: Threads + Wait + Sync, G: Gate + Sync>(
+    rt: &R,
+    alloc: Global,
+    checked: &Checked,
+    hosts: &mut [FakeHost<'p>; 2],
+    main_host: &mut FakeHost<'p>,
+    gate: &G,
+) -> Option<Counts> {
+    let plan = Plan {
+        call: Call {
+            function: last_function(checked).ok()?,
+            times: 1,
+        },
+        steps: u64::MAX,
+        threads: 2,
+        rows: MOST_ROWS,
     };
-    match run(rt, alloc, &checked, plan, hosts, main_host, gate) {
-        Ok(tally) => Ok(counts_of(&tally)),
-        Err(_) => Err("the run has a tally")?,
+    match run(rt, alloc, checked, plan, hosts, main_host, gate) {
+        Ok(tally) => Some(counts_of(&tally)),
+        Err(_) => None,
     }
 }

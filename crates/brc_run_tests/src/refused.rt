@@ -1,17 +1,19 @@
 //! Four workers swap numbers in the root, and one allocation is refused: each call that takes memory says so, and
 //! whatever was made by then is closed.
 
-ghost use Rattle.std.specs.Prelude.{◌≡◌, ◌<◌, true, [], length, IfOk};
+ghost use Rattle.std.specs.Prelude.{◌≡◌, ◌<◌, true, [], length};
 ghost use Rattle.brc_model.specs.Threads.{function_at};
 ghost use Rattle.brc_table.specs.Hands.{IsOf};
 
+use crate::runs::{Open, SWAP};
 use brc_check::{CheckCode, Checked, check};
+use brc_fixtures::is_callable;
 use brc_heap::{Final, Hand, Heap, ROOT};
 use brc_host::{FakeHost, FakeResource};
 use brc_lang::{FaultCode, read};
 use brc_queue::Queue;
-use brc_work::{Gate, fan_out};
-use std::alloc::{AllocError, Global};
+use brc_work::fan_out;
+use std::alloc::Global;
 use std::sync::Wait;
 use std::test::*;
 use std::thread::Threads;
@@ -23,21 +25,6 @@ const ROWS: u16 = 1024;
 
 const TIMES: u32 = 3;
 
-/// Each call's number takes the place of the last one's in the root's first cell.
-const SWAP: &[u8] =
-    b"module 1\nfunc swap\nnum v1 7 else @7\nlock v0\nset v0 0 v1 else @6\nunlock v0\nnone v1\nret v1\n\
-    unlock v0\nfail\nend\n";
-
-/// A gate that hears of nothing.
-#[derive(Clone, Copy, Debug)]
-struct Open;
-
-impl Gate for Open {
-    fn before(&self, _thread: u8, _call: u32) {}
-
-    fn after(&self, _thread: u8, _call: u32) {}
-}
-
 /// Where memory was refused, or how many objects were created and closed.
 #[derive(Clone, Copy, Debug, PartialEq, Eq)]
 enum Outcome {
@@ -45,8 +32,6 @@ enum Outcome {
     Reading,
     /// C12, in checking it.
     Checking,
-    /// In the test's own list of hosts.
-    Hosts,
     /// H1, in making the heap.
     Opening,
     /// K1, in starting the workers.
@@ -125,46 +110,45 @@ fn outcome_of<R: Threads + Wait + Sync>(
     }
 }
 
-/// Returns whether the module's first function has no parameters, as those that workers call.
-#[tactic(auto, using(crate::proofs::Callable::has_no_parameters))]
-fn is_callable(checked: &Checked) -> bool
-    ensures function { 0 < length checked.now.module.functions }
-    ensures parameters { result ≡ true → (function_at checked.now.module.functions 0).parameters ≡ [] }
-{
-    // The accepted module has a first function.
-    checked.module().functions.as_slice()[0].parameters.len() == 0
-}
-
-/// Returns a host for each worker, which never fails.
-fn hosts_of(alloc: Global) -> Result<Vec<FakeHost<'static>>, AllocError>
-    ensures { IfOk result (λ hosts. length hosts.items ≡ THREADS) }
-{
-    let mut hosts = Vec::new(alloc);
-    for _ in 0..THREADS {
-        hosts.push(FakeHost::new(&[]))?;
+/// Lets workers run over hosts that never fail.
+fn outcome_over_hosts<R: Threads + Wait + Sync>(
+    rt: &R,
+    alloc: Global,
+    checked: &Checked,
+) -> Outcome {
+    if !is_callable(checked, 0) {
+        return Outcome::Wrong;
     }
-    Ok(hosts)
+    let mut hosts = [
+        FakeHost::new(&[]),
+        FakeHost::new(&[]),
+        FakeHost::new(&[]),
+        FakeHost::new(&[]),
+    ];
+    outcome_of(rt, alloc, checked, &mut hosts)
 }
 
 /// Reads and checks the module, and runs it.
 fn swaps<R: Threads + Wait + Sync>(rt: &R, alloc: Global) -> Outcome {
-    let module = match read(alloc, SWAP) {
-        Ok(module) => module,
-        Err(fault) if fault.code == FaultCode::NoMemory => return Outcome::Reading,
-        Err(_) => return Outcome::Wrong,
-    };
-    let checked = match check(alloc, module) {
-        Ok(checked) => checked,
-        Err(refused) if refused.code == CheckCode::NoMemory => return Outcome::Checking,
-        Err(_) => return Outcome::Wrong,
-    };
-    if !is_callable(&checked) {
-        return Outcome::Wrong;
+    match read(alloc, SWAP) {
+        Ok(module) => match check(alloc, module) {
+            Ok(checked) => outcome_over_hosts(rt, alloc, &checked),
+            Err(refused) if refused.code == CheckCode::NoMemory => Outcome::Checking,
+            Err(_) => Outcome::Wrong,
+        },
+        Err(fault) if fault.code == FaultCode::NoMemory => Outcome::Reading,
+        Err(_) => Outcome::Wrong,
     }
-    let Ok(mut hosts) = hosts_of(alloc) else {
-        return Outcome::Hosts;
-    };
-    outcome_of(rt, alloc, &checked, hosts.as_mut_slice())
+}
+
+/// Returns whether the run said where memory was refused and closed what was made, or had ample memory and made all.
+fn is_right(outcome: Outcome) -> bool {
+    match outcome {
+        Outcome::Ended { created, closed } => created == 13 && closed == 13,
+        Outcome::Starting { created, closed } => created == closed,
+        Outcome::Reading | Outcome::Checking | Outcome::Opening => true,
+        Outcome::Wrong => false,
+    }
 }
 
 /// With ample memory all is made; whichever allocation is refused, what was made is closed.
@@ -172,13 +156,5 @@ fn swaps<R: Threads + Wait + Sync>(rt: &R, alloc: Global) -> Outcome {
 fn each_refusal_is_answered(rt: HostRuntime) {
     let outcome = swaps(&rt, rt.alloc());
     let _ = eprintln!(rt; "{outcome:?}");
-    match outcome {
-        Outcome::Ended { created, closed } => assert_eq!(rt; (created, closed), (13, 13)),
-        Outcome::Starting { created, closed } => assert_eq!(rt; created, closed),
-        Outcome::Reading | Outcome::Checking | Outcome::Hosts | Outcome::Opening => {}
-        Outcome::Wrong => assert!(rt;
-            false,
-            "no text is unread, no module refused, no thread left"
-        ),
-    }
+    assert!(rt; is_right(outcome));
 }

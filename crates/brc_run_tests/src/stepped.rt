@@ -5,10 +5,11 @@ ghost use Rattle.std.specs.Prelude.{◌≡◌, ◌<◌, true, [], length, IfSome
 ghost use Rattle.brc_lang.specs.Grammar.{IsModule};
 ghost use Rattle.brc_model.specs.Threads.{function_at};
 
-use brc_check::{CheckCode, Checked, infer, verify};
+use brc_check::{CheckCode, Checked, Table, infer, verify};
+use brc_fixtures::is_callable;
 use brc_lang::{FaultCode, Module, read};
 use brc_model::{Call, Choice};
-use brc_report::write_tally;
+use brc_report::{Tally, write_tally};
 use brc_schedule::{Schedule, read_schedule};
 use brc_world::World;
 use std::alloc::Global;
@@ -57,18 +58,28 @@ fn module_of(alloc: Global, refused: &mut Refusals) -> Option<Module>
     None
 }
 
-/// Infers the module's table, again if memory is refused, and verifies it.
-fn checked_of(alloc: Global, module: Module, refused: &mut Refusals) -> Option<Checked>
-    requires { IsModule «module» }
+/// Infers the module's table, again if memory is refused.
+fn table_of(alloc: Global, module: &Module, refused: &mut Refusals) -> Option<Table>
+    requires { IsModule «module».now }
 {
     for _ in 0..2 {
-        match infer(alloc, &module) {
-            Ok(table) => return verify(module, table).ok(),
+        match infer(alloc, module) {
+            Ok(table) => return Some(table),
             Err(error) if error.code == CheckCode::NoMemory => note(refused, "infer"),
             Err(_) => return None,
         }
     }
     None
+}
+
+/// Infers the module's table and verifies it.
+fn checked_of(alloc: Global, module: Module, refused: &mut Refusals) -> Option<Checked>
+    requires { IsModule «module» }
+{
+    match table_of(alloc, &module, refused) {
+        Some(table) => verify(module, table).ok(),
+        None => None,
+    }
 }
 
 /// Reads the schedule, again if memory is refused.
@@ -103,45 +114,53 @@ fn step_through(world: &mut World<'_>, schedule: &Schedule, refused: &mut Refusa
     }
 }
 
-/// Returns the report of the world, again if memory is refused.
-fn report_of(alloc: Global, world: &World<'_>, refused: &mut Refusals) -> Vec<u8> {
-    let mut report = Vec::new(alloc);
+/// Returns whether the report of the world is the wanted one. Asks again if memory is refused.
+fn is_reported(alloc: Global, world: &World<'_>, refused: &mut Refusals) -> bool {
     for _ in 0..2 {
-        report.clear();
-        match world.tally(alloc) {
-            Ok(tally) if write_tally(&tally, &mut report).is_ok() => return report,
-            Ok(_) => note(refused, "report"),
-            Err(_) => note(refused, "tally"),
+        match is_written(alloc, world) {
+            Ok(is_wanted) => return is_wanted,
+            Err(place) => note(refused, place),
         }
     }
-    report
+    false
 }
 
-/// Returns whether the module has a function with this number, which has no parameters, as those that workers call.
-#[tactic(auto, using(crate::proofs::Callable::has_no_parameters))]
-fn is_callable(checked: &Checked, function: usize) -> bool
-    ensures function { result ≡ true → function < length checked.now.module.functions }
-    ensures parameters { result ≡ true → (function_at checked.now.module.functions function).parameters ≡ [] }
-{
-    let functions = checked.module().functions.as_slice();
-    function < functions.len() && functions[function].parameters.len() == 0
+/// Writes the report of the world. Returns whether it is the wanted one, or where memory was refused.
+fn is_written(alloc: Global, world: &World<'_>) -> Result<bool, &'static str> {
+    match world.tally(alloc) {
+        Ok(tally) => is_text(alloc, &tally),
+        Err(_) => Err("tally"),
+    }
 }
 
-/// Steps the schedule over the module. Returns the report, or what is there of it.
-fn stepped(alloc: Global, refused: &mut Refusals) -> Option<Vec<u8>> {
+fn is_text(alloc: Global, tally: &Tally) -> Result<bool, &'static str> {
+    let mut report = Vec::new(alloc);
+    match write_tally(tally, &mut report) {
+        Ok(()) => Ok(report.as_slice() == REPORT),
+        Err(_) => Err("report"),
+    }
+}
+
+/// Steps the schedule over the module. Returns whether the report is the wanted one, or `None` if there is none.
+fn stepped(alloc: Global, refused: &mut Refusals) -> Option<bool> {
     let module = module_of(alloc, refused)?;
     let checked = checked_of(alloc, module, refused)?;
-    let schedule = schedule_of(alloc, refused)?;
-    if !is_callable(&checked, 0) || !is_callable(&checked, 1) {
+    stepped_over(alloc, &checked, refused)
+}
+
+fn stepped_over(alloc: Global, checked: &Checked, refused: &mut Refusals) -> Option<bool> {
+    if !is_callable(checked, 0) || !is_callable(checked, 1) {
         return None;
     }
+    let schedule = schedule_of(alloc, refused)?;
     for _ in 0..2 {
-        let Ok(mut world) = World::new(alloc, &checked, 2, 4, &CALLS) else {
-            note(refused, "World::new");
-            continue;
-        };
-        step_through(&mut world, &schedule, refused);
-        return Some(report_of(alloc, &world, refused));
+        match World::new(alloc, checked, 2, 4, &CALLS) {
+            Ok(mut world) => {
+                step_through(&mut world, &schedule, refused);
+                return Some(is_reported(alloc, &world, refused));
+            }
+            Err(_) => note(refused, "World::new"),
+        }
     }
     None
 }
@@ -150,10 +169,7 @@ fn stepped(alloc: Global, refused: &mut Refusals) -> Option<Vec<u8>> {
 #[test]
 fn each_refused_call_goes_on(rt: HostRuntime) {
     let mut refused = None;
-    let report = stepped(rt.alloc(), &mut refused);
+    let is_reported = stepped(rt.alloc(), &mut refused);
     let _ = eprintln!(rt; "refused in {}", refused.unwrap_or("no call"));
-    match report {
-        Some(report) => assert_eq!(rt; report.as_slice(), REPORT),
-        None => assert!(rt; false, "the module is accepted, and its world begins"),
-    }
+    assert_eq!(rt; is_reported, Some(true));
 }

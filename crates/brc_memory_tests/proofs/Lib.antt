@@ -1,2 +1,0 @@
-mod Callable
-pub mod Opening
