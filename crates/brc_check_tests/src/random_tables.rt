@@ -1,8 +1,9 @@
-//! The tables of random functions, compared with full ones that are filled by a plain walk over all exits.
+//! The tables of accepted functions, made up and random ones, compared with full ones that are filled by a plain walk over all exits.
 
 ghost use Rattle.std.specs.Prelude.{◌<◌};
 
-use crate::functions::module_of;
+use crate::accepted::{CALLS, FUNCTIONS as ACCEPTED, STATICS};
+use crate::modules::module_of;
 use brc_check::{Checked, Exit, State, Step, check, entry_of, follow};
 use brc_lang::{Function, Instr, write_number, write_pieces};
 use std::alloc::Global;
@@ -232,7 +233,7 @@ fn first_other_in(
 }
 
 /// The first point at which the table of an accepted module has another state than the walk.
-pub fn first_other_point(alloc: Global, checked: &Checked) -> Result<Option<Point>, Fail> {
+fn first_other_point(alloc: Global, checked: &Checked) -> Result<Option<Point>, Fail> {
     for (number, function) in checked.module().functions.as_slice().iter().enumerate() {
         if let Some(at) = first_other_in(alloc, checked, number, function)? {
             return Ok(Some((number, at)));
@@ -241,22 +242,46 @@ pub fn first_other_point(alloc: Global, checked: &Checked) -> Result<Option<Poin
     Ok(None)
 }
 
-/// The first of these modules whose table has another state at some point than the walk, and the point.
-fn first_other_module(alloc: Global) -> Result<Option<(u64, Point)>, Fail> {
-    for seed in 0..FUNCTIONS {
-        let text = text_of(alloc, seed)?;
-        let Ok(checked) = check(alloc, module_of(alloc, &text)?) else {
-            return Err("the module is accepted, and memory is ample")?;
-        };
-        if let Some(point) = first_other_point(alloc, &checked)? {
-            return Ok(Some((seed, point)));
+/// Whether the table of this accepted module has the states of the walk.
+fn has_states_of_a_walk(alloc: Global, text: &[u8]) -> Result<bool, Fail> {
+    match check(alloc, module_of(alloc, text)?) {
+        Ok(checked) => Ok(first_other_point(alloc, &checked)?.is_none()),
+        Err(_) => Err("the module is accepted, and memory is ample")?,
+    }
+}
+
+/// The number of the first text whose table has another state at some point than the walk. A text has these lines below
+/// the front and above the back.
+fn first_other_text(
+    alloc: Global,
+    front: &[u8],
+    texts: &[&[u8]],
+    back: &[u8],
+) -> Result<Option<usize>, Fail> {
+    for (number, lines) in texts.iter().enumerate() {
+        let mut text = Vec::from_slice(alloc, front)?;
+        text.extend_from_slice(lines)?;
+        text.extend_from_slice(back)?;
+        if !has_states_of_a_walk(alloc, &text)? {
+            return Ok(Some(number));
         }
     }
     Ok(None)
 }
 
 #[test]
-fn random_tables(rt: HostRuntime) -> Result<(), Fail> {
-    assert_eq!(rt; first_other_module(rt.alloc())?, None);
+fn tables_have_the_states_of_a_walk(rt: HostRuntime) -> Result<(), Fail> {
+    let tables: [(&[u8], &[&[u8]], &[u8]); 3] = [
+        (b"module 1\nfunc f\n", ACCEPTED, b"end\n"),
+        (b"module 2\n", CALLS, b""),
+        (b"module 3\nstatic 5 6\nfunc f\n", STATICS, b"end\n"),
+    ];
+    for (front, texts, back) in tables {
+        assert_eq!(rt; first_other_text(rt.alloc(), front, texts, back)?, None);
+    }
+    for seed in 0..FUNCTIONS {
+        let text = text_of(rt.alloc(), seed)?;
+        assert!(rt; has_states_of_a_walk(rt.alloc(), &text)?, "{seed}");
+    }
     Ok(())
 }

@@ -2,9 +2,8 @@
 
 ghost use Rattle.brc_lang.specs.Grammar.{IsModule};
 
-use crate::functions::{function_of, module_of};
 use crate::locked_tables::{first_other_locked_table, first_unnoticed_change};
-use crate::loops;
+use crate::modules::{function_of, module_of};
 use brc_check::{CheckCode, Checked, State, Table, VarState, infer, verify};
 use brc_lang::{Kind, Module, Variable};
 use std::alloc::Global;
@@ -14,7 +13,9 @@ use std::test::*;
 type VarStates = (VarState, VarState);
 
 /// Lines, the points that a table keeps of them, and the states of v1 and v2 at each of their points and past the last.
-pub type TableCase<'a> = (&'a [u8], &'a [usize], &'a [Option<VarStates>]);
+type TableCase<'a> = (&'a [u8], &'a [usize], &'a [Option<VarStates>]);
+
+const NOTHING: VarStates = (VarState::Empty, VarState::Empty);
 
 const NUMBER: VarState = VarState::Owned(Kind::Num);
 
@@ -121,6 +122,55 @@ const TABLES: &[TableCase] = &[
     ),
 ];
 
+/// Tables of functions with loops. Both ways of `again` are open to a path, whatever its limit.
+const LOOPS: &[TableCase] = &[
+    (
+        b"num v1 1 else @3\ndrop v1\nagain @0 3\nfail\n",
+        &[0, 3],
+        &[
+            Some(NOTHING),
+            Some((NUMBER, VarState::Empty)),
+            Some(NOTHING),
+            Some(NOTHING),
+            None,
+        ],
+    ),
+    (
+        b"none v1\nnewref v2 v1\ndrop v2\nagain @1 9\nret v1\n",
+        &[0, 1],
+        &[
+            Some(NOTHING),
+            Some((NONE, VarState::Empty)),
+            Some((NONE, NONE)),
+            Some((NONE, VarState::Empty)),
+            Some((NONE, VarState::Empty)),
+        ],
+    ),
+    // A line that is reached only by going back has an entry, and one inside a loop that isn't reached has none.
+    (
+        b"none v1\ngoto @3\nret v1\nagain @2 1\nret v1\n",
+        &[0, 2, 3],
+        &[
+            Some(NOTHING),
+            Some((NONE, VarState::Empty)),
+            Some((NONE, VarState::Empty)),
+            Some((NONE, VarState::Empty)),
+            Some((NONE, VarState::Empty)),
+        ],
+    ),
+    (
+        b"goto @2\ndrop v5\nagain @0 2\nfail\n",
+        &[0, 2],
+        &[Some(NOTHING), None, Some(NOTHING), Some(NOTHING)],
+    ),
+    // An `again` that isn't reached finds nothing.
+    (
+        b"goto @2\nfail\nfail\nagain @1 2\nfail\n",
+        &[0, 1, 2],
+        &[Some(NOTHING), None, Some(NOTHING), None, None],
+    ),
+];
+
 /// The states that overwrite entries.
 const OVERWRITTEN: &[VarStates] = &[
     (VarState::Empty, VarState::Empty),
@@ -146,7 +196,7 @@ fn state(vars: VarStates) -> State {
 }
 
 /// The table of an acceptable module.
-pub fn table_of(alloc: Global, module: &Module) -> Result<Table, Fail>
+fn table_of(alloc: Global, module: &Module) -> Result<Table, Fail>
     requires { IsModule «module».now }
 {
     match infer(alloc, module) {
@@ -201,10 +251,7 @@ pub fn first_difference(
 }
 
 /// The number of the first table that is another one, and the point at which it is.
-pub fn first_other_table(
-    alloc: Global,
-    tables: &[TableCase],
-) -> Result<Option<(usize, usize)>, Fail> {
+fn first_other_table(alloc: Global, tables: &[TableCase]) -> Result<Option<(usize, usize)>, Fail> {
     for (number, (lines, kept, points)) in tables.iter().enumerate() {
         let mut states = Vec::new(alloc);
         for vars in points.iter() {
@@ -222,7 +269,7 @@ pub fn first_other_table(
 
 #[test]
 fn true_tables(rt: HostRuntime) -> Result<(), Fail> {
-    for tables in [TABLES, loops::TABLES] {
+    for tables in [TABLES, LOOPS] {
         assert_eq!(rt; first_other_table(rt.alloc(), tables)?, None);
     }
     assert_eq!(rt; first_other_locked_table(rt.alloc())?, None);
@@ -281,7 +328,7 @@ pub fn is_refused_at(
 }
 
 /// Whether a change is no change at a point that isn't kept, and the table is accepted as it was.
-pub fn is_left_alone(
+fn is_left_alone(
     alloc: Global,
     lines: &[u8],
     at: usize,
@@ -363,6 +410,20 @@ fn accepted_with(alloc: Global, text: &[u8], other: &[u8]) -> Result<bool, Fail>
     Ok(verify(module_of(alloc, text)?, table).is_ok())
 }
 
+/// The text of 64 functions of 256 instructions each, in pairs that take a reference and drop it or return it.
+fn largest_module(alloc: Global) -> Result<Vec<u8>, Fail> {
+    let mut text = Vec::from_slice(alloc, b"module 1\n")?;
+    for number in 0..64u8 {
+        text.extend_from_slice(b"func f")?;
+        text.extend_from_slice(&[b'0' + number / 10, b'0' + number % 10, b'\n'])?;
+        for _pair in 0..127 {
+            text.extend_from_slice(b"newref v1 v0\ndrop v1\n")?;
+        }
+        text.extend_from_slice(b"newref v1 v0\nret v1\nend\n")?;
+    }
+    Ok(text)
+}
+
 #[test]
 fn tables_of_other_modules(rt: HostRuntime) -> Result<(), Fail> {
     // Two functions with the same targets, in whose tables only the state that falls through differs.
@@ -379,5 +440,8 @@ fn tables_of_other_modules(rt: HostRuntime) -> Result<(), Fail> {
     assert!(rt; is_refused_with(rt.alloc(), other_target, one, 0)?);
     // Where both have one kept point, the table's states are what its entry and the module's own instructions give.
     assert!(rt; accepted_with(rt.alloc(), three_points, one)?);
+    let largest = largest_module(rt.alloc())?;
+    assert!(rt; accepted_with(rt.alloc(), &largest, &largest)?);
+    assert!(rt; accepted_with(rt.alloc(), one, one)?);
     Ok(())
 }
