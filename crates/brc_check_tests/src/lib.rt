@@ -10,8 +10,6 @@ mod instructions;
 #[cfg(test)]
 mod interleavings;
 #[cfg(test)]
-mod locked_tables;
-#[cfg(test)]
 mod modules;
 #[cfg(test)]
 mod pages;

@@ -19,7 +19,7 @@ const HEAD: &[u8] =
 /// From this point on a function gives up what it still owns.
 const END: usize = 24;
 
-/// The last point, a `fail`, before which nothing is owned.
+/// The last point, a `fail`, before which nothing is owned. Lines that can fail lead there.
 const LAST: usize = 29;
 
 /// What v1, v2 and v3 own while a function is written: nothing (0), none (1), the list (2), a number (3), or what
@@ -90,30 +90,52 @@ fn put_goto(draft: &mut Draft) -> Result<(), Fail> {
     Ok(())
 }
 
-/// Adds a call that lends the list to `show`, if nothing is owned, or one by which `give` steals all that is. Only
-/// what the call returns is owned behind it. Elsewhere adds a plain line.
-fn put_call(draft: &mut Draft, to: usize, from: usize) -> Result<(), Fail>
-    requires to { to < 3 }
-    requires from { from < 3 }
+/// What is owned, but for this variable, which has this now.
+fn with(owned: Owned, at: usize, value: u8) -> Owned
+    requires { at < 3 }
 {
-    let mut rest = draft.owned;
-    rest[from] = 0;
-    if draft.owned == [0, 0, 0] {
-        put_target(
-            draft,
-            &[b"call ", NAMES[to], b" show v0 else @"],
-            LAST,
-            b"\n",
-        )?;
-    } else if rest == [0, 0, 0] && from != to {
-        let words: [&[u8]; 5] = [b"call ", NAMES[to], b" give ", NAMES[from], b" else @"];
-        put_target(draft, &words, LAST, b"\n")?;
-    } else {
-        return put_plain(draft);
+    let mut made = owned;
+    made[at] = value;
+    made
+}
+
+/// The words of a line that makes, moves or gives up references, and what is owned behind it, or `None` where the number
+/// is of no such line or the line would be refused. A call lends the list to `show`, if nothing is owned, or `give` steals
+/// all that is; only what the call returns is owned behind it.
+fn words_of(
+    number: u64,
+    one: usize,
+    other: usize,
+    owned: Owned,
+) -> Option<([&'static [u8]; 5], Owned)>
+    requires one { one < 3 }
+    requires other { other < 3 }
+{
+    let (name, other_name) = (NAMES[one], NAMES[other]);
+    let is_empty = owned[one] == 0;
+    let owns_nothing = owned == [0, 0, 0];
+    let owns_other = with(owned, other, 0) == [0, 0, 0] && one != other;
+    let returned = with([0, 0, 0], one, 4);
+    let moved = with(with(owned, one, 0), other, owned[one]);
+    let is_other_empty = owned[other] == 0;
+    match number {
+        0 if is_empty => Some(([b"none ", name, b"", b"", b""], with(owned, one, 1))),
+        1 if is_empty => Some(([b"newref ", name, b" v0", b"", b""], with(owned, one, 2))),
+        2 | 3 if owns_nothing => Some((
+            [b"num ", name, b" 1 else @29", b"", b""],
+            with(owned, one, 3),
+        )),
+        2 if !is_empty => Some(([b"drop ", name, b"", b"", b""], with(owned, one, 0))),
+        3 if !is_empty && is_other_empty => {
+            Some(([b"move ", other_name, b" ", name, b""], moved))
+        }
+        8 | 9 if owns_nothing => Some(([b"call ", name, b" show v0 else @29", b"", b""], returned)),
+        8 | 9 if owns_other => Some((
+            [b"call ", name, b" give ", other_name, b" else @29"],
+            returned,
+        )),
+        _ => None,
     }
-    draft.owned = [0, 0, 0];
-    draft.owned[to] = 4;
-    Ok(())
 }
 
 /// Adds a line at random.
@@ -121,35 +143,19 @@ fn put_random(draft: &mut Draft) -> Result<(), Fail> {
     let one = next(draft, 3) as usize;
     let other = next(draft, 3) as usize;
     let to = next(draft, 24) as usize;
-    let owned = draft.owned;
-    match next(draft, 10) {
-        0 if owned[one] == 0 => {
-            put(draft, &[b"none ", NAMES[one]])?;
-            draft.owned[one] = 1;
-        }
-        1 if owned[one] == 0 => {
-            put(draft, &[b"newref ", NAMES[one], b" v0"])?;
-            draft.owned[one] = 2;
-        }
-        2 | 3 if owned[one] == 0 && owned == [0, 0, 0] => {
-            put_target(draft, &[b"num ", NAMES[one], b" 1 else @"], LAST, b"\n")?;
-            draft.owned[one] = 3;
-        }
-        2 if owned[one] != 0 => {
-            put(draft, &[b"drop ", NAMES[one]])?;
-            draft.owned[one] = 0;
-        }
-        3 if owned[one] != 0 && owned[other] == 0 => {
-            put(draft, &[b"move ", NAMES[other], b" ", NAMES[one]])?;
-            draft.owned[other] = owned[one];
-            draft.owned[one] = 0;
-        }
-        4 | 5 => put_again(draft, to)?,
-        6 => put_goto(draft)?,
-        8 | 9 => put_call(draft, one, other)?,
-        _ => put_plain(draft)?,
+    let number = next(draft, 10);
+    match number {
+        4 | 5 => put_again(draft, to),
+        6 => put_goto(draft),
+        _ => match words_of(number, one, other, draft.owned) {
+            Some((words, owned)) => {
+                put(draft, &words)?;
+                draft.owned = owned;
+                Ok(())
+            }
+            None => put_plain(draft),
+        },
     }
-    Ok(())
 }
 
 /// Returns the text of a module whose last function is a random one that is accepted.
@@ -250,23 +256,12 @@ fn has_states_of_a_walk(alloc: Global, text: &[u8]) -> Result<bool, Fail> {
     }
 }
 
-/// The number of the first text whose table has another state at some point than the walk. A text has these lines below
-/// the front and above the back.
-fn first_other_text(
-    alloc: Global,
-    front: &[u8],
-    texts: &[&[u8]],
-    back: &[u8],
-) -> Result<Option<usize>, Fail> {
-    for (number, lines) in texts.iter().enumerate() {
-        let mut text = Vec::from_slice(alloc, front)?;
-        text.extend_from_slice(lines)?;
-        text.extend_from_slice(back)?;
-        if !has_states_of_a_walk(alloc, &text)? {
-            return Ok(Some(number));
-        }
-    }
-    Ok(None)
+/// The text of these lines below the front and above the back.
+fn between(alloc: Global, front: &[u8], lines: &[u8], back: &[u8]) -> Result<Vec<u8>, Fail> {
+    let mut text = Vec::from_slice(alloc, front)?;
+    text.extend_from_slice(lines)?;
+    text.extend_from_slice(back)?;
+    Ok(text)
 }
 
 #[test]
@@ -277,7 +272,10 @@ fn tables_have_the_states_of_a_walk(rt: HostRuntime) -> Result<(), Fail> {
         (b"module 3\nstatic 5 6\nfunc f\n", STATICS, b"end\n"),
     ];
     for (front, texts, back) in tables {
-        assert_eq!(rt; first_other_text(rt.alloc(), front, texts, back)?, None);
+        for lines in texts {
+            let text = between(rt.alloc(), front, lines, back)?;
+            assert!(rt; has_states_of_a_walk(rt.alloc(), &text)?, "{lines:?}");
+        }
     }
     for seed in 0..FUNCTIONS {
         let text = text_of(rt.alloc(), seed)?;

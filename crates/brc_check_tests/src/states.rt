@@ -14,7 +14,7 @@ fn state(var: VarState) -> State {
     State { vars, locked: None }
 }
 
-/// The number of the first point with another state; a point past the last has none.
+/// The number of the first point with another state of v1.
 fn first_other_state(
     alloc: Global,
     lines: &[u8],
@@ -33,31 +33,47 @@ fn first_other_state(
     Ok(None)
 }
 
-#[test]
-fn paths_have_states(rt: HostRuntime) -> Result<(), Fail> {
-    let module = function_of(rt.alloc(), b"newref v1 v0\nfail\n")?;
+/// Whether a path's first step makes a reference to the list, and its second one finds it left.
+fn takes_two_steps(alloc: Global) -> Result<bool, Fail> {
+    let module = function_of(alloc, b"newref v1 v0\nfail\n")?;
     let code = module.functions.as_slice()[0].code.as_slice();
     let entry = entry_of(&[]);
-    assert_eq!(rt; entry, state(VarState::Empty));
-    let taken = follow(code, 0, &entry, Exit::Success);
-    let Step::To(1, arriving) = taken else {
-        return Err("the path goes on to the second instruction")?;
+    let Step::To(1, arriving) = follow(code, 0, &entry, Exit::Success) else {
+        return Ok(false);
     };
-    assert_eq!(rt; arriving, state(VarState::Owned(Kind::List)));
     let reported = follow(code, 1, &arriving, Exit::Success);
-    assert!(rt; matches!(reported, Step::Error(CheckCode::LeftOwned)));
+    Ok(
+        entry == state(VarState::Empty)
+            && arriving == state(VarState::Owned(Kind::List))
+            && matches!(reported, Step::Error(CheckCode::LeftOwned)),
+    )
+}
 
-    let number = Some(VarState::Owned(Kind::Num));
-    let empty = Some(VarState::Empty);
-    let accepted = b"num v1 1 else @2\nret v1\nfail\ndrop v1\nfail\n";
-    let other = first_other_state(rt.alloc(), accepted, &[empty, number, empty, None, None])?;
-    assert_eq!(rt; other, None);
+const EMPTY: Option<VarState> = Some(VarState::Empty);
+
+const NUMBER: Option<VarState> = Some(VarState::Owned(Kind::Num));
+
+/// Lines, and the state of v1 at each point where a path comes first.
+const CASES: &[(&[u8], &[Option<VarState>])] = &[
+    (
+        b"num v1 1 else @2\nret v1\nfail\ndrop v1\nfail\n",
+        &[EMPTY, NUMBER, EMPTY, None, None],
+    ),
     // The first path to the last point has a number.
-    let two_states = b"num v1 1 else @2\ngoto @3\nnone v1\nret v1\n";
-    let other = first_other_state(rt.alloc(), two_states, &[empty, number, empty, number])?;
-    assert_eq!(rt; other, None);
+    (
+        b"num v1 1 else @2\ngoto @3\nnone v1\nret v1\n",
+        &[EMPTY, NUMBER, EMPTY, NUMBER],
+    ),
     // The first instruction reports an error: no path goes on.
-    let other = first_other_state(rt.alloc(), b"drop v1\nfail\n", &[empty, None])?;
-    assert_eq!(rt; other, None);
+    (b"drop v1\nfail\n", &[EMPTY, None]),
+];
+
+#[test]
+fn paths_have_states(rt: HostRuntime) -> Result<(), Fail> {
+    assert!(rt; takes_two_steps(rt.alloc())?);
+    for (lines, vars) in CASES {
+        let other = first_other_state(rt.alloc(), lines, vars)?;
+        assert_eq!(rt; other, None, "{lines:?}");
+    }
     Ok(())
 }

@@ -1,17 +1,23 @@
-//! Texts that are written: as they were read, over writers that stop, and numbers.
+//! Texts that are written: modules, as they were read and over writers that stop, numbers, and reports.
 
-use brc_lang::{
-    FaultCode, Function, Instr, Kind, Module, Name, ReadFault, Sequence, Version, read, write,
-    write_bytes, write_number,
-};
+use brc_lang::{FaultCode, Kind, ReadFault, Sequence, read, write, write_bytes, write_number};
 use brc_report::{Left, Tally, write_entry, write_tally};
 use std::alloc::{AllocError, Global};
 use std::io;
 use std::io::{ErrorKind, Write};
 use std::test::*;
 
-/// Texts of later versions: with each word of parameters, with each number of arguments, and with static lists.
+const SMALLEST: &[u8] = b"module 1\nfunc f\nfail\nend\n";
+
+/// Texts of each version: with the longest name, with each word of parameters, with each number of arguments, and with
+/// static lists.
 const TEXTS: &[&[u8]] = &[
+    SMALLEST,
+    b"module 1\nfunc a23456789_bcdefg\nnewref v15 v10\ndrop v0\nret v9\nend\n",
+    b"module 1\nfunc f\nnewref v15 v0\ndrop v15\nret v0\nend\nfunc g_2\nfail\nend\nfunc h\nnone v15\nmove v0 v15\n\
+      goto @3\nfail\nend\n",
+    b"module 2\nfunc keep borrow any steal num\ndrop v2\nfail\nend\nfunc h\nfail\nend\nfunc f\n\
+      call v3 keep v0 v15 else @2\ncall v4 h else @2\nfail\nend\n",
     b"module 2\nfunc f\nfail\nend\n",
     b"module 2\nfunc four borrow none steal num borrow list steal file\nfail\nend\nfunc one borrow sock\nfail\nend\n\
       func two steal any borrow any\nret v1\nend\nfunc three borrow any borrow any borrow any\nfail\nend\n\
@@ -37,43 +43,12 @@ fn largest(alloc: Global) -> Result<Vec<u8>, AllocError> {
     Ok(text)
 }
 
-/// The text of the module that a text is read as.
-fn read_and_written(alloc: Global, text: &[u8]) -> Result<Vec<u8>, Fail> {
+/// Whether the module that a text is read as is written as this text.
+pub fn is_written_back(alloc: Global, text: &[u8]) -> Result<bool, Fail> {
     let module = read(alloc, text).ok().ok_or("the text is a module")?;
     let mut out: Vec<u8> = Vec::new(alloc);
     write(&module, &mut out)?;
-    Ok(out)
-}
-
-pub fn named(alloc: Global, name: &[u8], code: &[Instr]) -> Result<Function, AllocError> {
-    let mut made = Function {
-        name: Name::new(if name.len() <= Name::MOST { name } else { b"" }),
-        parameters: Sequence::new(alloc),
-        code: Sequence::new(alloc),
-    };
-    for instr in code {
-        made.code.push(*instr)?;
-    }
-    Ok(made)
-}
-
-pub fn module(alloc: Global, version: Version, functions: Sequence<Function>) -> Module {
-    Module {
-        version,
-        statics: Sequence::new(alloc),
-        functions,
-    }
-}
-
-/// The text of a module of version 1 of these functions, each a name and its code.
-pub fn written(alloc: Global, table: &[(&[u8], &[Instr])]) -> Result<Vec<u8>, Fail> {
-    let mut functions = Sequence::new(alloc);
-    for (name, code) in table {
-        functions.push(named(alloc, name, code)?)?;
-    }
-    let mut out: Vec<u8> = Vec::new(alloc);
-    write(&module(alloc, Version::One, functions), &mut out)?;
-    Ok(out)
+    Ok(out.as_slice() == text)
 }
 
 /// The answer of a writer that takes no more bytes.
@@ -109,19 +84,20 @@ impl Write for Narrow {
     }
 }
 
-const SMALLEST: &[u8] = b"module 1\nfunc f\nfail\nend\n";
-
-/// Whether the smallest module is written over a writer that takes `left` bytes, and the bytes that it takes.
-fn over_narrow(alloc: Global, stop: Stop, left: usize) -> Result<(bool, Vec<u8>), AllocError> {
-    let mut functions = Sequence::new(alloc);
-    functions.push(named(alloc, b"f", &[Instr::Fail])?)?;
+/// Whether a writer that takes so many bytes gets the beginning of the smallest module, and no error only if it takes all.
+fn is_begun(alloc: Global, stop: Stop, left: usize) -> Result<bool, Fail> {
+    let module = read(alloc, SMALLEST).ok().ok_or("the text is a module")?;
     let mut writer = Narrow {
         taken: Vec::new(alloc),
         left,
         stop,
     };
-    let answer = write(&module(alloc, Version::One, functions), &mut writer);
-    Ok((answer.is_ok(), writer.taken))
+    let is_whole = write(&module, &mut writer).is_ok();
+    Ok(
+        is_whole == (left == SMALLEST.len())
+            && writer.taken.len() == left
+            && SMALLEST.starts_with(writer.taken.as_slice()),
+    )
 }
 
 /// Whether two mebibytes are written as they are.
@@ -142,79 +118,22 @@ fn pushed(alloc: Global, count: u32) -> Result<usize, AllocError> {
 }
 
 /// Numbers and their digits.
-const NUMBERS: &[(u64, &str)] = &[
-    (0, "0"),
-    (15, "15"),
-    (4294967295, "4294967295"),
-    (u64::MAX, "18446744073709551615"),
+const NUMBERS: &[(u64, &[u8])] = &[
+    (0, b"0"),
+    (15, b"15"),
+    (4294967295, b"4294967295"),
+    (u64::MAX, b"18446744073709551615"),
 ];
 
-#[test]
-fn texts_are_written(rt: HostRuntime) -> Result<(), Fail> {
-    let alloc = rt.alloc();
-    for text in TEXTS {
-        assert!(rt;
-            read_and_written(alloc, text)?.as_slice() == *text,
-            "{text:?}"
-        );
-    }
-    let text = largest(alloc)?;
-    assert!(rt; read_and_written(alloc, &text)?.as_slice() == text.as_slice());
-    assert!(rt; writes_two_mebibytes(alloc)?);
-    for stop in [Stop::TakesNone, Stop::Interrupts] {
-        for most in 0..=SMALLEST.len() {
-            let (whole, taken) = over_narrow(alloc, stop, most)?;
-            assert_eq!(rt;
-                (whole, taken.as_slice()),
-                (most == SMALLEST.len(), &SMALLEST[..most]),
-                "{stop:?} after {most}"
-            );
-        }
-    }
-    for (number, digits) in NUMBERS {
-        let mut out: Vec<u8> = Vec::new(alloc);
-        write_number(*number, &mut out)?;
-        assert_eq!(rt; out.as_slice(), digits.as_bytes());
-    }
-    assert_eq!(rt; pushed(alloc, 100_000)?, 100_000);
-    // The last line that there can be.
-    let fault = ReadFault {
-        line: u64::MAX,
-        code: FaultCode::NoMemory,
-    };
-    let text = format!(in alloc; "{fault}")?;
-    assert_eq!(rt; text.as_str(), "line 18446744073709551615 L8");
-    Ok(())
-}
-
-/// The report of these numbers, in the order of its lines, and of what is left.
-fn report(alloc: Global, numbers: &[u64; 7], lefts: &[Left]) -> Result<Vec<u8>, Fail> {
-    let mut left = Sequence::new(alloc);
-    for object in lefts {
-        left.push(*object)?;
-    }
-    let [
-        threads,
-        running,
-        created,
-        closed,
-        alive,
-        host_faults,
-        close_faults,
-    ] = *numbers;
-    let tally = Tally {
-        threads,
-        running,
-        created,
-        closed,
-        alive,
-        host_faults,
-        close_faults,
-        left,
-    };
+/// Whether a number is written as these digits, alone and in an entry of a report.
+fn has_digits(alloc: Global, number: u64, digits: &[u8]) -> Result<bool, Fail> {
     let mut out: Vec<u8> = Vec::new(alloc);
-    write_tally(&tally, &mut out)?;
-    Ok(out)
+    write_number(number, &mut out)?;
+    let is_number = out.as_slice() == digits;
+    let mut entry: Vec<u8> = Vec::new(alloc);
+    write_entry(b"left", number, &mut entry)?;
+    let is_entry = entry.starts_with(b"left ") && entry.ends_with(digits);
+    Ok(is_number && is_entry && entry.len() == digits.len().saturating_add(5))
 }
 
 /// The numbers of a report, what is left, and the report.
@@ -249,13 +168,76 @@ const REPORTS: &[Report] = &[
     ),
 ];
 
-#[test]
-fn reports_have_the_greatest_numbers(rt: HostRuntime) -> Result<(), Fail> {
-    for (numbers, left, text) in REPORTS {
-        assert_eq!(rt; report(rt.alloc(), numbers, left)?.as_slice(), *text);
+/// Whether the report of these numbers, in the order of its lines, and of what is left, is this text.
+fn is_reported(alloc: Global, report: &Report) -> Result<bool, Fail> {
+    let (numbers, lefts, text) = *report;
+    let mut left = Sequence::new(alloc);
+    for object in lefts {
+        left.push(*object)?;
     }
-    let mut out: Vec<u8> = Vec::new(rt.alloc());
-    write_entry(b"left", u64::MAX, &mut out)?;
-    assert_eq!(rt; out.as_slice(), b"left 18446744073709551615".as_slice());
+    let [
+        threads,
+        running,
+        created,
+        closed,
+        alive,
+        host_faults,
+        close_faults,
+    ] = numbers;
+    let tally = Tally {
+        threads,
+        running,
+        created,
+        closed,
+        alive,
+        host_faults,
+        close_faults,
+        left,
+    };
+    let mut out: Vec<u8> = Vec::new(alloc);
+    write_tally(&tally, &mut out)?;
+    Ok(out.as_slice() == text)
+}
+
+/// Whether a fault in the last line that there can be prints its number.
+fn is_last_line_printed(alloc: Global) -> Result<bool, Fail> {
+    let fault = ReadFault {
+        line: u64::MAX,
+        code: FaultCode::NoMemory,
+    };
+    let text = format!(in alloc; "{fault}")?;
+    Ok(text.as_str() == "line 18446744073709551615 L8")
+}
+
+fn is_largest_written_back(alloc: Global) -> Result<bool, Fail> {
+    let text = largest(alloc)?;
+    is_written_back(alloc, &text)
+}
+
+#[test]
+fn texts_are_written(rt: HostRuntime) -> Result<(), Fail> {
+    for text in TEXTS {
+        assert!(rt; is_written_back(rt.alloc(), text)?, "{text:?}");
+    }
+    assert!(rt; is_largest_written_back(rt.alloc())?);
+    assert!(rt; writes_two_mebibytes(rt.alloc())?);
+    assert_eq!(rt; pushed(rt.alloc(), 100_000)?, 100_000);
+    assert!(rt; is_last_line_printed(rt.alloc())?);
+    Ok(())
+}
+
+#[test]
+fn writers_get_numbers_and_reports(rt: HostRuntime) -> Result<(), Fail> {
+    for stop in [Stop::TakesNone, Stop::Interrupts] {
+        for left in 0..=SMALLEST.len() {
+            assert!(rt; is_begun(rt.alloc(), stop, left)?, "{stop:?} after {left}");
+        }
+    }
+    for (number, digits) in NUMBERS {
+        assert!(rt; has_digits(rt.alloc(), *number, digits)?, "{number}");
+    }
+    for report in REPORTS {
+        assert!(rt; is_reported(rt.alloc(), report)?, "{:?}", report.0);
+    }
     Ok(())
 }
