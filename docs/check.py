@@ -13,6 +13,8 @@ from pathlib import Path
 
 # Importing a script of this folder leaves no file there.
 sys.dont_write_bytecode = True
+import cases
+import language
 import proved
 import rules
 import wrong_bodies
@@ -159,6 +161,7 @@ def main():
     faults += [f"docs/lists/PROVED.md: {fault}" for fault in proved.PART.faults()]
     faults += [f"docs/lists/RULES.md: {fault}" for fault in rules.faults()]
     faults += [f"docs/lists/WRONG_BODIES.md: {fault}" for fault in wrong_bodies.faults()]
+    faults += [*cases.faults(), *language.faults()]
     print(*faults, f"{len(faults)} faults", sep="\n")
     return 1 if faults else 0
 

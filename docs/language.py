@@ -1,9 +1,10 @@
 #!/usr/bin/env python3
-"""Runs the examples of docs/LANGUAGE.md, FROM_C.md and C_API.md and the modules of examples/README.md, and compares
-what is printed.
+"""Makes cases of the examples of docs/LANGUAGE.md, FROM_C.md and C_API.md and of the modules of examples/README.md.
+The gate runs them, since they are a file of brc_cases.
 
-    python3 docs/language.py          takes the program at crates/brc/out/brc
-    python3 docs/language.py --try    takes `rt try`, which needs no proof, but some minutes
+    python3 docs/language.py            fails if crates/brc_cases/data/pages.cases differs from the pages
+    python3 docs/language.py --write    writes it
+    python3 docs/language.py --run      runs the examples with the program at crates/brc/out/brc
 
 A block marked `module` or `schedule` is the file f.brc or f.schedule of the blocks `console` below it. If the mark goes
 on with a name, it is the file of this name, and has to be the same as the one in examples/from_c. A block marked
@@ -30,6 +31,7 @@ PAGES = [DOCS / "LANGUAGE.md", DOCS / "FROM_C.md", DOCS / "C_API.md"]
 EXAMPLES = ROOT / "examples"
 FROM_C = EXAMPLES / "from_c"
 PROGRAM = ROOT / "crates" / "brc" / "out" / "brc"
+CASES = ROOT / "crates" / "brc_cases" / "data" / "pages.cases"
 STATUSES = {
     "refused": 1, "wrong": 1,
     "unreadable": 2, "no function": 2, "out of bounds": 2, "cannot write": 2,
@@ -41,6 +43,10 @@ class Example:
     def __init__(self, place, command, files, wanted, is_part=False):
         self.place, self.files, self.wanted, self.is_part = place, files, wanted, is_part
         self.words = shlex.split(command)
+
+    def files_named(self):
+        """The files that its command names, in this order."""
+        return [(word, self.files[word]) for word in dict.fromkeys(self.words) if word in self.files]
 
     def is_met(self, printed, status):
         """Whether this is printed, or printed among other lines, and the status is that of its last line."""
@@ -123,54 +129,73 @@ def run_program(found):
             yield example, done.stdout + done.stderr, done.returncode
 
 
-def output_of(line):
-    crate = PROGRAM.parents[1]
-    return subprocess.run(line, cwd=crate, stdout=subprocess.PIPE, stderr=subprocess.STDOUT, text=True).stdout
+def status_wanted(example, found):
+    """The status of an example, by the last line that it has to print. A part of an explanation of a refused module
+    doesn't have that line: a check of the same text has it."""
+    if example.words[0] == "explain" and example.is_part:
+        same = [it for it in found if it.words[0] == "check" and list(it.files_named()) == list(example.files_named())]
+        return max((status_wanted(it, found) for it in same), default=0)
+    lines = example.wanted.splitlines()
+    if example.words[0] == "explain":
+        lines = lines[-1:]
+    return max(map(status_of, lines), default=0)
 
 
-def run_try(found):
-    """The same by `rt try`, which builds once for all examples of one command: the module is the case, and the rest of
-    the command line its further arguments. A command without a module is run on its own."""
-    alone = [example for example in found if not set(example.words) & set(example.files)]
-    for command in ("check", "run", "step", "explain"):
-        cases = [example for example in found if example.words[0] == command and example not in alone]
-        with tempfile.TemporaryDirectory() as folder:
-            (Path(folder) / "cases").mkdir()
-            data = []
-            for number, example in enumerate(cases):
-                case = Path(folder) / "cases" / f"case{number}"
-                case.write_text(example.files[example.words[1]])
-                more = example.words[2:]
-                if command == "step":
-                    schedule = Path(folder) / f"schedule{number}"
-                    schedule.write_text(example.files[more[0]])
-                    more = [schedule.name, *more[1:]]
-                    data += ["--data", f"{schedule.name}={schedule}"]
-                if more:
-                    case.with_suffix(".args").write_text("\n".join(more) + "\n")
-            line = ["rt", "try", "--cases", f"{folder}/cases", *data, "--", command, "{}"]
-            done = output_of(line)
-        answers = re.findall(r"^== case(\d+)\n(.*?)^case=case\1 .*?status=(\d+)", done, re.M | re.S)
-        if len(answers) != len(cases):
-            sys.exit(done)
-        for number, printed, status in answers:
-            example = cases[int(number)]
-            # `rt try` names the file of each case so.
-            named = re.sub(r'^case(?=: )|(?<="file":")case(?=")', example.words[1], printed, flags=re.M)
-            yield example, named, int(status)
-    for example in alone:
-        done = output_of(["rt", "try", "--", *example.words])
-        printed, status = re.search(r"(.*?)^checked: ended status=(\d+)", done, re.M | re.S).groups()
-        yield example, printed, int(status)
+def content(text):
+    """The lines of a file of cases that stand for the text."""
+    lines = text.split("\n")
+    whole = [f"| {line}" if line else "|" for line in lines[:-1]]
+    return whole + ([json.dumps(lines[-1], ensure_ascii=False)] if lines[-1] else [])
+
+
+def word(text):
+    return json.dumps(text, ensure_ascii=False) if not text or re.search(r'[ "\\]', text) else text
+
+
+def case(example, found, names):
+    lines = [f"case {example.place}", "$ brc " + " ".join(map(word, example.words))]
+    for name, text in example.files_named():
+        lines += [f"file {name}", *([f"= {names[text]}"] if text in names else content(text))]
+    lines += [f"status {status_wanted(example, found)}", "all has" if example.is_part else "all"]
+    return "\n".join(lines + content(example.wanted))
+
+
+def cases(found):
+    """The examples as a file of cases. A text that several of them have is a named one."""
+    often = {}
+    for example in found:
+        for _, text in example.files_named():
+            often[text] = often.get(text, 0) + 1
+    shared = [text for text in often if often[text] > 1]
+    names = {text: f"page_{number}" for number, text in enumerate(shared, 1)}
+    texts = ["\n".join([f"text {names[text]}", *content(text)]) for text in shared]
+    head = "# The examples of the pages. docs/language.py writes them from there: change the page, and run it."
+    return "\n\n".join([head, *texts, *(case(example, found, names) for example in found)]) + "\n"
+
+
+def faults():
+    """What differs between the pages, the files of examples/ and the file of cases."""
+    found, wrong = examples()
+    if not CASES.exists() or CASES.read_text() != cases(found):
+        wrong.append(f"{CASES.relative_to(ROOT)} differs from the pages: docs/language.py --write writes it")
+    return wrong
 
 
 def main():
-    found, faults = examples()
-    for example, printed, status in (run_try if "--try" in sys.argv[1:] else run_program)(found):
-        if not example.is_met(printed, status):
-            faults.append(f"{example.place}: status {status}, and it prints\n{printed}")
-    print(*faults, f"{len(found)} examples, {len(faults)} wrong", sep="\n")
-    sys.exit(1 if faults else 0)
+    found, wrong = examples()
+    if sys.argv[1:] == ["--write"]:
+        CASES.write_text(cases(found))
+    elif sys.argv[1:] == ["--run"]:
+        for example, printed, status in run_program(found):
+            if not example.is_met(printed, status):
+                wrong.append(f"{example.place}: status {status}, and it prints\n{printed}")
+    elif sys.argv[1:]:
+        sys.exit(__doc__)
+    else:
+        wrong = faults()
+    print(*wrong, f"{len(found)} examples, {len(wrong)} wrong", sep="\n")
+    sys.exit(1 if wrong else 0)
 
 
-main()
+if __name__ == "__main__":
+    main()

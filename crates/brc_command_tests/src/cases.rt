@@ -1,10 +1,10 @@
-//! Tables of cases: the texts that a command reads, and all that it has to write.
+//! The texts that commands read here, and what they write.
 
 ghost use Rattle.std.specs.Prelude.{◌<◌, ◌≤◌, ⊤};
 
+use brc_arguments::act;
 use brc_command::{Asked, Load, LoadError, NO_BOUND, Run, Save, SaveError, execute};
 use brc_run::System;
-use std::process::Abort;
 
 pub const SMALLEST: &[u8] = b"module 1\nfunc f\nfail\nend\n";
 
@@ -50,13 +50,6 @@ pub type Bytes<'t> = Result<&'t [u8], LoadError>;
 
 /// The text of no file, which the command doesn't read.
 pub const UNREAD: Bytes<'static> = Ok(b"");
-
-/// A name, which a failure gives; the module and the schedule; and the texts on standard output and on standard error,
-/// and the status.
-pub type Case<'t> = (&'t str, Bytes<'t>, Bytes<'t>, (&'t [u8], &'t [u8], u8));
-
-/// A module, the words of a command line, the texts on standard output and on standard error, and the status.
-pub type CommandLine<'t> = (Bytes<'t>, &'t [&'t str], (&'t [u8], &'t [u8], u8));
 
 /// The files `m.brc`, which standard input gives too, and `s.txt`.
 #[derive(Clone, Copy)]
@@ -115,20 +108,18 @@ pub fn outputs<R: System + AllocGlobal>(
     (out, err, status)
 }
 
-/// Asserts what the command writes, and its status, of each case.
-pub fn assert_cases<R: System + Abort + AllocGlobal>(
+/// Returns the bytes that a command line writes on standard output and on standard error, and its status.
+pub fn acts<R: System + AllocGlobal>(
     rt: &R,
-    asked: &Asked<'_>,
-    cases: &[Case<'_>],
-) {
-    for (name, module, schedule, (report, line, status)) in cases {
-        let (out, err, found) = outputs(rt, asked, *module, *schedule);
-        assert_eq!(rt;
-            (out.as_slice(), err.as_slice(), found),
-            (*report, *line, *status),
-            "{name}: {asked:?}"
-        );
-    }
+    words: &[&str],
+    module: Bytes<'_>,
+    schedule: Bytes<'_>,
+) -> (Vec<u8>, Vec<u8>, u8) {
+    let mut out: Vec<u8> = Vec::new(rt.alloc());
+    let mut err: Vec<u8> = Vec::new(rt.alloc());
+    let mut load = Shelf { module, schedule };
+    let status = act(rt, rt.alloc(), words, &mut load, &mut out, &mut err);
+    (out, err, status)
 }
 
 /// Returns whether the text has the part.

@@ -2,8 +2,7 @@
 
 ghost use Rattle.std.specs.Prelude.{⊤};
 
-use crate::cases::{FIRST, LEAKING, MISSPELT, SMALLEST};
-use crate::command_lines::acts;
+use crate::cases::{FIRST, LEAKING, MISSPELT, SMALLEST, acts};
 use brc_arguments::act;
 use brc_command::{Load, LoadError, Save, SaveError};
 use brc_run::System;

@@ -2,8 +2,6 @@
 //! `brc_explain` and `brc_pages` write themselves.
 
 use crate::cases::{FIRST, MISSPELT, UNREAD, outputs};
-use crate::statics::{FETCHED, KEPT, NOT_THERE};
-use crate::worked::KEEP;
 use brc_check::{CheckCode, check, infer};
 use brc_command::Asked;
 use brc_explain::{explain_accepted, explain_refused, explain_unreadable};
@@ -11,6 +9,23 @@ use brc_lang::{FaultCode, read};
 use brc_pages::{Topic, write_page};
 use brc_report::Paint;
 use std::alloc::Global;
+
+/// `keep` steals the number, and puts it into the root.
+const KEEP: &[u8] =
+    b"module 2\nfunc keep steal num\nlock v0\nset v0 0 v1 else @2\nunlock v0\nfail\nend\n\
+      func f\nnum v1 7 else @3\ncall v2 keep v1 else @3\ndrop v2\nfail\nend\n";
+
+/// An item of the static list is fetched and given up.
+const FETCHED: &[u8] =
+    b"module 3\nstatic 5 6\nfunc f\ntake v1 0\nlock v1\nfetch v2 v1 1 else @6\nunlock v1\ndrop v2\ngoto @7\n\
+      unlock v1\ndrop v1\nfail\nend\n";
+
+/// A reference to a static list is left, though nothing counts it.
+const KEPT: &[u8] =
+    b"module 3\nstatic 5 6\nstatic 7\nfunc e\nfail\nend\nfunc f\ntake v1 1\nfail\nend\n";
+
+/// There is one static list, of the number 0.
+const NOT_THERE: &[u8] = b"module 3\nstatic 5 6\nfunc f\ntake v1 1\ndrop v1\nfail\nend\n";
 
 /// A module whose explanation is long: two paths reach its last instruction, and only one of them owns.
 const TWO_PATHS: &[u8] =

@@ -1,0 +1,137 @@
+use crate::wanted::{How, Stream, Wanted};
+use std::alloc::{AllocError, Global};
+
+/// What a loader or a saver answers for a file.
+#[derive(Clone, Copy, Debug, PartialEq, Eq)]
+pub enum Answer {
+    Text,
+    /// Memory is refused when it is loaded.
+    NoMemory,
+    /// It can't be saved.
+    Full,
+}
+
+/// A file that a command finds.
+#[derive(Drop)]
+pub struct CaseFile {
+    pub name: String,
+    pub answer: Answer,
+    pub text: Vec<u8>,
+}
+
+/// A row of a case's table.
+#[derive(Drop)]
+pub struct Row {
+    /// Its line, from 1.
+    pub line: usize,
+    pub text: Vec<u8>,
+    pub answer: Vec<u8>,
+}
+
+/// A command line, the files that it finds, its status, and what it has to write.
+#[derive(Drop)]
+pub struct Case {
+    /// The line of its name, or of its row in a table, from 1.
+    pub line: usize,
+    pub name: String,
+    pub words: Vec<Vec<u8>>,
+    pub files: Vec<CaseFile>,
+    /// The exit status: each case that is read has one.
+    pub status: Option<u8>,
+    pub wanted: Vec<Wanted>,
+    /// If there are rows, each makes a case, and this one is only their pattern.
+    pub rows: Vec<Row>,
+}
+
+impl Case {
+    /// Returns a case of this name without anything else.
+    pub fn named(alloc: Global, line: usize, name: &str) -> Result<Case, AllocError> {
+        Ok(Case {
+            line,
+            name: String::from_str(alloc, name)?,
+            words: Vec::new(alloc),
+            files: Vec::new(alloc),
+            status: None,
+            wanted: Vec::new(alloc),
+            rows: Vec::new(alloc),
+        })
+    }
+
+    /// Returns the case of a row: `<row>` and `<answer>` are its two fields.
+    pub fn of_row(&self, alloc: Global, row: &Row) -> Result<Case, AllocError> {
+        let mut made = Case::named(alloc, row.line, self.name.as_str())?;
+        for word in &self.words {
+            made.words.push(filled(alloc, word.as_slice(), row)?)?;
+        }
+        for file in &self.files {
+            made.files.push(CaseFile {
+                name: file.name.clone()?,
+                answer: file.answer,
+                text: filled(alloc, file.text.as_slice(), row)?,
+            })?;
+        }
+        made.status = self.status;
+        for wanted in &self.wanted {
+            made.wanted.push(Wanted {
+                stream: wanted.stream,
+                name: wanted.name.clone()?,
+                how: wanted.how,
+                text: filled(alloc, wanted.text.as_slice(), row)?,
+            })?;
+        }
+        Ok(made)
+    }
+
+    /// Returns whether the command may write this text on the stream. If the case says nothing of a stream or of all of
+    /// them, the command writes nothing there.
+    pub fn is_met(&self, stream: Stream, name: &str, found: &[u8]) -> bool {
+        let mut said = false;
+        let mut is_whole = false;
+        let mut may_be = false;
+        let mut says_all = stream == Stream::All;
+        for wanted in &self.wanted {
+            says_all |= wanted.stream == Stream::All;
+            if wanted.stream != stream || wanted.name.as_str() != name {
+                continue;
+            }
+            said = true;
+            if wanted.how == How::Whole {
+                is_whole = true;
+                may_be |= wanted.is_met(found);
+            } else if !wanted.is_met(found) {
+                return false;
+            }
+        }
+        if said {
+            !is_whole || may_be
+        } else {
+            says_all || found.is_empty()
+        }
+    }
+}
+
+const ROW: &[u8] = b"<row>";
+
+const ANSWER: &[u8] = b"<answer>";
+
+/// Returns the text with the row's fields in place of their names.
+fn filled(alloc: Global, text: &[u8], row: &Row) -> Result<Vec<u8>, AllocError> {
+    let mut made = Vec::new(alloc);
+    // How many bytes of a field's name are passed over.
+    let mut passed = 0;
+    for at in 0..text.len() {
+        let rest = &text[at..];
+        if passed > 0 {
+            passed -= 1;
+        } else if rest.starts_with(ROW) {
+            made.extend_from_slice(row.text.as_slice())?;
+            passed = ROW.len() - 1;
+        } else if rest.starts_with(ANSWER) {
+            made.extend_from_slice(row.answer.as_slice())?;
+            passed = ANSWER.len() - 1;
+        } else {
+            made.push(text[at])?;
+        }
+    }
+    Ok(made)
+}

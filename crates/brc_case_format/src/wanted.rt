@@ -1,0 +1,50 @@
+/// Where a command writes.
+#[derive(Clone, Copy, Debug, PartialEq, Eq)]
+pub enum Stream {
+    Out,
+    Err,
+    /// What it writes to standard output and then what it writes to standard error.
+    All,
+    /// A file that it saves.
+    Saved,
+}
+
+/// How a text has to be met.
+#[derive(Clone, Copy, Debug, PartialEq, Eq)]
+pub enum How {
+    /// The whole text is this, or another one that may stand in its place.
+    Whole,
+    Has,
+    Lacks,
+    Begins,
+    Ends,
+}
+
+/// What a command has to write on a stream.
+#[derive(Drop)]
+pub struct Wanted {
+    pub stream: Stream,
+    /// The name of the file that is saved; of the other streams it is empty.
+    pub name: String,
+    pub how: How,
+    pub text: Vec<u8>,
+}
+
+impl Wanted {
+    /// Returns whether the text is met in this way.
+    pub fn is_met(&self, found: &[u8]) -> bool {
+        let text = self.text.as_slice();
+        match self.how {
+            How::Whole => found == text,
+            How::Has => contains(found, text),
+            How::Lacks => !contains(found, text),
+            How::Begins => found.starts_with(text),
+            How::Ends => found.ends_with(text),
+        }
+    }
+}
+
+/// Returns whether the text has the part.
+fn contains(text: &[u8], part: &[u8]) -> bool {
+    part.is_empty() || text.windows(part.len().max(1)).any(|seen| seen == part)
+}

@@ -1,0 +1,114 @@
+use crate::shelf::Shelf;
+use anyhow::Result;
+use brc_arguments::act;
+use brc_case_format::{Case, Stream};
+use brc_run::System;
+use std::alloc::{AllocError, Global};
+
+/// How many cases hold, and how many don't.
+#[derive(Clone, Copy, Debug)]
+pub struct Counts {
+    pub holding: u64,
+    pub differing: u64,
+}
+
+/// Runs the case, or those of its rows, and prints how each one differs that does.
+pub fn try_case<R: System + Print + AllocGlobal>(
+    rt: &R,
+    path: &str,
+    case: &Case,
+    counts: &mut Counts,
+) -> Result<()> {
+    if case.rows.is_empty() {
+        return try_one(rt, path, case, counts);
+    }
+    for row in &case.rows {
+        let made = case.of_row(rt.alloc(), row)?;
+        try_one(rt, path, &made, counts)?;
+    }
+    Ok(())
+}
+
+fn try_one<R: System + Print + AllocGlobal>(
+    rt: &R,
+    path: &str,
+    case: &Case,
+    counts: &mut Counts,
+) -> Result<()> {
+    let difference = difference_of(rt, case)?;
+    if difference.is_empty() {
+        counts.holding = counts.holding.saturating_add(1);
+        return Ok(());
+    }
+    counts.differing = counts.differing.saturating_add(1);
+    let line = case.line;
+    let name = case.name.as_str();
+    println!(rt; "{path}:{line}: {name}: {difference}")?;
+    Ok(())
+}
+
+/// Runs the case, and returns how it differs, or an empty text.
+fn difference_of<R: System + AllocGlobal>(rt: &R, case: &Case) -> Result<String> {
+    let alloc = rt.alloc();
+    let mut words = Vec::new(alloc);
+    for word in &case.words {
+        words.push(text_of(alloc, word.as_slice())?)?;
+    }
+    let mut out: Vec<u8> = Vec::new(alloc);
+    let mut err: Vec<u8> = Vec::new(alloc);
+    let mut shelf = Shelf::new(alloc, case);
+    let status = act(rt, alloc, words.as_slice(), &mut shelf, &mut out, &mut err);
+    let mut said = String::new(alloc);
+    if case.status != Some(status) {
+        said.push_str(format!(in alloc; "status {status}")?.as_str())?;
+    }
+    for (stream, what, found) in [
+        (Stream::Out, "standard output", out.as_slice()),
+        (Stream::Err, "standard error", err.as_slice()),
+    ] {
+        tell(&mut said, case, stream, "", what, found)?;
+    }
+    out.extend_from_slice(err.as_slice())?;
+    tell(&mut said, case, Stream::All, "", "all", out.as_slice())?;
+    for wanted in &case.wanted {
+        if wanted.stream == Stream::Saved {
+            let name = wanted.name.as_str();
+            tell(
+                &mut said,
+                case,
+                Stream::Saved,
+                name,
+                name,
+                shelf.saved(name),
+            )?;
+        }
+    }
+    Ok(said)
+}
+
+/// Appends what a command wrote on the stream, if the case has something else.
+fn tell(
+    said: &mut String,
+    case: &Case,
+    stream: Stream,
+    name: &str,
+    what: &str,
+    found: &[u8],
+) -> Result<(), AllocError> {
+    if case.is_met(stream, name, found) {
+        return Ok(());
+    }
+    if !said.is_empty() {
+        said.push_str(", ")?;
+    }
+    said.push_str(what)?;
+    said.push_str(" has\n")?;
+    match str::from_utf8(found) {
+        Ok(text) => said.push_str(text),
+        Err(_) => said.push_str("bytes that are no text"),
+    }
+}
+
+fn text_of(alloc: Global, bytes: &[u8]) -> Result<String, AllocError> {
+    String::from_str(alloc, str::from_utf8(bytes).unwrap_or(""))
+}
