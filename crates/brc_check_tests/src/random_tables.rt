@@ -144,13 +144,16 @@ fn put_random(draft: &mut Draft) -> Result<(), Fail> {
     let other = next(draft, 3) as usize;
     let to = next(draft, 24) as usize;
     let number = next(draft, 10);
+    let owned = draft.owned;
     match number {
         4 | 5 => put_again(draft, to),
         6 => put_goto(draft),
-        _ => match words_of(number, one, other, draft.owned) {
-            Some((words, owned)) => {
+        _ => match words_of(number, one, other, owned) {
+            Some(made) => {
+                let words = made.0;
+                let after = made.1;
                 put(draft, &words)?;
-                draft.owned = owned;
+                draft.owned = after;
                 Ok(())
             }
             None => put_plain(draft),

@@ -398,11 +398,13 @@ fn answer_to_change(
     let module = function_of(alloc, lines)?;
     let mut table = table_of(alloc, &module)?;
     let is_there = table.change(point.0, point.1, state_of(entry));
-    match verify(module, table) {
-        Ok(_) => Ok((is_there, None)),
-        Err(refused) if refused.code == CheckCode::StatesDiffer => Ok((is_there, Some(refused.at))),
-        Err(_) => Err("a table is refused for its states alone")?,
+    let Some(refused) = verify(module, table).err() else {
+        return Ok((is_there, None));
+    };
+    if refused.code != CheckCode::StatesDiffer {
+        return Err("a table is refused for its states alone")?;
     }
+    Ok((is_there, Some(refused.at)))
 }
 
 /// The number of the first change of this point that the checker doesn't notice. A change is noticed if the table is
