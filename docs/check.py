@@ -45,7 +45,7 @@ def sources():
     """The sources of all crates, by path."""
     found = {}
     for path in sorted((ROOT / "crates").rglob("*")):
-        if path.suffix in (".rt", ".antt", ".edit") and "out" not in path.relative_to(ROOT).parts:
+        if path.suffix in (".rt", ".antt", ".edit", ".cases") and "out" not in path.relative_to(ROOT).parts:
             found[path] = path.read_text()
     return found
 

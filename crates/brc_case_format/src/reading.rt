@@ -176,6 +176,7 @@ impl Reader {
             "lacks" => How::Lacks,
             "begins" => How::Begins,
             "ends" => How::Ends,
+            "narrow" => How::Narrow,
             _ => return Err(Why::WrongWords),
         };
         let wanted = Wanted {

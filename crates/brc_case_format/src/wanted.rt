@@ -18,6 +18,8 @@ pub enum How {
     Lacks,
     Begins,
     Ends,
+    /// No line is wider than 80 columns.
+    Narrow,
 }
 
 /// What a command has to write on a stream.
@@ -40,6 +42,7 @@ impl Wanted {
             How::Lacks => !contains(found, text),
             How::Begins => found.starts_with(text),
             How::Ends => found.ends_with(text),
+            How::Narrow => is_narrow(found),
         }
     }
 }
@@ -47,4 +50,9 @@ impl Wanted {
 /// Returns whether the text has the part.
 fn contains(text: &[u8], part: &[u8]) -> bool {
     part.is_empty() || text.windows(part.len().max(1)).any(|seen| seen == part)
+}
+
+/// Returns whether no line of the text is wider than 80 columns.
+fn is_narrow(text: &[u8]) -> bool {
+    text.split(|byte| *byte == b'\n').all(|line| line.len() <= 80)
 }

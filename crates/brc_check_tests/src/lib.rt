@@ -1,48 +1,29 @@
-//! Tests of the texts (modules, schedules and reports), and of the checker: what it accepts, what it refuses, and its
-//! tables.
+//! Tests of what no command shows: texts as values, and what is written of them; the tables of the checker; the words of
+//! objects; what a step answers, and all interleavings of two workers. What a command shows is in the cases of
+//! `brc_cases`.
 #![tactic(auto)]
 
 #[cfg(test)]
-mod call_lines;
+mod accepted;
 #[cfg(test)]
-mod calls;
+mod instructions;
 #[cfg(test)]
-mod extremes;
-#[cfg(test)]
-mod functions;
-#[cfg(test)]
-mod host;
-#[cfg(test)]
-mod host_cases;
-#[cfg(test)]
-mod host_instructions;
-#[cfg(test)]
-mod items;
-#[cfg(test)]
-mod line_cases;
-#[cfg(test)]
-mod locked_tables;
-#[cfg(test)]
-mod locks;
-#[cfg(test)]
-mod loops;
+mod interleavings;
 #[cfg(test)]
 mod modules;
 #[cfg(test)]
-mod paths_to;
+mod pages;
 #[cfg(test)]
 mod random_tables;
 #[cfg(test)]
-mod reports;
-#[cfg(test)]
 mod schedules;
 #[cfg(test)]
-mod static_cases;
+mod states;
 #[cfg(test)]
-mod statics;
+mod steps;
 #[cfg(test)]
 mod tables;
 #[cfg(test)]
-mod target_cases;
+mod words;
 #[cfg(test)]
 mod writing;

@@ -1,8 +1,9 @@
-//! The tables of random functions, compared with full ones that are filled by a plain walk over all exits.
+//! The tables of accepted functions, made up and random ones, compared with full ones that are filled by a plain walk over all exits.
 
 ghost use Rattle.std.specs.Prelude.{◌<◌};
 
-use crate::functions::module_of;
+use crate::accepted::{CALLS, FUNCTIONS as ACCEPTED, STATICS};
+use crate::modules::module_of;
 use brc_check::{Checked, Exit, State, Step, check, entry_of, follow};
 use brc_lang::{Function, Instr, write_number, write_pieces};
 use std::alloc::Global;
@@ -18,7 +19,7 @@ const HEAD: &[u8] =
 /// From this point on a function gives up what it still owns.
 const END: usize = 24;
 
-/// The last point, a `fail`, before which nothing is owned.
+/// The last point, a `fail`, before which nothing is owned. Lines that can fail lead there.
 const LAST: usize = 29;
 
 /// What v1, v2 and v3 own while a function is written: nothing (0), none (1), the list (2), a number (3), or what
@@ -89,30 +90,52 @@ fn put_goto(draft: &mut Draft) -> Result<(), Fail> {
     Ok(())
 }
 
-/// Adds a call that lends the list to `show`, if nothing is owned, or one by which `give` steals all that is. Only
-/// what the call returns is owned behind it. Elsewhere adds a plain line.
-fn put_call(draft: &mut Draft, to: usize, from: usize) -> Result<(), Fail>
-    requires to { to < 3 }
-    requires from { from < 3 }
+/// What is owned, but for this variable, which has this now.
+fn with(owned: Owned, at: usize, value: u8) -> Owned
+    requires { at < 3 }
 {
-    let mut rest = draft.owned;
-    rest[from] = 0;
-    if draft.owned == [0, 0, 0] {
-        put_target(
-            draft,
-            &[b"call ", NAMES[to], b" show v0 else @"],
-            LAST,
-            b"\n",
-        )?;
-    } else if rest == [0, 0, 0] && from != to {
-        let words: [&[u8]; 5] = [b"call ", NAMES[to], b" give ", NAMES[from], b" else @"];
-        put_target(draft, &words, LAST, b"\n")?;
-    } else {
-        return put_plain(draft);
+    let mut made = owned;
+    made[at] = value;
+    made
+}
+
+/// The words of a line that makes, moves or gives up references, and what is owned behind it, or `None` where the number
+/// is of no such line or the line would be refused. A call lends the list to `show`, if nothing is owned, or `give` steals
+/// all that is; only what the call returns is owned behind it.
+fn words_of(
+    number: u64,
+    one: usize,
+    other: usize,
+    owned: Owned,
+) -> Option<([&'static [u8]; 5], Owned)>
+    requires one { one < 3 }
+    requires other { other < 3 }
+{
+    let (name, other_name) = (NAMES[one], NAMES[other]);
+    let is_empty = owned[one] == 0;
+    let owns_nothing = owned == [0, 0, 0];
+    let owns_other = with(owned, other, 0) == [0, 0, 0] && one != other;
+    let returned = with([0, 0, 0], one, 4);
+    let moved = with(with(owned, one, 0), other, owned[one]);
+    let is_other_empty = owned[other] == 0;
+    match number {
+        0 if is_empty => Some(([b"none ", name, b"", b"", b""], with(owned, one, 1))),
+        1 if is_empty => Some(([b"newref ", name, b" v0", b"", b""], with(owned, one, 2))),
+        2 | 3 if owns_nothing => Some((
+            [b"num ", name, b" 1 else @29", b"", b""],
+            with(owned, one, 3),
+        )),
+        2 if !is_empty => Some(([b"drop ", name, b"", b"", b""], with(owned, one, 0))),
+        3 if !is_empty && is_other_empty => {
+            Some(([b"move ", other_name, b" ", name, b""], moved))
+        }
+        8 | 9 if owns_nothing => Some(([b"call ", name, b" show v0 else @29", b"", b""], returned)),
+        8 | 9 if owns_other => Some((
+            [b"call ", name, b" give ", other_name, b" else @29"],
+            returned,
+        )),
+        _ => None,
     }
-    draft.owned = [0, 0, 0];
-    draft.owned[to] = 4;
-    Ok(())
 }
 
 /// Adds a line at random.
@@ -120,35 +143,22 @@ fn put_random(draft: &mut Draft) -> Result<(), Fail> {
     let one = next(draft, 3) as usize;
     let other = next(draft, 3) as usize;
     let to = next(draft, 24) as usize;
+    let number = next(draft, 10);
     let owned = draft.owned;
-    match next(draft, 10) {
-        0 if owned[one] == 0 => {
-            put(draft, &[b"none ", NAMES[one]])?;
-            draft.owned[one] = 1;
-        }
-        1 if owned[one] == 0 => {
-            put(draft, &[b"newref ", NAMES[one], b" v0"])?;
-            draft.owned[one] = 2;
-        }
-        2 | 3 if owned[one] == 0 && owned == [0, 0, 0] => {
-            put_target(draft, &[b"num ", NAMES[one], b" 1 else @"], LAST, b"\n")?;
-            draft.owned[one] = 3;
-        }
-        2 if owned[one] != 0 => {
-            put(draft, &[b"drop ", NAMES[one]])?;
-            draft.owned[one] = 0;
-        }
-        3 if owned[one] != 0 && owned[other] == 0 => {
-            put(draft, &[b"move ", NAMES[other], b" ", NAMES[one]])?;
-            draft.owned[other] = owned[one];
-            draft.owned[one] = 0;
-        }
-        4 | 5 => put_again(draft, to)?,
-        6 => put_goto(draft)?,
-        8 | 9 => put_call(draft, one, other)?,
-        _ => put_plain(draft)?,
+    match number {
+        4 | 5 => put_again(draft, to),
+        6 => put_goto(draft),
+        _ => match words_of(number, one, other, owned) {
+            Some(made) => {
+                let words = made.0;
+                let after = made.1;
+                put(draft, &words)?;
+                draft.owned = after;
+                Ok(())
+            }
+            None => put_plain(draft),
+        },
     }
-    Ok(())
 }
 
 /// Returns the text of a module whose last function is a random one that is accepted.
@@ -232,7 +242,7 @@ fn first_other_in(
 }
 
 /// The first point at which the table of an accepted module has another state than the walk.
-pub fn first_other_point(alloc: Global, checked: &Checked) -> Result<Option<Point>, Fail> {
+fn first_other_point(alloc: Global, checked: &Checked) -> Result<Option<Point>, Fail> {
     for (number, function) in checked.module().functions.as_slice().iter().enumerate() {
         if let Some(at) = first_other_in(alloc, checked, number, function)? {
             return Ok(Some((number, at)));
@@ -241,22 +251,38 @@ pub fn first_other_point(alloc: Global, checked: &Checked) -> Result<Option<Poin
     Ok(None)
 }
 
-/// The first of these modules whose table has another state at some point than the walk, and the point.
-fn first_other_module(alloc: Global) -> Result<Option<(u64, Point)>, Fail> {
-    for seed in 0..FUNCTIONS {
-        let text = text_of(alloc, seed)?;
-        let Ok(checked) = check(alloc, module_of(alloc, &text)?) else {
-            return Err("the module is accepted, and memory is ample")?;
-        };
-        if let Some(point) = first_other_point(alloc, &checked)? {
-            return Ok(Some((seed, point)));
-        }
+/// Whether the table of this accepted module has the states of the walk.
+fn has_states_of_a_walk(alloc: Global, text: &[u8]) -> Result<bool, Fail> {
+    match check(alloc, module_of(alloc, text)?) {
+        Ok(checked) => Ok(first_other_point(alloc, &checked)?.is_none()),
+        Err(_) => Err("the module is accepted, and memory is ample")?,
     }
-    Ok(None)
+}
+
+/// The text of these lines below the front and above the back.
+fn between(alloc: Global, front: &[u8], lines: &[u8], back: &[u8]) -> Result<Vec<u8>, Fail> {
+    let mut text = Vec::from_slice(alloc, front)?;
+    text.extend_from_slice(lines)?;
+    text.extend_from_slice(back)?;
+    Ok(text)
 }
 
 #[test]
-fn random_tables(rt: HostRuntime) -> Result<(), Fail> {
-    assert_eq!(rt; first_other_module(rt.alloc())?, None);
+fn tables_have_the_states_of_a_walk(rt: HostRuntime) -> Result<(), Fail> {
+    let tables: [(&[u8], &[&[u8]], &[u8]); 3] = [
+        (b"module 1\nfunc f\n", ACCEPTED, b"end\n"),
+        (b"module 2\n", CALLS, b""),
+        (b"module 3\nstatic 5 6\nfunc f\n", STATICS, b"end\n"),
+    ];
+    for (front, texts, back) in tables {
+        for lines in texts {
+            let text = between(rt.alloc(), front, lines, back)?;
+            assert!(rt; has_states_of_a_walk(rt.alloc(), &text)?, "{lines:?}");
+        }
+    }
+    for seed in 0..FUNCTIONS {
+        let text = text_of(rt.alloc(), seed)?;
+        assert!(rt; has_states_of_a_walk(rt.alloc(), &text)?, "{seed}");
+    }
     Ok(())
 }

@@ -2,19 +2,17 @@
 
 ghost use Rattle.brc_lang.specs.Grammar.{IsModule};
 
-use crate::functions::{function_of, module_of};
-use crate::locked_tables::{first_other_locked_table, first_unnoticed_change};
-use crate::loops;
+use crate::modules::{function_of, module_of};
 use brc_check::{CheckCode, Checked, State, Table, VarState, infer, verify};
 use brc_lang::{Kind, Module, Variable};
 use std::alloc::Global;
 use std::test::*;
 
-/// The states of v1 and v2 at a point; v0 is the caller's list, and the others are empty.
-type VarStates = (VarState, VarState);
+/// The states of v1 and v2 at a point, and the number of the locked variable, if one is; v0 is the caller's list, and the
+/// others are empty. `None` is a point that no path reaches, or one past the last.
+type Entry = Option<(VarState, VarState, Option<u8>)>;
 
-/// Lines, the points that a table keeps of them, and the states of v1 and v2 at each of their points and past the last.
-pub type TableCase<'a> = (&'a [u8], &'a [usize], &'a [Option<VarStates>]);
+const EMPTY: VarState = VarState::Empty;
 
 const NUMBER: VarState = VarState::Owned(Kind::Num);
 
@@ -22,32 +20,40 @@ const NONE: VarState = VarState::Owned(Kind::None);
 
 const LIST: VarState = VarState::Owned(Kind::List);
 
+const FILE: VarState = VarState::Owned(Kind::File);
+
+const SOCKET: VarState = VarState::Owned(Kind::Sock);
+
+/// A fetched item, whose kind isn't known.
+const FETCHED: VarState = VarState::Owned(Kind::Any);
+
+/// A borrowed item, whose kind isn't known.
+const BORROWED: VarState = VarState::Locked(Kind::Any);
+
+/// The entry of the first point.
+const FIRST: Entry = Some((EMPTY, EMPTY, None));
+
 const TAKE_AND_DROP: &[u8] = b"newref v1 v0\ndrop v1\nfail\n";
 
-/// If no row is left for a number, the function goes on after the line that drops it.
-const TWO_NUMBERS: &[u8] = b"num v1 1 else @4\nnum v2 2 else @3\ndrop v2\ndrop v1\nfail\n";
+/// Lines, the points that a table keeps of them, and the entry of each point.
+type TableCase<'a> = (&'a [u8], &'a [usize], &'a [Entry]);
 
-/// Tables of functions that make, move and give up references.
 const TABLES: &[TableCase] = &[
     (
         TAKE_AND_DROP,
         &[0],
-        &[
-            Some((VarState::Empty, VarState::Empty)),
-            Some((LIST, VarState::Empty)),
-            Some((VarState::Empty, VarState::Empty)),
-            None,
-        ],
+        &[FIRST, Some((LIST, EMPTY, None)), FIRST, None],
     ),
+    // If no row is left for a number, the function goes on after the line that drops it.
     (
-        TWO_NUMBERS,
+        b"num v1 1 else @4\nnum v2 2 else @3\ndrop v2\ndrop v1\nfail\n",
         &[0, 3, 4],
         &[
-            Some((VarState::Empty, VarState::Empty)),
-            Some((NUMBER, VarState::Empty)),
-            Some((NUMBER, NUMBER)),
-            Some((NUMBER, VarState::Empty)),
-            Some((VarState::Empty, VarState::Empty)),
+            FIRST,
+            Some((NUMBER, EMPTY, None)),
+            Some((NUMBER, NUMBER, None)),
+            Some((NUMBER, EMPTY, None)),
+            FIRST,
         ],
     ),
     // If no row is left for the list, the function goes on after the line that drops it.
@@ -55,34 +61,26 @@ const TABLES: &[TableCase] = &[
         b"list v1 2 else @4\nnewref v2 v1\ndrop v2\ndrop v1\nfail\n",
         &[0, 4],
         &[
-            Some((VarState::Empty, VarState::Empty)),
-            Some((LIST, VarState::Empty)),
-            Some((LIST, LIST)),
-            Some((LIST, VarState::Empty)),
-            Some((VarState::Empty, VarState::Empty)),
+            FIRST,
+            Some((LIST, EMPTY, None)),
+            Some((LIST, LIST, None)),
+            Some((LIST, EMPTY, None)),
+            FIRST,
             None,
         ],
     ),
     // A point that no path reaches has no entry.
-    (
-        b"goto @2\ndrop v5\nfail\n",
-        &[0, 2],
-        &[
-            Some((VarState::Empty, VarState::Empty)),
-            None,
-            Some((VarState::Empty, VarState::Empty)),
-        ],
-    ),
+    (b"goto @2\ndrop v5\nfail\n", &[0, 2], &[FIRST, None, FIRST]),
     // A reference to none is moved, doubled and returned.
     (
         b"none v1\nmove v2 v1\nnewref v1 v2\ndrop v2\nret v1\n",
         &[0],
         &[
-            Some((VarState::Empty, VarState::Empty)),
-            Some((NONE, VarState::Empty)),
-            Some((VarState::Empty, NONE)),
-            Some((NONE, NONE)),
-            Some((NONE, VarState::Empty)),
+            FIRST,
+            Some((NONE, EMPTY, None)),
+            Some((EMPTY, NONE, None)),
+            Some((NONE, NONE, None)),
+            Some((NONE, EMPTY, None)),
         ],
     ),
     // The kind asked for is known at both exits already.
@@ -90,63 +88,244 @@ const TABLES: &[TableCase] = &[
         b"num v1 1 else @4\nas v1 num else @3\ngoto @3\nret v1\nfail\n",
         &[0, 3, 4],
         &[
-            Some((VarState::Empty, VarState::Empty)),
-            Some((NUMBER, VarState::Empty)),
-            Some((NUMBER, VarState::Empty)),
-            Some((NUMBER, VarState::Empty)),
-            Some((VarState::Empty, VarState::Empty)),
+            FIRST,
+            Some((NUMBER, EMPTY, None)),
+            Some((NUMBER, EMPTY, None)),
+            Some((NUMBER, EMPTY, None)),
+            FIRST,
         ],
     ),
     // A path falls through to the target of another.
     (
         b"num v1 1 else @2\ndrop v1\nfail\n",
         &[0, 2],
-        &[
-            Some((VarState::Empty, VarState::Empty)),
-            Some((NUMBER, VarState::Empty)),
-            Some((VarState::Empty, VarState::Empty)),
-        ],
+        &[FIRST, Some((NUMBER, EMPTY, None)), FIRST],
     ),
     // A target behind a `goto` that isn't reached has none.
     (
         b"goto @3\nnum v5 1 else @2\nfail\nfail\n",
         &[0, 2, 3],
+        &[FIRST, None, None, FIRST, None],
+    ),
+    // A borrowed item is gone once its list is unlocked, and a reference to it stays.
+    (
+        b"lock v0\nborrow v1 v0 0 else @6\nnewref v2 v1\nunlock v0\ndrop v2\nfail\nunlock v0\nfail\n",
+        &[0, 6],
         &[
-            Some((VarState::Empty, VarState::Empty)),
-            None,
-            None,
-            Some((VarState::Empty, VarState::Empty)),
-            None,
+            FIRST,
+            Some((EMPTY, EMPTY, Some(0))),
+            Some((BORROWED, EMPTY, Some(0))),
+            Some((BORROWED, FETCHED, Some(0))),
+            Some((EMPTY, FETCHED, None)),
+            FIRST,
+            Some((EMPTY, EMPTY, Some(0))),
+            FIRST,
+        ],
+    ),
+    // `set` steals on both exits.
+    (
+        b"list v1 1 else @6\nnewref v2 v1\nlock v1\nset v1 0 v2 else @4\nunlock v1\ndrop v1\nfail\n",
+        &[0, 4, 6],
+        &[
+            FIRST,
+            Some((LIST, EMPTY, None)),
+            Some((LIST, LIST, None)),
+            Some((LIST, LIST, Some(1))),
+            Some((LIST, EMPTY, Some(1))),
+            Some((LIST, EMPTY, None)),
+            FIRST,
+        ],
+    ),
+    // A fetched item stays when its list is unlocked. It may be locked where `as` has found that it is a list.
+    (
+        b"lock v0\nfetch v1 v0 0 else @9\nunlock v0\nas v1 list else @7\nlock v1\nunlock v1\nret v1\n\
+          drop v1\nfail\nunlock v0\nfail\n",
+        &[0, 7, 9],
+        &[
+            FIRST,
+            Some((EMPTY, EMPTY, Some(0))),
+            Some((FETCHED, EMPTY, Some(0))),
+            Some((FETCHED, EMPTY, None)),
+            Some((LIST, EMPTY, None)),
+            Some((LIST, EMPTY, Some(1))),
+            Some((LIST, EMPTY, None)),
+            Some((FETCHED, EMPTY, None)),
+            FIRST,
+            Some((EMPTY, EMPTY, Some(0))),
+            FIRST,
+        ],
+    ),
+    // `put` leaves its reference, and no borrowed item.
+    (
+        b"num v2 7 else @9\nlock v0\nborrow v1 v0 0 else @5\nas v1 num else @7\nput v0 1 v2 else @5\n\
+          unlock v0\ngoto @8\nunlock v0\ndrop v2\nfail\n",
+        &[0, 5, 7, 8, 9],
+        &[
+            FIRST,
+            Some((EMPTY, NUMBER, None)),
+            Some((EMPTY, NUMBER, Some(0))),
+            Some((BORROWED, NUMBER, Some(0))),
+            Some((VarState::Locked(Kind::Num), NUMBER, Some(0))),
+            Some((EMPTY, NUMBER, Some(0))),
+            Some((EMPTY, NUMBER, None)),
+            Some((BORROWED, NUMBER, Some(0))),
+            Some((EMPTY, NUMBER, None)),
+            FIRST,
+        ],
+    ),
+    // A number that is read is owned.
+    (
+        b"open v1 0 r else @6\nlock v1\nread v2 v1 8 else @4\ndrop v2\nunlock v1\ndrop v1\nfail\n",
+        &[0, 4, 6],
+        &[
+            FIRST,
+            Some((FILE, EMPTY, None)),
+            Some((FILE, EMPTY, Some(1))),
+            Some((FILE, NUMBER, Some(1))),
+            Some((FILE, EMPTY, Some(1))),
+            Some((FILE, EMPTY, None)),
+            FIRST,
+        ],
+    ),
+    // `write` changes no variable.
+    (
+        b"connect v1 0 else @7\nnum v2 5 else @6\nlock v1\nwrite v1 v2 else @4\nunlock v1\ndrop v2\n\
+          drop v1\nfail\n",
+        &[0, 4, 6, 7],
+        &[
+            FIRST,
+            Some((SOCKET, EMPTY, None)),
+            Some((SOCKET, NUMBER, None)),
+            Some((SOCKET, NUMBER, Some(1))),
+            Some((SOCKET, NUMBER, Some(1))),
+            Some((SOCKET, NUMBER, None)),
+            Some((SOCKET, EMPTY, None)),
+            FIRST,
+        ],
+    ),
+    // An index out of range: `set` has taken the number.
+    (
+        b"num v1 7 else @6\nlock v0\nset v0 200 v1 else @5\nunlock v0\nfail\nunlock v0\nfail\n",
+        &[0, 5, 6],
+        &[
+            FIRST,
+            Some((NUMBER, EMPTY, None)),
+            Some((NUMBER, EMPTY, Some(0))),
+            Some((EMPTY, EMPTY, Some(0))),
+            FIRST,
+            Some((EMPTY, EMPTY, Some(0))),
+            FIRST,
+        ],
+    ),
+    // Paths fall through to the targets of `else`, in the same state.
+    (
+        b"none v1\nlock v0\nput v0 0 v1 else @3\nfetch v2 v0 1 else @5\nset v0 0 v2 else @5\nunlock v0\nret v1\n",
+        &[0, 3, 5],
+        &[
+            FIRST,
+            Some((NONE, EMPTY, None)),
+            Some((NONE, EMPTY, Some(0))),
+            Some((NONE, EMPTY, Some(0))),
+            Some((NONE, FETCHED, Some(0))),
+            Some((NONE, EMPTY, Some(0))),
+            Some((NONE, EMPTY, None)),
         ],
     ),
 ];
 
-/// The states that overwrite entries.
-const OVERWRITTEN: &[VarStates] = &[
-    (VarState::Empty, VarState::Empty),
-    (VarState::Empty, NUMBER),
-    (VarState::Empty, VarState::Caller(Kind::Num)),
-    (NUMBER, VarState::Empty),
-    (NUMBER, NUMBER),
-    (NUMBER, VarState::Caller(Kind::Num)),
-    (VarState::Owned(Kind::Any), VarState::Empty),
-    (VarState::Owned(Kind::Any), NUMBER),
-    (VarState::Owned(Kind::Any), VarState::Caller(Kind::Num)),
+/// Tables of functions with loops. Both ways of `again` are open to a path, whatever its limit.
+const LOOPS: &[TableCase] = &[
+    (
+        b"num v1 1 else @3\ndrop v1\nagain @0 3\nfail\n",
+        &[0, 3],
+        &[FIRST, Some((NUMBER, EMPTY, None)), FIRST, FIRST, None],
+    ),
+    (
+        b"none v1\nnewref v2 v1\ndrop v2\nagain @1 9\nret v1\n",
+        &[0, 1],
+        &[
+            FIRST,
+            Some((NONE, EMPTY, None)),
+            Some((NONE, NONE, None)),
+            Some((NONE, EMPTY, None)),
+            Some((NONE, EMPTY, None)),
+        ],
+    ),
+    // A line that is reached only by going back has an entry, and one inside a loop that isn't reached has none.
+    (
+        b"none v1\ngoto @3\nret v1\nagain @2 1\nret v1\n",
+        &[0, 2, 3],
+        &[
+            FIRST,
+            Some((NONE, EMPTY, None)),
+            Some((NONE, EMPTY, None)),
+            Some((NONE, EMPTY, None)),
+            Some((NONE, EMPTY, None)),
+        ],
+    ),
+    (
+        b"goto @2\ndrop v5\nagain @0 2\nfail\n",
+        &[0, 2],
+        &[FIRST, None, FIRST, FIRST],
+    ),
+    // An `again` that isn't reached finds nothing.
+    (
+        b"goto @2\nfail\nfail\nagain @1 2\nfail\n",
+        &[0, 1, 2],
+        &[FIRST, None, FIRST, None, None],
+    ),
 ];
 
-fn state(vars: VarStates) -> State {
-    let mut all = [VarState::Empty; 16];
-    all[0] = VarState::Caller(Kind::List);
-    all[1] = vars.0;
-    all[2] = vars.1;
-    State {
-        vars: all,
-        locked: None,
-    }
+/// What overwrites the entries of kept points: the state of v1, that of v2, or `None` where it stays, and the locked
+/// variable.
+const OVERWRITTEN: &[(VarState, Option<VarState>, Option<u8>)] = &[
+    (EMPTY, Some(EMPTY), None),
+    (EMPTY, Some(NUMBER), None),
+    (EMPTY, Some(VarState::Caller(Kind::Num)), None),
+    (NUMBER, Some(EMPTY), None),
+    (NUMBER, Some(NUMBER), None),
+    (NUMBER, Some(VarState::Caller(Kind::Num)), None),
+    (FETCHED, Some(EMPTY), None),
+    (FETCHED, Some(NUMBER), None),
+    (FETCHED, Some(VarState::Caller(Kind::Num)), None),
+    (EMPTY, None, None),
+    (EMPTY, None, Some(0)),
+    (EMPTY, None, Some(1)),
+    (BORROWED, None, None),
+    (BORROWED, None, Some(0)),
+    (BORROWED, None, Some(1)),
+    (VarState::Locked(Kind::Num), None, Some(0)),
+    (VarState::Caller(Kind::Any), None, Some(0)),
+    (FILE, None, None),
+    (FILE, None, Some(1)),
+    (SOCKET, None, None),
+    (SOCKET, None, Some(1)),
+    (FETCHED, None, None),
+    (FETCHED, None, Some(0)),
+    (LIST, None, None),
+    (LIST, None, Some(0)),
+    (LIST, None, Some(1)),
+    (VarState::Locked(Kind::List), None, Some(0)),
+    (VarState::Caller(Kind::List), None, Some(1)),
+    (NUMBER, None, Some(0)),
+];
+
+fn state_of(entry: Entry) -> Option<State> {
+    let (one, two, locked) = entry?;
+    let mut vars = [VarState::Empty; 16];
+    vars[0] = VarState::Caller(Kind::List);
+    vars[1] = one;
+    vars[2] = two;
+    let locked = match locked {
+        Some(0) => Some(Variable::new(0)),
+        Some(_) => Some(Variable::new(1)),
+        None => None,
+    };
+    Some(State { vars, locked })
 }
 
 /// The table of an acceptable module.
-pub fn table_of(alloc: Global, module: &Module) -> Result<Table, Fail>
+fn table_of(alloc: Global, module: &Module) -> Result<Table, Fail>
     requires { IsModule «module».now }
 {
     match infer(alloc, module) {
@@ -156,12 +335,12 @@ pub fn table_of(alloc: Global, module: &Module) -> Result<Table, Fail>
 }
 
 /// The first point with another state in the table of one function; a second function has no states.
-fn other_state(table: &Table, module: &Module, states: &[Option<State>]) -> Option<usize> {
+fn other_state(table: &Table, module: &Module, entries: &[Entry]) -> Option<usize> {
     if table.at(module, 1, 0).is_some() {
         return Some(0);
     }
-    for (at, state) in states.iter().enumerate() {
-        if table.at(module, 0, at) != *state {
+    for (at, entry) in entries.iter().enumerate() {
+        if table.at(module, 0, at) != state_of(*entry) {
             return Some(at);
         }
     }
@@ -169,63 +348,43 @@ fn other_state(table: &Table, module: &Module, states: &[Option<State>]) -> Opti
 }
 
 /// The same of an accepted module, also of the states that it says itself.
-fn other_entry(checked: &Checked, states: &[Option<State>]) -> Option<usize> {
-    for (at, state) in states.iter().enumerate() {
-        if checked.entry(0, at) != *state {
+fn other_entry(checked: &Checked, entries: &[Entry]) -> Option<usize> {
+    for (at, entry) in entries.iter().enumerate() {
+        if checked.entry(0, at) != state_of(*entry) {
             return Some(at);
         }
     }
-    other_state(checked.table(), checked.module(), states)
+    other_state(checked.table(), checked.module(), entries)
 }
 
 /// The first point with another state, in the table that `infer` gives or in the one that `verify` hands on; `Err` if
 /// the table keeps another number of points.
-pub fn first_difference(
+fn first_difference(
     alloc: Global,
     lines: &[u8],
     kept: usize,
-    states: &[Option<State>],
+    entries: &[Entry],
 ) -> Result<Option<usize>, Fail> {
     let module = function_of(alloc, lines)?;
     let table = table_of(alloc, &module)?;
     if table.kept(0) != kept || table.kept(1) != 0 {
         return Err("the table keeps the first point and each target")?;
     }
-    if let Some(at) = other_state(&table, &module, states) {
-        return Ok(Some(at));
-    }
+    let inferred = other_state(&table, &module, entries);
     match verify(module, table) {
-        Ok(checked) => Ok(other_entry(&checked, states)),
+        Ok(checked) => Ok(inferred.or(other_entry(&checked, entries))),
         Err(_) => Err("the table is the true one")?,
     }
 }
 
-/// The number of the first table that is another one, and the point at which it is.
-pub fn first_other_table(
-    alloc: Global,
-    tables: &[TableCase],
-) -> Result<Option<(usize, usize)>, Fail> {
-    for (number, (lines, kept, points)) in tables.iter().enumerate() {
-        let mut states = Vec::new(alloc);
-        for vars in points.iter() {
-            states.push(match vars {
-                Some(vars) => Some(state(*vars)),
-                None => None,
-            })?;
-        }
-        if let Some(at) = first_difference(alloc, lines, kept.len(), &states)? {
-            return Ok(Some((number, at)));
-        }
-    }
-    Ok(None)
-}
-
 #[test]
-fn true_tables(rt: HostRuntime) -> Result<(), Fail> {
-    for tables in [TABLES, loops::TABLES] {
-        assert_eq!(rt; first_other_table(rt.alloc(), tables)?, None);
+fn tables_are_true(rt: HostRuntime) -> Result<(), Fail> {
+    for tables in [TABLES, LOOPS] {
+        for (lines, kept, entries) in tables {
+            let difference = first_difference(rt.alloc(), lines, kept.len(), entries)?;
+            assert_eq!(rt; difference, None, "{lines:?}");
+        }
     }
-    assert_eq!(rt; first_other_locked_table(rt.alloc())?, None);
     Ok(())
 }
 
@@ -234,11 +393,11 @@ fn answer_to_change(
     alloc: Global,
     lines: &[u8],
     point: (usize, usize),
-    entry: Option<State>,
+    entry: Entry,
 ) -> Result<(bool, Option<usize>), Fail> {
     let module = function_of(alloc, lines)?;
     let mut table = table_of(alloc, &module)?;
-    let is_there = table.change(point.0, point.1, entry);
+    let is_there = table.change(point.0, point.1, state_of(entry));
     let Some(refused) = verify(module, table).err() else {
         return Ok((is_there, None));
     };
@@ -248,99 +407,48 @@ fn answer_to_change(
     Ok((is_there, Some(refused.at)))
 }
 
-fn same_vars(one: VarStates, other: VarStates) -> bool {
-    one == other
-}
-
-/// Whether a table whose entry is overwritten by these states is refused there, just where they are others.
-fn is_noticed(
+/// The number of the first change of this point that the checker doesn't notice. A change is noticed if the table is
+/// refused there, just where the entry is another one.
+fn first_unnoticed(
     alloc: Global,
     lines: &[u8],
     at: usize,
-    vars: VarStates,
-    other: VarStates,
-) -> Result<bool, Fail> {
-    let (is_there, refused) = answer_to_change(alloc, lines, (0, at), Some(state(other)))?;
-    let wanted = if same_vars(other, vars) {
-        None
-    } else {
-        Some(at)
-    };
-    Ok(is_there && refused == wanted)
-}
-
-/// Whether a table whose entry is overwritten is refused there.
-pub fn is_refused_at(
-    alloc: Global,
-    lines: &[u8],
-    at: usize,
-    entry: Option<State>,
-) -> Result<bool, Fail> {
-    let (is_there, refused) = answer_to_change(alloc, lines, (0, at), entry)?;
-    Ok(is_there && refused == Some(at))
-}
-
-/// Whether a change is no change at a point that isn't kept, and the table is accepted as it was.
-pub fn is_left_alone(
-    alloc: Global,
-    lines: &[u8],
-    at: usize,
-    entry: Option<State>,
-) -> Result<bool, Fail> {
-    Ok(answer_to_change(alloc, lines, (0, at), entry)? == (false, None))
-}
-
-/// Whether each change of the entry is refused at its point: no state, an open critical section, or another state.
-fn is_guarded(alloc: Global, lines: &[u8], at: usize, vars: VarStates) -> Result<bool, Fail> {
-    let mut locked = state(vars);
-    locked.locked = Some(Variable::new(0));
-    if !is_refused_at(alloc, lines, at, None)? || !is_refused_at(alloc, lines, at, Some(locked))? {
-        return Ok(false);
-    }
-    for other in OVERWRITTEN {
-        if !is_noticed(alloc, lines, at, vars, *other)? {
-            return Ok(false);
-        }
-    }
-    Ok(true)
-}
-
-/// The first point on a path at which some change isn't refused, or the true entry is; or, if the point isn't kept, at
-/// which there is something to change.
-fn first_unguarded(
-    alloc: Global,
-    lines: &[u8],
-    kept: &[usize],
-    states: &[Option<VarStates>],
+    entry: (VarState, VarState, Option<u8>),
 ) -> Result<Option<usize>, Fail> {
-    for (at, vars) in states.iter().enumerate() {
-        let is_right = match vars {
-            Some(vars) if kept.contains(&at) => is_guarded(alloc, lines, at, *vars)?,
-            _ => kept.contains(&at) || is_left_alone(alloc, lines, at, None)?,
-        };
-        if !is_right {
-            return Ok(Some(at));
+    for (number, (one, two, locked)) in OVERWRITTEN.iter().enumerate() {
+        let other = (*one, two.unwrap_or(entry.1), *locked);
+        let wanted = if other == entry { None } else { Some(at) };
+        if answer_to_change(alloc, lines, (0, at), Some(other))? != (true, wanted) {
+            return Ok(Some(number));
         }
     }
     Ok(None)
 }
 
-/// The number of the first table with a point of which some change isn't refused, and the point.
-fn first_unguarded_table(alloc: Global) -> Result<Option<(usize, usize)>, Fail> {
-    for (number, (lines, kept, states)) in TABLES.iter().enumerate() {
-        if let Some(at) = first_unguarded(alloc, lines, kept, states)? {
-            return Ok(Some((number, at)));
-        }
-    }
-    Ok(None)
-}
-
+/// An entry is overwritten by none and by others. A point that isn't kept has nothing to change, nor has one that isn't
+/// there.
 #[test]
-fn changed_entries(rt: HostRuntime) -> Result<(), Fail> {
-    assert_eq!(rt; first_unguarded_table(rt.alloc())?, None);
-    assert_eq!(rt; first_unnoticed_change(rt.alloc())?, None);
+fn changes_are_noticed(rt: HostRuntime) -> Result<(), Fail> {
+    let alloc = rt.alloc();
+    for (lines, kept, entries) in TABLES {
+        for (at, entry) in entries.iter().enumerate() {
+            let point = (0, at);
+            let answer = answer_to_change(alloc, lines, point, None)?;
+            if !kept.contains(&at) {
+                assert_eq!(rt; answer, (false, None), "{lines:?} {at}");
+            } else if let Some((one, two, locked)) = entry {
+                assert_eq!(rt; answer, (true, Some(at)), "{lines:?} {at}");
+                let entry = (*one, *two, *locked);
+                assert_eq!(rt;
+                    first_unnoticed(alloc, lines, at, entry)?,
+                    None,
+                    "{lines:?} {at}"
+                );
+            }
+        }
+    }
     for point in [(0, 1), (0, 3), (1, 0)] {
-        let answer = answer_to_change(rt.alloc(), TAKE_AND_DROP, point, None)?;
+        let answer = answer_to_change(alloc, TAKE_AND_DROP, point, None)?;
         assert_eq!(rt; answer, (false, None));
     }
     Ok(())
@@ -363,6 +471,20 @@ fn accepted_with(alloc: Global, text: &[u8], other: &[u8]) -> Result<bool, Fail>
     Ok(verify(module_of(alloc, text)?, table).is_ok())
 }
 
+/// The text of 64 functions of 256 instructions each, in pairs that take a reference and drop it or return it.
+fn largest_module(alloc: Global) -> Result<Vec<u8>, Fail> {
+    let mut text = Vec::from_slice(alloc, b"module 1\n")?;
+    for number in 0..64u8 {
+        text.extend_from_slice(b"func f")?;
+        text.extend_from_slice(&[b'0' + number / 10, b'0' + number % 10, b'\n'])?;
+        for _pair in 0..127 {
+            text.extend_from_slice(b"newref v1 v0\ndrop v1\n")?;
+        }
+        text.extend_from_slice(b"newref v1 v0\nret v1\nend\n")?;
+    }
+    Ok(text)
+}
+
 #[test]
 fn tables_of_other_modules(rt: HostRuntime) -> Result<(), Fail> {
     // Two functions with the same targets, in whose tables only the state that falls through differs.
@@ -379,5 +501,8 @@ fn tables_of_other_modules(rt: HostRuntime) -> Result<(), Fail> {
     assert!(rt; is_refused_with(rt.alloc(), other_target, one, 0)?);
     // Where both have one kept point, the table's states are what its entry and the module's own instructions give.
     assert!(rt; accepted_with(rt.alloc(), three_points, one)?);
+    let largest = largest_module(rt.alloc())?;
+    assert!(rt; accepted_with(rt.alloc(), &largest, &largest)?);
+    assert!(rt; accepted_with(rt.alloc(), one, one)?);
     Ok(())
 }

@@ -1,20 +1,64 @@
-use brc_lang::{
-    Argument, Arguments, Function, Instr, Kind, Module, Name, Parameter, Passing, Sequence,
-    Variable, Version, write, write_number,
-};
+//! Texts that are written: modules, as they were read and over writers that stop, numbers, and reports.
+
+use brc_lang::{FaultCode, Kind, ReadFault, Sequence, read, write, write_bytes, write_number};
+use brc_report::{Left, Tally, write_entry, write_tally};
 use std::alloc::{AllocError, Global};
 use std::io;
 use std::io::{ErrorKind, Write};
-use std::test::Fail;
+use std::test::*;
 
-// The answer of a writer that takes no more bytes.
+const SMALLEST: &[u8] = b"module 1\nfunc f\nfail\nend\n";
+
+/// Texts of each version: with the longest name, with each word of parameters, with each number of arguments, and with
+/// static lists.
+const TEXTS: &[&[u8]] = &[
+    SMALLEST,
+    b"module 1\nfunc a23456789_bcdefg\nnewref v15 v10\ndrop v0\nret v9\nend\n",
+    b"module 1\nfunc f\nnewref v15 v0\ndrop v15\nret v0\nend\nfunc g_2\nfail\nend\nfunc h\nnone v15\nmove v0 v15\n\
+      goto @3\nfail\nend\n",
+    b"module 2\nfunc keep borrow any steal num\ndrop v2\nfail\nend\nfunc h\nfail\nend\nfunc f\n\
+      call v3 keep v0 v15 else @2\ncall v4 h else @2\nfail\nend\n",
+    b"module 2\nfunc f\nfail\nend\n",
+    b"module 2\nfunc four borrow none steal num borrow list steal file\nfail\nend\nfunc one borrow sock\nfail\nend\n\
+      func two steal any borrow any\nret v1\nend\nfunc three borrow any borrow any borrow any\nfail\nend\n\
+      func none_0\nfail\nend\nfunc f\ncall v1 four v15 v0 v9 v10 else @1\ncall v15 one v0 else @2\n\
+      call v0 two v0 v0 else @5\ncall v10 three v1 v2 v3 else @4\ncall v9 none_0 else @5\nfail\nend\n",
+    b"module 3\nfunc f\nfail\nend\n",
+    b"module 3\nstatic 0\nstatic 5 6 4294967295\nfunc k borrow any\nfail\nend\nfunc f\ntake v1 1\ntake v15 0\n\
+      list v2 64 else @4\ncall v3 k v1 else @4\nfail\nend\n",
+];
+
+/// The text of 64 functions of 256 instructions each, with the greatest numbers.
+fn largest(alloc: Global) -> Result<Vec<u8>, AllocError> {
+    let mut text = Vec::from_slice(alloc, b"module 1\n")?;
+    for number in 0..64u8 {
+        text.extend_from_slice(b"func f")?;
+        text.extend_from_slice(&[b'0' + number / 10, b'0' + number % 10, b'\n'])?;
+        text.extend_from_slice(b"num v15 4294967295 else @255\n")?;
+        for _ in 0..255 {
+            text.extend_from_slice(b"fail\n")?;
+        }
+        text.extend_from_slice(b"end\n")?;
+    }
+    Ok(text)
+}
+
+/// Whether the module that a text is read as is written as this text.
+pub fn is_written_back(alloc: Global, text: &[u8]) -> Result<bool, Fail> {
+    let module = read(alloc, text).ok().ok_or("the text is a module")?;
+    let mut out: Vec<u8> = Vec::new(alloc);
+    write(&module, &mut out)?;
+    Ok(out.as_slice() == text)
+}
+
+/// The answer of a writer that takes no more bytes.
 #[derive(Clone, Copy, Debug)]
 enum Stop {
     TakesNone,
     Interrupts,
 }
 
-// Takes one byte a call, until none is left to take.
+/// Takes one byte a call, until none is left to take.
 #[derive(Drop)]
 struct Narrow {
     taken: Vec<u8>,
@@ -40,254 +84,160 @@ impl Write for Narrow {
     }
 }
 
-fn function(alloc: Global, name: &[u8], code: &[Instr]) -> Result<Function, AllocError> {
-    let mut made = Function {
-        name: Name::new(if name.len() <= Name::MOST { name } else { b"" }),
-        parameters: Sequence::new(alloc),
-        code: Sequence::new(alloc),
-    };
-    for instr in code {
-        made.code.push(*instr)?;
-    }
-    Ok(made)
-}
-
-fn module(alloc: Global, functions: Sequence<Function>) -> Module {
-    Module {
-        version: Version::One,
-        statics: Sequence::new(alloc),
-        functions,
-    }
-}
-
-// The text of a module of these functions, each a name and its code.
-pub fn written(alloc: Global, table: &[(&[u8], &[Instr])]) -> Result<Vec<u8>, Fail> {
-    let mut functions = Sequence::new(alloc);
-    for (name, code) in table {
-        functions.push(function(alloc, name, code)?)?;
-    }
-    let mut out: Vec<u8> = Vec::new(alloc);
-    write(&module(alloc, functions), &mut out)?;
-    Ok(out)
-}
-
-#[test]
-fn writes_each_instruction(rt: HostRuntime) -> Result<(), Fail> {
-    let (low, high) = (Variable::new(0), Variable::new(15));
-    let counted = [
-        Instr::Newref {
-            to: high,
-            from: low,
-        },
-        Instr::Drop { from: high },
-        Instr::Ret { from: low },
-    ];
-    let others = [
-        Instr::Num {
-            to: high,
-            value: 4294967295,
-            otherwise: 4,
-        },
-        Instr::Num {
-            to: low,
-            value: 0,
-            otherwise: 255,
-        },
-        Instr::List {
-            to: high,
-            cells: 8,
-            otherwise: 5,
-        },
-        Instr::List {
-            to: low,
-            cells: 1,
-            otherwise: 255,
-        },
-        Instr::NoneObject { to: high },
-        Instr::Move {
-            to: low,
-            from: high,
-        },
-        Instr::As {
-            from: high,
-            kind: Kind::None,
-            otherwise: 255,
-        },
-        Instr::Goto { target: 10 },
-    ];
-    let table: [(&[u8], &[Instr]); 3] = [
-        (b"f", &counted),
-        (b"g_2", &[Instr::Fail]),
-        (b"h", &others),
-    ];
-    let text =
-        b"module 1\nfunc f\nnewref v15 v0\ndrop v15\nret v0\nend\nfunc g_2\nfail\nend\nfunc h\n\
-        num v15 4294967295 else @4\nnum v0 0 else @255\nlist v15 8 else @5\nlist v0 1 else @255\nnone v15\n\
-        move v0 v15\nas v15 none else @255\ngoto @10\nend\n";
-    assert_eq!(rt; written(rt.alloc(), &table)?.as_slice(), text.as_slice());
-    Ok(())
-}
-
-/// A critical section with each of its instructions, and the modules `returns_a_borrowed_reference` and
-/// `leaks_at_fail`.
-#[test]
-fn writes_modules_of_one_function(rt: HostRuntime) -> Result<(), Fail> {
-    let (low, high) = (Variable::new(0), Variable::new(15));
-    let section = [
-        Instr::Lock { object: high },
-        Instr::Borrow {
-            to: low,
-            list: high,
-            index: 255,
-            otherwise: 0,
-        },
-        Instr::Fetch {
-            to: high,
-            list: Variable::new(9),
-            index: 0,
-            otherwise: 255,
-        },
-        Instr::Set {
-            list: high,
-            index: 10,
-            from: low,
-            otherwise: 5,
-        },
-        Instr::Put {
-            list: Variable::new(1),
-            index: 200,
-            from: Variable::new(2),
-            otherwise: 100,
-        },
-        Instr::Unlock { object: low },
-    ];
-    let newref = Instr::Newref {
-        to: Variable::new(1),
-        from: low,
-    };
-    let returns = [newref, Instr::Ret { from: low }];
-    let leaks = [newref, Instr::Fail];
-    let cases: [(&[Instr], &[u8]); 3] = [
-        (
-            &section,
-            b"module 1\nfunc f\nlock v15\nborrow v0 v15 255 else @0\nfetch v15 v9 0 else @255\n\
-              set v15 10 v0 else @5\nput v1 200 v2 else @100\nunlock v0\nend\n",
-        ),
-        (&returns, b"module 1\nfunc f\nnewref v1 v0\nret v0\nend\n"),
-        (&leaks, b"module 1\nfunc f\nnewref v1 v0\nfail\nend\n"),
-    ];
-    for (code, text) in cases {
-        assert_eq!(rt; written(rt.alloc(), &[(b"f", code)])?.as_slice(), text);
-    }
-    Ok(())
-}
-
-#[test]
-fn writes_parameters_and_calls(rt: HostRuntime) -> Result<(), Fail> {
-    let lent = Parameter {
-        passing: Passing::Borrow,
-        kind: Kind::Any,
-    };
-    let stolen = Parameter {
-        passing: Passing::Steal,
-        kind: Kind::Num,
-    };
-    let mut keep = function(
-        rt.alloc(),
-        b"keep",
-        &[
-            Instr::Drop {
-                from: Variable::new(2),
-            },
-            Instr::Fail,
-        ],
-    )?;
-    keep.parameters.push(lent)?;
-    keep.parameters.push(stolen)?;
-    let mut arguments = Arguments::new();
-    arguments.push(Argument {
-        from: Variable::new(0),
-        parameter: lent,
-    });
-    arguments.push(Argument {
-        from: Variable::new(15),
-        parameter: stolen,
-    });
-    let calls = [
-        Instr::Call {
-            to: Variable::new(3),
-            callee: 0,
-            arguments,
-            otherwise: 2,
-        },
-        Instr::Call {
-            to: Variable::new(4),
-            callee: 1,
-            arguments: Arguments::new(),
-            otherwise: 255,
-        },
-    ];
-    let mut functions = Sequence::new(rt.alloc());
-    functions.push(keep)?;
-    functions.push(function(rt.alloc(), b"h", &[Instr::Fail])?)?;
-    functions.push(function(rt.alloc(), b"f", &calls)?)?;
-    let mut out: Vec<u8> = Vec::new(rt.alloc());
-    write(
-        &Module {
-            version: Version::Two,
-            statics: Sequence::new(rt.alloc()),
-            functions,
-        },
-        &mut out,
-    )?;
-    let text =
-        b"module 2\nfunc keep borrow any steal num\ndrop v2\nfail\nend\nfunc h\nfail\nend\nfunc f\n\
-        call v3 keep v0 v15 else @2\ncall v4 h else @255\nend\n";
-    assert_eq!(rt; out.as_slice(), text.as_slice());
-    Ok(())
-}
-
-// Whether the smallest module is written over a writer that takes `left` bytes, and the bytes that it takes.
-fn over_narrow(alloc: Global, stop: Stop, left: usize) -> Result<(bool, Vec<u8>), AllocError> {
-    let mut functions = Sequence::new(alloc);
-    functions.push(function(alloc, b"f", &[Instr::Fail])?)?;
+/// Whether a writer that takes so many bytes gets the beginning of the smallest module, and no error only if it takes all.
+fn is_begun(alloc: Global, stop: Stop, left: usize) -> Result<bool, Fail> {
+    let module = read(alloc, SMALLEST).ok().ok_or("the text is a module")?;
     let mut writer = Narrow {
         taken: Vec::new(alloc),
         left,
         stop,
     };
-    let answer = write(&module(alloc, functions), &mut writer);
-    Ok((answer.is_ok(), writer.taken))
+    let is_whole = write(&module, &mut writer).is_ok();
+    Ok(
+        is_whole == (left == SMALLEST.len())
+            && writer.taken.len() == left
+            && SMALLEST.starts_with(writer.taken.as_slice()),
+    )
+}
+
+/// Whether two mebibytes are written as they are.
+fn writes_two_mebibytes(alloc: Global) -> Result<bool, Fail> {
+    let text = vec![in alloc; b'x'; 2 * 1024 * 1024]?;
+    let mut out: Vec<u8> = Vec::new(alloc);
+    write_bytes(&text, &mut out)?;
+    Ok(out.as_slice() == text.as_slice())
+}
+
+/// The number of items of a list to which `count` items were appended.
+fn pushed(alloc: Global, count: u32) -> Result<usize, AllocError> {
+    let mut items = Sequence::new(alloc);
+    for item in 0..count {
+        items.push(item)?;
+    }
+    Ok(items.len())
+}
+
+/// Numbers and their digits.
+const NUMBERS: &[(u64, &[u8])] = &[
+    (0, b"0"),
+    (15, b"15"),
+    (4294967295, b"4294967295"),
+    (u64::MAX, b"18446744073709551615"),
+];
+
+/// Whether a number is written as these digits, alone and in an entry of a report.
+fn has_digits(alloc: Global, number: u64, digits: &[u8]) -> Result<bool, Fail> {
+    let mut out: Vec<u8> = Vec::new(alloc);
+    write_number(number, &mut out)?;
+    let is_number = out.as_slice() == digits;
+    let mut entry: Vec<u8> = Vec::new(alloc);
+    write_entry(b"left", number, &mut entry)?;
+    let is_entry = entry.starts_with(b"left ") && entry.ends_with(digits);
+    Ok(is_number && is_entry && entry.len() == digits.len().saturating_add(5))
+}
+
+/// The numbers of a report, what is left, and the report.
+type Report = ([u64; 7], &'static [Left], &'static [u8]);
+
+/// The last report has the greatest numbers.
+const REPORTS: &[Report] = &[
+    (
+        [32, 33, u64::MAX, 0, 2, 5, 6],
+        &[
+            Left {
+                row: 1,
+                kind: Kind::List,
+            },
+            Left {
+                row: 1026,
+                kind: Kind::Sock,
+            },
+        ],
+        b"threads 32\nrunning 33\ncreated 18446744073709551615\nclosed 0\nalive 2\nhost faults 5\nclose faults 6\n\
+          left 1 list\nleft 1026 sock\n",
+    ),
+    (
+        [u64::MAX; 7],
+        &[Left {
+            row: u32::MAX,
+            kind: Kind::Any,
+        }],
+        b"threads 18446744073709551615\nrunning 18446744073709551615\ncreated 18446744073709551615\n\
+          closed 18446744073709551615\nalive 18446744073709551615\nhost faults 18446744073709551615\n\
+          close faults 18446744073709551615\nleft 4294967295 any\n",
+    ),
+];
+
+/// Whether the report of these numbers, in the order of its lines, and of what is left, is this text.
+fn is_reported(alloc: Global, report: &Report) -> Result<bool, Fail> {
+    let (numbers, lefts, text) = *report;
+    let mut left = Sequence::new(alloc);
+    for object in lefts {
+        left.push(*object)?;
+    }
+    let [
+        threads,
+        running,
+        created,
+        closed,
+        alive,
+        host_faults,
+        close_faults,
+    ] = numbers;
+    let tally = Tally {
+        threads,
+        running,
+        created,
+        closed,
+        alive,
+        host_faults,
+        close_faults,
+        left,
+    };
+    let mut out: Vec<u8> = Vec::new(alloc);
+    write_tally(&tally, &mut out)?;
+    Ok(out.as_slice() == text)
+}
+
+/// Whether a fault in the last line that there can be prints its number.
+fn is_last_line_printed(alloc: Global) -> Result<bool, Fail> {
+    let fault = ReadFault {
+        line: u64::MAX,
+        code: FaultCode::NoMemory,
+    };
+    let text = format!(in alloc; "{fault}")?;
+    Ok(text.as_str() == "line 18446744073709551615 L8")
+}
+
+fn is_largest_written_back(alloc: Global) -> Result<bool, Fail> {
+    let text = largest(alloc)?;
+    is_written_back(alloc, &text)
 }
 
 #[test]
-fn stops_at_the_first_error(rt: HostRuntime) -> Result<(), Fail> {
-    let text = b"module 1\nfunc f\nfail\nend\n";
-    for stop in [Stop::TakesNone, Stop::Interrupts] {
-        for most in 0..=text.len() {
-            let (whole, taken) = over_narrow(rt.alloc(), stop, most)?;
-            assert_eq!(rt;
-                (whole, taken.as_slice()),
-                (most == text.len(), &text[..most]),
-                "{stop:?} after {most}"
-            );
-        }
+fn texts_are_written(rt: HostRuntime) -> Result<(), Fail> {
+    for text in TEXTS {
+        assert!(rt; is_written_back(rt.alloc(), text)?, "{text:?}");
     }
+    assert!(rt; is_largest_written_back(rt.alloc())?);
+    assert!(rt; writes_two_mebibytes(rt.alloc())?);
+    assert_eq!(rt; pushed(rt.alloc(), 100_000)?, 100_000);
+    assert!(rt; is_last_line_printed(rt.alloc())?);
     Ok(())
 }
 
 #[test]
-fn writes_numbers(rt: HostRuntime) -> Result<(), Fail> {
-    let cases = [
-        (0, "0"),
-        (15, "15"),
-        (4294967295, "4294967295"),
-        (u64::MAX, "18446744073709551615"),
-    ];
-    for (number, digits) in cases {
-        let mut out: Vec<u8> = Vec::new(rt.alloc());
-        write_number(number, &mut out)?;
-        assert_eq!(rt; out.as_slice(), digits.as_bytes());
+fn writers_get_numbers_and_reports(rt: HostRuntime) -> Result<(), Fail> {
+    for stop in [Stop::TakesNone, Stop::Interrupts] {
+        for left in 0..=SMALLEST.len() {
+            assert!(rt; is_begun(rt.alloc(), stop, left)?, "{stop:?} after {left}");
+        }
+    }
+    for (number, digits) in NUMBERS {
+        assert!(rt; has_digits(rt.alloc(), *number, digits)?, "{number}");
+    }
+    for report in REPORTS {
+        assert!(rt; is_reported(rt.alloc(), report)?, "{:?}", report.0);
     }
     Ok(())
 }

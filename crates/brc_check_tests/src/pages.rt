@@ -1,6 +1,10 @@
 //! The pages: each example is a text with that code, and its mended form has none.
 
-use crate::explaining::{check_line, has_part, too_wide};
+ghost use Rattle.std.specs.Prelude.{IfOk};
+ghost use Rattle.brc_lang.specs.Grammar.{IsModule};
+
+use brc_check::check;
+use brc_lang::{Module, ReadFault, read};
 use brc_pages::{ExampleLine, Topic, page_of, topic_named, write_page};
 use brc_report::Paint;
 use std::alloc::Global;
@@ -10,6 +14,47 @@ const CODES: &[&str] = &[
     "C1", "C2", "C3", "C4", "C5", "C6", "C7", "C8", "C9", "C10", "C11", "C12", "L1", "L2", "L3",
     "L4", "L5", "L6", "L7", "L8", "L9", "L10",
 ];
+
+/// The module of a text, or its fault.
+fn module_of(alloc: Global, text: &[u8]) -> Result<Module, ReadFault>
+    ensures { IfOk result (λ m. IsModule m) }
+{
+    read(alloc, text)
+}
+
+/// What a text is, as `brc check` says it, but for the numbers of an accepted module.
+fn check_line(alloc: Global, text: &[u8]) -> Result<String, Fail> {
+    let module = match module_of(alloc, text) {
+        Ok(module) => module,
+        Err(fault) => return Ok(format!(in alloc; "unreadable {fault}")?),
+    };
+    let Some(refused) = check(alloc, module).err() else {
+        return Ok(format!(in alloc; "accepted")?);
+    };
+    let name = str::from_utf8(refused.function.as_bytes()).unwrap_or("");
+    Ok(format!(in alloc; "refused {name} @{} {}", refused.at, refused.code)?)
+}
+
+/// Whether the text has the part.
+fn has_part(text: &[u8], part: &[u8]) -> bool {
+    for at in 0..text.len() {
+        if text[at..].starts_with(part) {
+            return true;
+        }
+    }
+    false
+}
+
+/// The length of a line that is wider than 80 columns, or 0 if each line of the text is narrow.
+fn too_wide(text: &[u8]) -> usize {
+    let mut wide = 0;
+    for line in text.split(|byte| *byte == b'\n') {
+        if line.len() > 80 {
+            wide = line.len();
+        }
+    }
+    wide
+}
 
 fn joined(alloc: Global, lines: &[ExampleLine]) -> Result<Vec<u8>, Fail> {
     let mut text = Vec::new(alloc);
@@ -42,7 +87,8 @@ fn page_text(alloc: Global, code: &str, paint: Paint) -> Result<Vec<u8>, Fail> {
     Ok(out)
 }
 
-/// Each code has a page, which a terminal of 80 columns shows whole. The page's example has the code.
+/// Each code has a page, whose example has the code and whose mended example has none. A page has colours if they are asked
+/// for.
 #[test]
 fn each_code_has_its_page(rt: HostRuntime) -> Result<(), Fail> {
     for code in CODES {
@@ -59,53 +105,6 @@ fn each_code_has_its_page(rt: HostRuntime) -> Result<(), Fail> {
         assert!(rt; page.printed.ends_with(code), "{code}");
         assert_eq!(rt; mended.as_str(), "accepted", "{code}");
     }
-    Ok(())
-}
-
-#[test]
-fn other_words_name_no_code(rt: HostRuntime) -> Result<(), Fail> {
-    for word in ["", "C", "C0", "C13", "L0", "L11", "c1", "C1 ", "C01", "11"] {
-        assert_eq!(rt; topic_named(word.as_bytes()), None, "{word}");
-    }
-    Ok(())
-}
-
-const RUNS_OFF: &[u8] = b"\
-C11: a path runs off the end
-
-  A path goes on behind the function's last instruction, where there is none.
-
-The rule of the Python/C API
-  A C function of a module returns a new reference, or NULL with an exception
-  set; it doesn't run past its closing brace. (Extending and Embedding: Errors
-  and Exceptions.)
-
-How to mend it
-  End each path with `ret vS` (return an owned reference) or `fail` (return
-  NULL). A function that has nothing to return returns None: `none v1` and
-  `ret v1` (Py_RETURN_NONE).
-
-Example
-    module 1
-    func f
-    none v1                   @0 v1 = Py_NewRef(Py_None);
-    end                          and no return
-
-  `brc check` prints: refused f @0 C11
-
-Mended
-    module 1
-    func f
-    none v1
-    ret v1                    @1 return v1;
-    end
-";
-
-/// A page has colours if they are asked for.
-#[test]
-fn pages_are_plain_or_coloured(rt: HostRuntime) -> Result<(), Fail> {
-    let whole = page_text(rt.alloc(), "C11", Paint::Plain)?;
-    assert_eq!(rt; whole.as_slice(), RUNS_OFF);
     let plain = page_text(rt.alloc(), "C5", Paint::Plain)?;
     let coloured = page_text(rt.alloc(), "C5", Paint::Ansi)?;
     assert!(rt; !has_part(plain.as_slice(), b"\x1b"));

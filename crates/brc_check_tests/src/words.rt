@@ -1,3 +1,5 @@
+//! The words of an object's header.
+
 ghost use Rattle.std.specs.Prelude.{◌≡◌};
 
 use brc_word::{
@@ -14,9 +16,10 @@ fn shared(count: i64, phase: Phase) -> Shared
     Shared { count, phase }
 }
 
-/// The shared word: what it packs, what a retain, a release and a merge leave of it, and what it is asked.
+/// The shared word: what it packs, what a retain, a release and a merge leave of it, and what it is asked. Then the local
+/// word.
 #[test]
-fn shared_words(rt: HostRuntime) {
+fn counts(rt: HostRuntime) {
     let packed = [
         pack(shared(0, Phase::Default)),
         pack(shared(-1, Phase::Queued)),
@@ -55,10 +58,7 @@ fn shared_words(rt: HostRuntime) {
         is_dead(4398046511111),
     ];
     assert_eq!(rt; dead, [true, false, false]);
-}
 
-#[test]
-fn local_words(rt: HostRuntime) {
     let words = [
         local_word(None, 0),
         local_word(Some(3), 2),
@@ -88,9 +88,9 @@ fn local_words(rt: HostRuntime) {
     assert_eq!(rt; immortal, [true, false]);
 }
 
-/// What a retain, a release and a merge choose.
+/// What a retain, a release and a merge choose, and the words of gates and kinds.
 #[test]
-fn choices(rt: HostRuntime) {
+fn choices_gates_and_kinds(rt: HostRuntime) {
     let retained = [
         retain_choice(8589934590, 0, true),
         retain_choice(8589934591, 0, true),
@@ -115,10 +115,7 @@ fn choices(rt: HostRuntime) {
     assert_eq!(rt; released, [SharedChoice::Queue, SharedChoice::Subtract]);
     let carried = merge_word(shared(-1, Phase::Queued), 3);
     assert_eq!(rt; carried, shared(2, Phase::Merged));
-}
 
-#[test]
-fn gates_and_kinds(rt: HostRuntime) {
     let words = [
         locked(0),
         locked(32),

@@ -1,4 +1,4 @@
-ghost use Rattle.brc_world_tests.specs.Callable.{HasCallableEnds};
+ghost use Rattle.brc_check_tests.specs.Callable.{HasCallableEnds};
 
 use crate::steps::{TAKE_AND_DROP, accepted_text, counted, last_call, step};
 use brc_check::Checked;
@@ -26,12 +26,12 @@ const SET_AND_FETCH: &[u8] =
       fetch v1 v0 0 else @8\nunlock v0\nret v1\nunlock v0\nfail\nend\n";
 
 /// A function that stores a number of its own in the root's first cell, and one that puts none in the number's place.
-pub const SWAP_AND_CLEAR: &[u8] =
+const SWAP_AND_CLEAR: &[u8] =
     b"module 1\nfunc swap\nnum v1 7 else @7\nlock v0\nset v0 0 v1 else @6\nunlock v0\nnone v1\nret v1\nunlock v0\n\
       fail\nend\nfunc clear\nnone v1\nlock v0\nput v0 0 v1 else @3\nunlock v0\nret v1\nend\n";
 
 /// The same, the other way round: `swap` calls `keep`, which steals the number.
-pub const CLEAR_AND_KEEP: &[u8] =
+const CLEAR_AND_KEEP: &[u8] =
     b"module 2\nfunc clear\nnone v1\nlock v0\nput v0 0 v1 else @3\nunlock v0\nret v1\nend\n\
       func keep steal num\nlock v0\nset v0 0 v1 else @2\nunlock v0\nfail\nend\n\
       func swap\nnum v1 7 else @3\ncall v2 keep v1 else @3\ndrop v2\nfail\nend\n";
