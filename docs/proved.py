@@ -71,7 +71,8 @@ def functions(path):
 
 def crates():
     named = re.findall(r"^(\w+):", (ROOT / "crates.txt").read_text(), re.M)
-    return [crate for crate in named if not crate.endswith("_tests") and crate != "brc_bench"]
+    for_tests = {"brc_bench", "brc_case_format", "brc_cases", "brc_fixtures"}
+    return [crate for crate in named if not crate.endswith("_tests") and crate not in for_tests]
 
 
 def rows(crate):
