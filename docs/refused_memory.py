@@ -3,7 +3,7 @@
 
     python3 docs/refused_memory.py [FIRST]
 
-It runs the tests of crates/brc_run_tests by `rt try --test --fail-alloc N`, which proves nothing and takes half a minute
+It runs the tests of crates/brc_run_tests by `rt try --test --fail-alloc N`, which proves nothing and takes up to a minute
 for each N, from FIRST on, and looks at two of them: `each_refusal_is_answered` and `each_refused_call_goes_on`. The other
 tests fail where they are refused memory, or wait for a run that never begins: a test ends after ten seconds.
 docs/lists/PROVED.md says what came of it.
