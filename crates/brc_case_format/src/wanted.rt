@@ -54,5 +54,6 @@ fn contains(text: &[u8], part: &[u8]) -> bool {
 
 /// Returns whether no line of the text is wider than 80 columns.
 fn is_narrow(text: &[u8]) -> bool {
-    text.split(|byte| *byte == b'\n').all(|line| line.len() <= 80)
+    text.split(|byte| *byte == b'\n')
+        .all(|line| line.len() <= 80)
 }
