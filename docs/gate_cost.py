@@ -31,13 +31,15 @@ TICKS = os.sysconf("SC_CLK_TCK")
 PARTS = ["code", "tests", "second check", "wrong bodies"]
 
 
-def part_of(words, folder):
-    """Returns what a compiler's process works for: a crate and one of PARTS, or None."""
+def part_of(words, folder, begun):
+    """Returns what a compiler's process works for: a crate and one of PARTS, or None. `begun` has the folders of kept work
+    that a process has begun with: the first one over such a folder checks the crate whole."""
     if "--crate-name" not in words or not any(word in words for word in ("check", "build", "compile")):
         return None
     crate = words[words.index("--crate-name") + 1]
     over = words[words.index("--incremental") + 1] if "--incremental" in words else ""
-    if re.search(r"rt-edits-[^/]*/seed$", over):
+    if "rt-edits-" in over and over not in begun:
+        begun.add(over)
         return crate, "second check"
     if "rt-edits-" in over or "rt-edit-" in folder:
         # A check of a copy that no edit has changed is the second check too, if memory ran short.
@@ -45,7 +47,7 @@ def part_of(words, folder):
     return crate, "tests" if "--test" in words else "code"
 
 
-def look(seen, below):
+def look(seen, below, folders):
     """Notes the time of each process of the run."""
     for name in os.listdir("/proc"):
         if not name.isdigit():
@@ -61,7 +63,7 @@ def look(seen, below):
                 folder = os.readlink(f"/proc/{name}/cwd")
                 if os.getpgid(int(name)) != below and os.getsid(int(name)) != os.getsid(below):
                     continue
-                part = part_of(words, folder)
+                part = part_of(words, folder, folders)
                 if part is None:
                     continue
                 seen[begun] = [part, 0]
@@ -74,8 +76,9 @@ def table(seen, edits, crates, total, closing, wall, cores):
     took = defaultdict(float)
     for part, ticks in seen.values():
         took[part] += ticks / TICKS
+    kit = subprocess.run(["rt", "version"], capture_output=True, text=True).stdout.split()[0]
     lines = [
-        f"{datetime.date.today()}, {cores} cores: {total / 60:.0f} core-minutes in {wall / 60:.0f} minutes. `{closing}`",
+        f"{datetime.date.today()}, {kit}, {cores} cores: {total / 60:.0f} core-minutes in {wall / 60:.0f} minutes. `{closing}`",
         "",
         "| Crate | Code | Tests | Second check | Wrong bodies | Their number | All |",
         "|---|---|---|---|---|---|---|",
@@ -101,10 +104,10 @@ def main():
     with tempfile.TemporaryDirectory(prefix="gate-cost-") as room, open(sys.argv[1], "w") as log:
         clone = Path(room) / "clone"
         subprocess.run(["git", "clone", "-q", ROOT, clone], check=True)
-        start, seen = time.time(), {}
+        start, seen, folders = time.time(), {}, set()
         ran = subprocess.Popen(["rt", "ci", *sys.argv[2:]], cwd=clone, stdout=log, stderr=subprocess.STDOUT, start_new_session=True)
         while ran.poll() is None:
-            look(seen, ran.pid)
+            look(seen, ran.pid, folders)
             time.sleep(1)
         wall = time.time() - start
         used = resource.getrusage(resource.RUSAGE_CHILDREN)
