@@ -1,7 +1,9 @@
 //! Tests of the commands and of the command line that a case of `brc_cases` can't show: output errors, files in pieces,
-//! terminals, and the functions over texts.
+//! terminals, and the functions over texts; and files of cases that can't be read.
 #![tactic(auto)]
 
+#[cfg(test)]
+mod case_files;
 #[cfg(test)]
 mod cases;
 #[cfg(test)]
