@@ -2,8 +2,10 @@
 """Measures what the gate costs, crate by crate, and writes the table of docs/lists/PERFORMANCE.md.
 
     python3 docs/gate_cost.py LOG [--anew]
+    python3 docs/gate_cost.py --here
 
-Clones the last commit, runs `rt ci` there (where the kit keeps what earlier runs passed, from nothing only with
+With --here it runs `rt ci` in this folder, as .ci/run does, passes on what that prints and its status, and prints the
+table. Otherwise it clones the last commit, runs `rt ci` there (where the kit keeps what earlier runs passed, from nothing only with
 --anew), and puts what it prints into the file LOG. Each second it reads how much processor time the compiler's
 processes have taken, by the crate that they work on and by what they do for it: its code, its tests, the second check
 that its wrong bodies begin with, and the wrong bodies. Last it writes the table between the two marks of
@@ -97,7 +99,33 @@ def table(seen, edits, crates, total, closing, wall, cores):
     return "\n".join(lines)
 
 
+def edits_of(root):
+    """Returns the number of wrong bodies of each crate."""
+    named = re.findall(r"^(\w+)(?: [^:\n]*)?:", (root / "crates.txt").read_text(), re.M)
+    return {crate: len(list(root.glob(f"crates/{crate}/must-fail/*.edit"))) for crate in named}
+
+
+def gate_here():
+    """Runs the gate in this checkout, and prints what it has cost. A fault of the measure changes nothing of the status."""
+    start, seen, folders = time.time(), {}, set()
+    ran = subprocess.Popen(["rt", "ci"], cwd=ROOT, start_new_session=True)
+    try:
+        while ran.poll() is None:
+            look(seen, ran.pid, folders)
+            time.sleep(1)
+        used = resource.getrusage(resource.RUSAGE_CHILDREN)
+        closing = "passed" if ran.returncode == 0 else "failed"
+        edits = edits_of(ROOT)
+        taken = time.time() - start
+        print(table(seen, edits, list(edits), used.ru_utime + used.ru_stime, closing, taken, os.cpu_count()))
+    except Exception as fault:
+        print(f"what the gate costs wasn't measured: {fault}")
+    return ran.wait()
+
+
 def main():
+    if sys.argv[1:] == ["--here"]:
+        return gate_here()
     if len(sys.argv) < 2 or sys.argv[1].startswith("-"):
         print(__doc__)
         return 2
@@ -111,10 +139,9 @@ def main():
             time.sleep(1)
         wall = time.time() - start
         used = resource.getrusage(resource.RUSAGE_CHILDREN)
-        named = re.findall(r"^(\w+)(?: [^:\n]*)?:", (clone / "crates.txt").read_text(), re.M)
-        edits = {crate: len(list(clone.glob(f"crates/{crate}/must-fail/*.edit"))) for crate in named}
+        edits = edits_of(clone)
     closing = (Path(sys.argv[1]).read_text().strip().splitlines() or ["nothing was printed"])[-1]
-    made = table(seen, edits, named, used.ru_utime + used.ru_stime, closing, wall, os.cpu_count())
+    made = table(seen, edits, list(edits), used.ru_utime + used.ru_stime, closing, wall, os.cpu_count())
     text = PAGE.read_text()
     head, rest = text.split(MARKS[0])
     PAGE.write_text(head + MARKS[0] + "\n" + made + "\n" + MARKS[1] + rest.split(MARKS[1])[1])
