@@ -1,5 +1,5 @@
 -- What a hand may do with a static list, which is immortal.
-use Rattle.std.proofs.Common.{◌≡◌, ℕ, true, Option, None, Some, [], inl, refl, sym, ◌∙◌, subst, arith}
+use Rattle.std.proofs.Common.{◌≡◌, ℕ, true, Option, None, Some, inl, refl, sym, ◌∙◌, subst, arith}
 use Rattle.brc_lang.specs.declared.module.Module.{Module}
 use Rattle.brc_model.specs.declared.layout.Layout.{Layout}
 use Rattle.brc_model.specs.FirstRows.{HasLines}

@@ -1,5 +1,5 @@
 -- What a hand has after a call.
-use Rattle.std.proofs.Common.{inl, subst, refl, ◌≡◌, ◌≢◌, ℕ, List, [], ◌∷◌, ◌++◌, ◌%◌, Option, None, sym, ap, ◌∙◌}
+use Rattle.std.proofs.Common.{inl, subst, refl, ◌≡◌, ◌≢◌, ℕ, List, [], ◌∷◌, ◌++◌, Option, None, sym, ap, ◌∙◌}
 use Rattle.std.specs.Prelude.{not, slice_index_or}
 use Rattle.std.specs.List.{filter}
 use Rattle.std.proofs.lemmas.List.{append-nil}

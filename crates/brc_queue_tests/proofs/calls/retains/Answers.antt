@@ -1,4 +1,4 @@
-use Rattle.std.proofs.Common.{ℕ, List, ◌∷◌, ◌∙◌, subst}
+use Rattle.std.proofs.Common.{ℕ, List, ◌∷◌, ◌∙◌}
 use Rattle.std.proofs.lemmas.Bool.{ne_eqb}
 use Rattle.brc_queue_tests.proofs.Counting.{tells_more, tells_equal}
 use Rattle.brc_fixtures.proofs.Resting.{some_counted, lists_one_more}
