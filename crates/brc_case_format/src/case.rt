@@ -60,25 +60,10 @@ impl Case {
     /// Returns the case of a row: `<row>` and `<answer>` are its two fields.
     pub fn of_row(&self, alloc: Global, row: &Row) -> Result<Case, AllocError> {
         let mut made = Case::named(alloc, row.line, self.name.as_str())?;
-        for word in &self.words {
-            made.words.push(filled(alloc, word.as_slice(), row)?)?;
-        }
-        for file in &self.files {
-            made.files.push(CaseFile {
-                name: file.name.clone()?,
-                answer: file.answer,
-                text: filled(alloc, file.text.as_slice(), row)?,
-            })?;
-        }
         made.status = self.status;
-        for wanted in &self.wanted {
-            made.wanted.push(Wanted {
-                stream: wanted.stream,
-                name: wanted.name.clone()?,
-                how: wanted.how,
-                text: filled(alloc, wanted.text.as_slice(), row)?,
-            })?;
-        }
+        fill_words(alloc, self.words.as_slice(), row, &mut made.words)?;
+        fill_files(alloc, self.files.as_slice(), row, &mut made.files)?;
+        fill_wanted(alloc, self.wanted.as_slice(), row, &mut made.wanted)?;
         Ok(made)
     }
 
@@ -108,6 +93,51 @@ impl Case {
             says_all || found.is_empty()
         }
     }
+}
+
+fn fill_words(
+    alloc: Global,
+    words: &[Vec<u8>],
+    row: &Row,
+    made: &mut Vec<Vec<u8>>,
+) -> Result<(), AllocError> {
+    for word in words {
+        made.push(filled(alloc, word.as_slice(), row)?)?;
+    }
+    Ok(())
+}
+
+fn fill_files(
+    alloc: Global,
+    files: &[CaseFile],
+    row: &Row,
+    made: &mut Vec<CaseFile>,
+) -> Result<(), AllocError> {
+    for file in files {
+        made.push(CaseFile {
+            name: file.name.clone()?,
+            answer: file.answer,
+            text: filled(alloc, file.text.as_slice(), row)?,
+        })?;
+    }
+    Ok(())
+}
+
+fn fill_wanted(
+    alloc: Global,
+    all: &[Wanted],
+    row: &Row,
+    made: &mut Vec<Wanted>,
+) -> Result<(), AllocError> {
+    for wanted in all {
+        made.push(Wanted {
+            stream: wanted.stream,
+            name: wanted.name.clone()?,
+            how: wanted.how,
+            text: filled(alloc, wanted.text.as_slice(), row)?,
+        })?;
+    }
+    Ok(())
 }
 
 const ROW: &[u8] = b"<row>";

@@ -278,6 +278,12 @@ fn word_of(alloc: Global, field: &str) -> Result<String, Why> {
     }
 }
 
+/// Appends the bytes of a field.
+fn add_field(alloc: Global, field: Option<&str>, words: &mut Vec<Vec<u8>>) -> Result<(), Why> {
+    let bytes = field_of(alloc, field.unwrap_or(""))?;
+    push(words, bytes)
+}
+
 /// Returns the words of a command line. A blank within quotes parts no words.
 fn words_of(alloc: Global, line: &str) -> Result<Vec<Vec<u8>>, Why> {
     let mut words = Vec::new(alloc);
@@ -290,19 +296,13 @@ fn words_of(alloc: Global, line: &str) -> Result<Vec<Vec<u8>>, Why> {
             b'\\' if is_quoted => is_escaped = true,
             b'"' => is_quoted = !is_quoted,
             b' ' if !is_quoted => {
-                push(
-                    &mut words,
-                    field_of(alloc, line.get(begin..at).unwrap_or(""))?,
-                )?;
+                add_field(alloc, line.get(begin..at), &mut words)?;
                 begin = at.saturating_add(1);
             }
             _ => {}
         }
     }
-    push(
-        &mut words,
-        field_of(alloc, line.get(begin..).unwrap_or(""))?,
-    )?;
+    add_field(alloc, line.get(begin..), &mut words)?;
     match words.first() {
         Some(first) if first.as_slice() == b"brc".as_slice() => Ok(words),
         _ => Err(Why::NoCommand),
