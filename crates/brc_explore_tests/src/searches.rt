@@ -1,5 +1,7 @@
 //! Searches for a run that goes wrong, of modules that have none.
 
+ghost use Rattle.brc_lang.specs.Grammar.{IsModule};
+
 use crate::accepted_examples::ACCEPTED;
 use crate::mended_examples::MENDED;
 use brc_explore::{Bounds, Watch, find_run};
@@ -59,7 +61,9 @@ fn is_safe(alloc: Global, text: &[u8]) -> bool {
 
 /// Returns whether no run of the module is found that goes wrong, whichever of its functions the workers call. One with
 /// parameters is called by others.
-fn has_no_wrong_run(alloc: Global, module: &Module) -> bool {
+fn has_no_wrong_run(alloc: Global, module: &Module) -> bool
+    requires { IsModule «module».now }
+{
     for (function, called) in module.functions.as_slice().iter().enumerate() {
         if called.parameters.len() == 0 && !none_is_found(alloc, module, function) {
             return false;
@@ -68,7 +72,9 @@ fn has_no_wrong_run(alloc: Global, module: &Module) -> bool {
     true
 }
 
-fn none_is_found(alloc: Global, module: &Module, function: usize) -> bool {
+fn none_is_found(alloc: Global, module: &Module, function: usize) -> bool
+    requires { IsModule «module».now }
+{
     match find_run(alloc, module, function, BOUNDS, &mut Patient) {
         Ok(found) => found.is_none(),
         Err(_) => false,
