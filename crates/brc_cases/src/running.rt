@@ -48,42 +48,61 @@ fn try_one<R: System + Print + AllocGlobal>(
 }
 
 /// Runs the case, and returns how it differs, or an empty text.
-fn difference_of<R: System + AllocGlobal>(rt: &R, case: &Case) -> Result<String> {
+fn difference_of<R: System + AllocGlobal>(rt: &R, case: &Case) -> Result<String, AllocError> {
     let alloc = rt.alloc();
-    let mut words = Vec::new(alloc);
-    for word in &case.words {
-        words.push(text_of(alloc, word.as_slice())?)?;
-    }
+    let words = words_of(alloc, case)?;
     let mut out: Vec<u8> = Vec::new(alloc);
     let mut err: Vec<u8> = Vec::new(alloc);
     let mut shelf = Shelf::new(alloc, case);
     let status = act(rt, alloc, words.as_slice(), &mut shelf, &mut out, &mut err);
+    told(alloc, case, status, &mut out, err.as_slice(), &shelf)
+}
+
+fn words_of(alloc: Global, case: &Case) -> Result<Vec<String>, AllocError> {
+    let mut words = Vec::new(alloc);
+    for word in &case.words {
+        words.push(text_of(alloc, word.as_slice())?)?;
+    }
+    Ok(words)
+}
+
+/// Returns how a command's status and what it wrote differ from the case.
+fn told(
+    alloc: Global,
+    case: &Case,
+    status: u8,
+    out: &mut Vec<u8>,
+    err: &[u8],
+    shelf: &Shelf<'_>,
+) -> Result<String, AllocError> {
     let mut said = String::new(alloc);
     if case.status != Some(status) {
         said.push_str(format!(in alloc; "status {status}")?.as_str())?;
     }
-    for (stream, what, found) in [
-        (Stream::Out, "standard output", out.as_slice()),
-        (Stream::Err, "standard error", err.as_slice()),
-    ] {
-        tell(&mut said, case, stream, "", what, found)?;
-    }
-    out.extend_from_slice(err.as_slice())?;
+    tell(
+        &mut said,
+        case,
+        Stream::Out,
+        "",
+        "standard output",
+        out.as_slice(),
+    )?;
+    tell(&mut said, case, Stream::Err, "", "standard error", err)?;
+    out.extend_from_slice(err)?;
     tell(&mut said, case, Stream::All, "", "all", out.as_slice())?;
+    tell_saved(&mut said, case, shelf)?;
+    Ok(said)
+}
+
+/// Appends what was saved, if the case has something else.
+fn tell_saved(said: &mut String, case: &Case, shelf: &Shelf<'_>) -> Result<(), AllocError> {
     for wanted in &case.wanted {
         if wanted.stream == Stream::Saved {
             let name = wanted.name.as_str();
-            tell(
-                &mut said,
-                case,
-                Stream::Saved,
-                name,
-                name,
-                shelf.saved(name),
-            )?;
+            tell(said, case, Stream::Saved, name, name, shelf.saved(name))?;
         }
     }
-    Ok(said)
+    Ok(())
 }
 
 /// Appends what a command wrote on the stream, if the case has something else.
