@@ -1,4 +1,4 @@
-//! Content: lines that stand for the bytes of a text.
+//! Content: the lines of a file of cases that spell the bytes of a text.
 
 use crate::fault::Why;
 use std::alloc::Global;

@@ -11,7 +11,7 @@ use crate::modules::plain_module;
 use brc_heap::{Hand, Heap, NoMemory, Taken};
 use std::alloc::Global;
 
-/// Returns a heap for so many workers with so many rows each, and main's hand.
+/// Returns a heap for this number of workers with this number of rows each, and main's hand.
 ///
 /// # Errors
 ///
