@@ -1,6 +1,6 @@
 #!/usr/bin/env python3
-"""Checks what the pages say of the repository: links, names, files, quotes, words that grow stale, and the tables that
-scripts of this folder write.
+"""Checks what the pages say of the repository: links, names, files, quotes, words that grow stale, and the tables and
+constants that scripts of this folder write.
 
     python3 docs/check.py
 
@@ -13,6 +13,7 @@ from pathlib import Path
 
 # Importing a script of this folder leaves no file there.
 sys.dont_write_bytecode = True
+import api_table
 import cases
 import language
 import proved
@@ -161,7 +162,7 @@ def main():
     faults += [f"docs/lists/PROVED.md: {fault}" for fault in proved.PART.faults()]
     faults += [f"docs/lists/RULES.md: {fault}" for fault in rules.faults()]
     faults += [f"docs/lists/WRONG_BODIES.md: {fault}" for fault in wrong_bodies.faults()]
-    faults += [*cases.faults(), *language.faults()]
+    faults += [*api_table.faults(), *cases.faults(), *language.faults()]
     print(*faults, f"{len(faults)} faults", sep="\n")
     return 1 if faults else 0
 

@@ -289,7 +289,7 @@ def draw_life():
     width = 76
     lines = boxed(width, "unborn", f"    gate {free}, local word 0: the row holds no object yet")
     lines += [
-        "     │ KindOfOther, or KindOfResource and then SlotFilled: still unborn",
+        "     │ KindOfOther, or KindOfResource and then FieldFilled: still unborn",
         "     │ Born: one thread owns the object, with one local reference",
         "     ▼",
     ]
@@ -320,7 +320,7 @@ def draw_life():
         "    gate: t, and the next object of the chain",
         "     │ ChainRead: t takes the object off its chain",
         "     ▼",
-        "     ├─ DyingResource   a file or a socket: SlotEmptied, ResourceClosed",
+        "     ├─ DyingResource   a file or a socket: FieldEmptied, ResourceClosed",
         "     └─ DyingCells      any other object. Of a list CellEmptied, once for",
         "                        each cell: what was in it is released at once",
     )
@@ -529,8 +529,9 @@ def level(crate):
 
 
 def draw_layers():
-    """The crates by level, with the way of one instruction."""
-    crates = [name for name in CRATES if not name.endswith(("_tests", "_bench", "_soak"))]
+    """The crates by level, with the way of one instruction. Those of tests, of cases and of C have no part in it."""
+    apart = ("brc_case", "brc_c_", "brc_fixtures")
+    crates = [name for name in CRATES if not name.endswith(("_tests", "_bench")) and not name.startswith(apart)]
     want(set(crates) == set(WAY), f"crates.txt has other crates than the way of drop: {sorted(set(crates) ^ set(WAY))}")
     for crate, (_, path) in WAY.items():
         want((ROOT / path).exists(), f"{path} isn't there")

@@ -5,7 +5,7 @@ use crate::not_asked::NotAsked;
 use crate::request::Request;
 use crate::unchecked::{unchecked_step_of, with_schedule, wrong_run_of};
 use brc_command::{
-    Asked, Format, MOST_NAMES, MOST_ROWS, MOST_STEPS, MOST_THREADS, MOST_TIMES, NO_BOUND, Run,
+    Asked, Format, MOST_NAMES, MOST_ROWS, MOST_STEPS, MOST_TIMES, MOST_WORKERS, NO_BOUND, Run,
     VERSION,
 };
 use brc_lang::number;
@@ -109,7 +109,7 @@ fn run_command<'a>(alloc: Global) -> Result<Command<'a>, AllocError> {
             Arg::new(alloc, "threads")
                 .long("threads")
                 .value_name("N")
-                .value_parser(value_parser!(u32).range(1..=i64::from(MOST_THREADS)))
+                .value_parser(value_parser!(u32).range(1..=i64::from(MOST_WORKERS)))
                 .default_value("1")
                 .help("How many threads call it, 1 to 32"),
         )?
@@ -364,7 +364,7 @@ fn run_of<'m>(run: &'m ArgMatches<'_>) -> Option<Asked<'m>>
     let times = run.get_one("times")?;
     let steps = run.try_get_one("steps").ok()?.unwrap_or(NO_BOUND);
     // The parser checks the ranges, but its contract doesn't promise them for the values of a subcommand.
-    if threads == 0 || threads > MOST_THREADS || times == 0 || times > MOST_TIMES {
+    if threads == 0 || threads > u32::from(MOST_WORKERS) || times == 0 || times > MOST_TIMES {
         return None;
     }
     if rows == 0 || rows > MOST_ROWS {

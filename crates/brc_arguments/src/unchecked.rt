@@ -1,7 +1,7 @@
 //! The options about runs of modules that the checker may refuse.
 
 use crate::request::Request;
-use brc_command::{Bounds, MOST_ROWS, MOST_SECONDS, MOST_STATES, MOST_THREADS, Unchecked};
+use brc_command::{Bounds, MOST_ROWS, MOST_SECONDS, MOST_STATES, MOST_WORKERS, Unchecked};
 use clap::{Arg, ArgAction, ArgMatches, Command, value_parser};
 use std::alloc::{AllocError, Global};
 
@@ -22,7 +22,7 @@ pub fn with_schedule<'a>(alloc: Global, command: Command<'a>) -> Result<Command<
         .arg(bound_argument(
             alloc,
             "workers",
-            i64::from(MOST_THREADS),
+            i64::from(MOST_WORKERS),
             "2",
             "The most workers of the run, 1 to 32",
         )?)?
@@ -88,7 +88,11 @@ pub fn wrong_run_of<'m>(explain: &'m ArgMatches<'_>) -> Option<Request<'m>> {
     let states: u32 = explain.get_one("states")?;
     let seconds = explain.try_get_one("seconds").ok()?;
     // The parser checks the ranges, but its contract doesn't promise them for the values of a subcommand.
-    if workers == 0 || workers > MOST_THREADS || rows == 0 || rows > u32::from(MOST_ROWS) {
+    if workers == 0
+        || workers > u32::from(MOST_WORKERS)
+        || rows == 0
+        || rows > u32::from(MOST_ROWS)
+    {
         return None;
     }
     Some(Request::Unchecked(Unchecked::Explain {

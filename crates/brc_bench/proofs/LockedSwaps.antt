@@ -11,7 +11,7 @@ use Rattle.brc_model.specs.OpenWork.{is_about}
 use Rattle.brc_table.specs.Views.{holds, without_one}
 use Rattle.brc_table.specs.Swaps.{with_item, without_item, MayPut}
 use Rattle.brc_table.specs.Hands.{TableState, HandState, IsOf, HasNoWork, HasNoRetain, HoldsOne, most_references}
-use Rattle.brc_list.specs.Calls.{KeepsWork, KeepsButSlot, KeepsBesides, SwapsItem, row_in, word_of}
+use Rattle.brc_list.specs.Calls.{KeepsWork, KeepsButField, KeepsBesides, SwapsItem, row_in, word_of}
 use Rattle.brc_bench.specs.Swaps.{IsAtList, HasBack, HoldsBeside}
 
 -- ---- references
@@ -126,14 +126,14 @@ may_put {heap} {hand} {row} {cell} (Some y) at_list =
 
 -- ---- what calls leave
 
--- A hand stays at its list after a call that keeps all but the references and what it knows of the list's slot.
+-- A hand stays at its list after a call that keeps all but the references and what it knows of the list's field.
 still_there : {heap : TableState} {before after : HandState} {row cell : ℕ} {held locked next now : Option ℕ}
-    (references : List ℕ) (slot : ℕ) → IsAtList heap before row cell held locked → IsOf heap after
-    → KeepsWork (record before.view { references = references; in_slot = slot }) after.view
+    (references : List ℕ) (field : ℕ) → IsAtList heap before row cell held locked → IsOf heap after
+    → KeepsWork (record before.view { references = references; in_field = field }) after.view
     → after.view.actor.locked ≡ now → HasBack after now → (others : List ℕ)
     → 1 ≤ count_by (λ y. y == row) others → length others + 1 < most_references
     → references ≡ with_item before.view.layout (word_of next) others → IsAtList heap after row cell next now
-still_there {heap} {before} {after} {row} {cell} {held} {locked} {next} {now} references slot at_list table keeps is
+still_there {heap} {before} {after} {row} {cell} {held} {locked} {next} {now} references field at_list table keeps is
     back others list few all = record {
       table = table;
       running = (keeps.status ∙ at_list.running.0, keeps.waits);
@@ -156,22 +156,22 @@ still_there {heap} {before} {after} {row} {cell} {held} {locked} {next} {now} re
 
 pub after_lock : {heap : TableState} {before : HandState} {row cell : ℕ} {held : Option ℕ} (after : HandState)
     (result : Bool) → IsAtList heap before row cell held None → IsOf heap after
-    → KeepsButSlot before.view after.view
-    → after.slots ≡ (if result then (row, after.view.in_slot) ∷ before.slots else before.slots)
+    → KeepsButField before.view after.view
+    → after.fields ≡ (if result then (row, after.view.in_field) ∷ before.fields else before.fields)
     → after.view.actor.locked ≡ (if result then Some row else None) → result ≡ true
     → IsAtList heap after row cell held (Some row)
-after_lock after false at_list table keeps slots locked is = absurd cc
-after_lock {heap} {before} after true at_list table keeps slots locked is =
-    still_there before.view.references after.view.in_slot at_list table keeps locked
-    (record { rest = before.slots; is = slots }) at_list.others at_list.list at_list.few at_list.references
+after_lock after false at_list table keeps fields locked is = absurd cc
+after_lock {heap} {before} after true at_list table keeps fields locked is =
+    still_there before.view.references after.view.in_field at_list table keeps locked
+    (record { rest = before.fields; is = fields }) at_list.others at_list.list at_list.few at_list.references
 
 pub after_miss : {heap : TableState} {before : HandState} {row cell : ℕ} {held : Option ℕ} (after : HandState)
     (result : Bool) → IsAtList heap before row cell held None → IsOf heap after
-    → KeepsButSlot before.view after.view → after.view.actor.locked ≡ (if result then Some row else None)
+    → KeepsButField before.view after.view → after.view.actor.locked ≡ (if result then Some row else None)
     → result ≡ false → IsAtList heap after row cell held None
 after_miss after true at_list table keeps locked is = absurd cc
 after_miss {heap} {before} after false at_list table keeps locked is =
-    still_there before.view.references after.view.in_slot at_list table keeps locked tt at_list.others at_list.list
+    still_there before.view.references after.view.in_field at_list table keeps locked tt at_list.others at_list.list
     at_list.few at_list.references
 
 word_row : (word : ℕ) → word_of (row_in word) ≡ word
@@ -182,17 +182,17 @@ pub after_swap : {heap : TableState} {before : HandState} {row cell found : ℕ}
     (after : HandState) → IsAtList heap before row cell held (Some row) → IsOf heap after
     → KeepsBesides before.view after.view
     → SwapsItem row cell (word_of held) found before.view after.view → next ≡ row_in found
-    → after.slots ≡ before.slots → after.view.actor.locked ≡ Some row → IsAtList heap after row cell next (Some row)
-after_swap {heap} {before} {row} {cell} {found} {held} {next} after at_list table keeps swaps is slots locked =
+    → after.fields ≡ before.fields → after.view.actor.locked ≡ Some row → IsAtList heap after row cell next (Some row)
+after_swap {heap} {before} {row} {cell} {found} {held} {next} after at_list table keeps swaps is fields locked =
     let v = before.view in
     let word : word_of next ≡ found = ap word_of is ∙ word_row found in
-    still_there after.view.references v.in_slot at_list table keeps locked
+    still_there after.view.references v.in_field at_list table keeps locked
     (record {
       rest = at_list.returned.rest;
       is =
-          slots
+          fields
           ∙ (at_list.returned.is
-          ∙ ap (λ (n : ℕ). (row, n) ∷ at_list.returned.rest) (sym keeps.taken_slot));
+          ∙ ap (λ (n : ℕ). (row, n) ∷ at_list.returned.rest) (sym keeps.taken_field));
     }) at_list.others at_list.list at_list.few
     (swaps.references
     ∙ (ap (λ (rows : List ℕ). with_item v.layout found (without_item v.layout (word_of held) rows)) at_list.references
@@ -203,7 +203,7 @@ pub after_unlock : {heap : TableState} {before : HandState} {row cell : ℕ} {he
     → IsAtList heap before row cell held (Some row) → IsOf heap after → KeepsWork before.view after.view
     → after.view.actor.locked ≡ None → IsAtList heap after row cell held None
 after_unlock {heap} {before} after at_list table keeps is =
-    still_there before.view.references before.view.in_slot at_list table keeps is tt at_list.others at_list.list
+    still_there before.view.references before.view.in_field at_list table keeps is tt at_list.others at_list.list
     at_list.few at_list.references
 
 -- A swap exchanges the item that the hand holds, and nothing else.

@@ -4,15 +4,15 @@ use Rattle.brc_model.specs.Layout.{IsCounted}
 use Rattle.brc_table.specs.Views.{behind_first, open_work}
 use Rattle.brc_table.specs.KnownWords.{KnowsCell}
 use Rattle.brc_table.specs.Swaps.{with_item}
-use Rattle.brc_table.specs.Uses.{FirstSlot}
+use Rattle.brc_table.specs.Uses.{FirstField}
 use Rattle.brc_table.specs.Hands.{TableState, HandState, IsOf, IsRunning, most_references}
 use Rattle.brc_list.specs.Calls.{word_of}
 use Rattle.brc_bench.specs.Ready.{ready_props}
 
--- If the hand has locked this row's object, then the slot that it took last is that one, with what it held.
+-- If the hand has locked this row's object, then the field that it took last is that one, with what it held.
 abbrev pub HasBack : HandState → Option ℕ → Type 0
 HasBack hand None = Unit {0}
-HasBack hand (Some x) = FirstSlot hand.slots x hand.view.in_slot
+HasBack hand (Some x) = FirstField hand.fields x hand.view.in_field
 
 -- The hand runs, has nothing to do, and has locked the object of the row `locked`, or none.
 pub record IsResting (heap : TableState) (hand : HandState) (locked : Option ℕ) : Type 0 where

@@ -16,11 +16,11 @@ use Rattle.brc_lang.specs.declared.check_code.CheckCode.{CheckCode}
 use Rattle.brc_lang.specs.declared.check_code.CheckCode.TheVariants.{EmptyUsed, WrongKind, NotOwned, StillOwns, LeftOwned}
 use Rattle.brc_lang.specs.declared.check_code.CheckCode.TheVariants.{LeftLocked, SecondLock, NotLocked, LockedChanged}
 use Rattle.brc_model.specs.declared.state.State.{State}
-use Rattle.brc_model.specs.declared.state.VarState.{VarState}
-use Rattle.brc_model.specs.declared.state.VarState.TheVariants.{Empty, Owned, Caller, Locked}
-use Rattle.brc_model.specs.VarStates.{Condition, var_of, is_empty, is_owned, names, are_given_once}
-use Rattle.brc_model.specs.VarStates.{without_stolen, breaks, passed_by, of_kind, of_argument, applies, lowest, padded}
-use Rattle.brc_model.specs.VarStates.{parameter_var}
+use Rattle.brc_model.specs.declared.state.Slot.{Slot}
+use Rattle.brc_model.specs.declared.state.Slot.TheVariants.{Empty, Owned, Caller, Locked}
+use Rattle.brc_model.specs.SlotStates.{Condition, var_of, is_empty, is_owned, names, are_given_once}
+use Rattle.brc_model.specs.SlotStates.{without_stolen, breaks, passed_by, of_kind, of_argument, applies, lowest, padded}
+use Rattle.brc_model.specs.SlotStates.{parameter_var}
 
 -- ---- the entry
 
@@ -41,33 +41,33 @@ padded_take h (suc n) (suc k) d [] le = refl
 padded_take h (suc n) (suc k) d (x ∷ xs) le = ap (λ zs. h x ∷ zs) (padded_take h n k d xs (omega (arith, le)))
 
 -- the variables at the entry, where only the first parameters have theirs
-abbrev pub entry_to : ℕ → List Parameter → List VarState
+abbrev pub entry_to : ℕ → List Parameter → List Slot
 entry_to number parameters = Caller kinds.List ∷ padded 15 Empty (map parameter_var (take number parameters))
 
 -- one parameter more has its variable
-pub entry_more : (vars : List VarState) (parameters : List Parameter) (number : ℕ) (none : Parameter) (v : VarState)
-    → vars ≡ entry_to number parameters → number < length parameters
+pub entry_more : (slots : List Slot) (parameters : List Parameter) (number : ℕ) (none : Parameter) (v : Slot)
+    → slots ≡ entry_to number parameters → number < length parameters
     → v ≡ parameter_var (slice_index_or parameters number none)
-    → slice_set vars (number + 1) v ≡ entry_to (number + 1) parameters
-entry_more vars parameters number none v is lt is_v =
+    → slice_set slots (number + 1) v ≡ entry_to (number + 1) parameters
+entry_more slots parameters number none v is lt is_v =
     let next : number + 1 ≡ suc number = omega arith in
     (λ i. slice_set (is i) (next i) (is_v i))
-    ∙ ap (λ (vs : List VarState). Caller kinds.List ∷ vs) (padded_set parameter_var 15 number Empty parameters none lt)
+    ∙ ap (λ (vs : List Slot). Caller kinds.List ∷ vs) (padded_set parameter_var 15 number Empty parameters none lt)
     ∙ ap (λ n. entry_to n parameters) (sym next)
 
 -- no parameter is left
-pub entry_past : (vars : List VarState) (parameters : List Parameter) (number : ℕ)
-    → vars ≡ entry_to number parameters → length parameters ≤ number → vars ≡ entry_to (number + 1) parameters
-entry_past vars parameters number is past =
+pub entry_past : (slots : List Slot) (parameters : List Parameter) (number : ℕ)
+    → slots ≡ entry_to number parameters → length parameters ≤ number → slots ≡ entry_to (number + 1) parameters
+entry_past slots parameters number is past =
     is ∙ ap (λ (ps : List Parameter). Caller kinds.List ∷ padded 15 Empty (map parameter_var ps))
     (take_all number parameters past ∙ sym (take_all (number + 1) parameters (omega (arith, past))))
 
 -- each variable has had its turn
-pub entry_all : (vars : List VarState) (parameters : List Parameter) (number : ℕ)
-    → vars ≡ entry_to number parameters → 15 ≤ number
-    → vars ≡ Caller kinds.List ∷ padded 15 Empty (map parameter_var parameters)
-entry_all vars parameters number is all =
-    is ∙ ap (λ (vs : List VarState). Caller kinds.List ∷ vs)
+pub entry_all : (slots : List Slot) (parameters : List Parameter) (number : ℕ)
+    → slots ≡ entry_to number parameters → 15 ≤ number
+    → slots ≡ Caller kinds.List ∷ padded 15 Empty (map parameter_var parameters)
+entry_all slots parameters number is all =
+    is ∙ ap (λ (vs : List Slot). Caller kinds.List ∷ vs)
     (padded_take parameter_var 15 number Empty parameters all)
 
 -- ---- what a call steals
@@ -245,7 +245,7 @@ locked_alone true = refl
 locked_alone false = refl
 
 -- a variable that isn't found to own a reference owns none
-pub not_owned : (v : VarState) → ((k : Kind) → v ≡ Owned k → ⊥) → false ≡ is_owned v
+pub not_owned : (v : Slot) → ((k : Kind) → v ≡ Owned k → ⊥) → false ≡ is_owned v
 not_owned Empty other = refl
 not_owned (Owned k) other = absurd (other k refl)
 not_owned (Caller k) other = refl

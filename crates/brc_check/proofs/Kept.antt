@@ -14,7 +14,7 @@ use Rattle.brc_lang.specs.declared.check_code.CheckCode.TheVariants.{RunsOff}
 use Rattle.brc_model.specs.declared.state.State.{State}
 use Rattle.brc_model.specs.declared.state.Exit.{Exit}
 use Rattle.brc_model.specs.declared.state.Exit.TheVariants.{Success, Fault}
-use Rattle.brc_model.specs.VarStates.{lowest, after, target}
+use Rattle.brc_model.specs.SlotStates.{lowest, after, target}
 use Rattle.brc_model.specs.Paths.{PathEnd, At, Ended, Reports, follow, passes, arrives, unless_reported}
 use Rattle.brc_check.specs.declared.kept_entry.KeptEntry.{KeptEntry}
 use Rattle.brc_check.specs.Lookups.{HasOneExit}

@@ -16,4 +16,3 @@ mod Trails
 mod Searches
 mod Passing
 mod Calls
-mod TrueStates

@@ -147,7 +147,7 @@ numbers_all kept numbers from at within =
 pub nearest_none : (kept : List KeptEntry) (at k : ℕ) → length kept ≤ k → IsNearest (drop k kept) at None
 nearest_none kept at k past = λ point upto. ap (λ (es : List KeptEntry). kept_at es point) (drop_all k kept past)
 
--- an entry behind the point changes nothing
+-- an entry after the point changes nothing
 nearest_behind : (e : KeptEntry) (rest : List KeptEntry) (at : ℕ) (o : Option KeptEntry) → at < e.at
     → IsNearest rest at o → IsNearest (e ∷ rest) at o
 nearest_behind e rest at None past near = λ point upto.
@@ -159,7 +159,7 @@ nearest_behind e rest at (Some f) past near =
       λ point from upto. kept_behind e rest point (λ same. omega (arith, same, upto, past)) ∙ near.2 point from upto,
     )
 
--- an entry that isn't behind the nearest of the others
+-- an entry that isn't after the nearest of the others
 nearest_before : (e : KeptEntry) (rest : List KeptEntry) (at : ℕ) (f : KeptEntry) → e.at < f.at
     → IsNearest rest at (Some f) → IsNearest (e ∷ rest) at (Some f)
 nearest_before e rest at f before near = (
@@ -228,7 +228,7 @@ none_onward code kept from (suc at) none upto others =
           ∙ ap (passed code at) before
     ]
 
--- a point behind the nearest entry has what the point before passes on
+-- a point after the nearest entry has what the point before passes on
 pub onward_state : (code : List Instr) (kept : List KeptEntry) (at : ℕ) (s : State) → state_at code kept at ≡ Some s
     → kept_at kept (at + 1) ≡ None → state_at code kept (at + 1) ≡ passed code at (Some s)
 onward_state code kept at s here none =

@@ -7,7 +7,7 @@ use Rattle.brc_lang.specs.declared.module.Function.{Function}
 use Rattle.brc_lang.specs.declared.check_code.CheckCode.{CheckCode}
 use Rattle.brc_model.specs.declared.state.State.{State}
 use Rattle.brc_model.specs.declared.state.Exit.{Exit}
-use Rattle.brc_model.specs.VarStates.{entry_of}
+use Rattle.brc_model.specs.SlotStates.{entry_of}
 use Rattle.brc_model.specs.Paths.{PathEnd, At, Ended, Reports, follow, path_end, ReportsCode, IsAcceptableFunction}
 use Rattle.brc_model.specs.Tables.{Reaches, IsTrueEntry}
 use Rattle.brc_check.specs.Entries.{StaysOn, IsClosed, IsErrorAt}

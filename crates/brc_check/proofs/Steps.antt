@@ -7,7 +7,7 @@ use Rattle.brc_lang.specs.declared.check_code.CheckCode.{CheckCode}
 use Rattle.brc_lang.specs.declared.check_code.CheckCode.TheVariants.{RunsOff}
 use Rattle.brc_model.specs.declared.state.State.{State}
 use Rattle.brc_model.specs.declared.state.Exit.{Exit}
-use Rattle.brc_model.specs.VarStates.{lowest, after, target}
+use Rattle.brc_model.specs.SlotStates.{lowest, after, target}
 use Rattle.brc_model.specs.Paths.{PathEnd, At, Ended, Reports, arrives, unless_reported, passes, follow}
 
 -- if the path ends at a point, the code has that point

@@ -9,7 +9,7 @@ use Rattle.std.specs.declared.alloc.AllocError.{AllocError}
 use Rattle.std.proofs.lemmas.Option.{same_Some, slice_get_read}
 use Rattle.brc_lang.specs.declared.module.Function.{Function}
 use Rattle.brc_model.specs.declared.state.Exit.{Exit}
-use Rattle.brc_model.specs.VarStates.{entry_of}
+use Rattle.brc_model.specs.SlotStates.{entry_of}
 use Rattle.brc_model.specs.Paths.{PathEnd, At, follow, path_end}
 use Rattle.brc_check.specs.declared.visits.Visit.{Visit}
 use Rattle.brc_check.specs.Searching.{first_visit, IsChained, AreLinked}

@@ -12,7 +12,7 @@ use Rattle.brc_lang.specs.declared.check_code.CheckCode.{CheckCode}
 use Rattle.brc_model.specs.declared.state.State.{State}
 use Rattle.brc_model.specs.declared.state.Exit.{Exit}
 use Rattle.brc_model.specs.declared.state.Exit.TheVariants.{Success, Fault}
-use Rattle.brc_model.specs.VarStates.{entry_of}
+use Rattle.brc_model.specs.SlotStates.{entry_of}
 use Rattle.brc_model.specs.Paths.{PathEnd, At, Ended, Reports, follow, ReportsCode}
 use Rattle.brc_model.specs.Tables.{Reaches, StatesDifferAt}
 use Rattle.brc_check.specs.declared.filling.Filling.{Filling}
@@ -163,18 +163,6 @@ closed-before f old new turns filled within kept same_turns turn k t exit before
     stays-kept old.entries new.entries (follow f.code (At k t) exit) kept
     (filled.closed turn k before in_old t exit (there.1 ∙ ap Some state))
 
--- a turn at which no point is found is over
-pub filled_none : (f : Function) (filling : Filling) (turns : ℕ) → IsFilledTo f filling turns
-    → length filling.order ≤ turns → IsFilledTo f filling (turns + 1)
-filled_none f filling turns filled past = record {
-  same_length = filled.same_length;
-  begins = filled.begins;
-  reached = filled.reached;
-  in_order = filled.in_order;
-  closed = λ turn k lt is. filled.closed turn k
-      (let within = slice_get_within filling.order turn k is in omega (arith, within, past)) is;
-}
-
 pub filled_both : (f : Function) (filling : Filling) (turns at : ℕ) (s : State)
     → IsFilledTo f filling turns → slice_get filling.order turns ≡ Some at → entry_at filling.entries at ≡ Some s
     → (let once = settled_at filling (follow f.code (At at s) Success) in
@@ -287,11 +275,6 @@ filled_last f filling turns filled all =
     }
 
 -- ---- the entries found so far
-
-pub filled_reached : (f : Function) (filling : Filling) (turns : ℕ) → IsFilledTo f filling turns
-    → AreReached f filling.entries
-filled_reached f filling turns filled =
-    record { same_length = filled.same_length; begins = filled.begins; reached = filled.reached }
 
 pub first_reached : (f : Function) (filling : Filling) (turns at : ℕ) (s : State)
     → IsFilledTo f filling turns → entry_at filling.entries at ≡ Some s

@@ -6,7 +6,7 @@ use Rattle.brc_lang.specs.declared.check_code.CheckCode.{CheckCode}
 use Rattle.brc_lang.specs.declared.check_code.CheckCode.TheVariants.{StatesDiffer}
 use Rattle.brc_model.specs.declared.state.State.{State}
 use Rattle.brc_model.specs.declared.state.Exit.{Exit}
-use Rattle.brc_model.specs.VarStates.{entry_of}
+use Rattle.brc_model.specs.SlotStates.{entry_of}
 use Rattle.brc_model.specs.Paths.{PathEnd, At, Ended, Reports, follow}
 use Rattle.brc_check.specs.declared.step.Step.{Step}
 use Rattle.brc_check.specs.declared.step.Step.TheVariants.{To, Ends, Error}

@@ -8,7 +8,7 @@ use Rattle.brc_lang.specs.declared.check_code.CheckCode.TheVariants.{StatesDiffe
 use Rattle.brc_lang.specs.Limits.{instruction_limit}
 use Rattle.brc_model.specs.declared.state.State.{State}
 use Rattle.brc_model.specs.declared.state.Exit.TheVariants.{Success, Fault}
-use Rattle.brc_model.specs.VarStates.{after, target}
+use Rattle.brc_model.specs.SlotStates.{after, target}
 use Rattle.brc_model.specs.Paths.{PathEnd, At, Ended, Reports}
 use Rattle.brc_check.specs.declared.kept_entry.KeptEntry.{KeptEntry}
 use Rattle.brc_check.specs.Tables.{kept_at, kept_or, state_at, with_state}

@@ -9,7 +9,7 @@ use Rattle.brc_lang.specs.declared.check_code.CheckCode.TheVariants.{StatesDiffe
 use Rattle.brc_model.specs.declared.state.State.{State}
 use Rattle.brc_model.specs.declared.state.Exit.{Exit}
 use Rattle.brc_model.specs.declared.state.Exit.TheVariants.{Success}
-use Rattle.brc_model.specs.VarStates.{entry_of}
+use Rattle.brc_model.specs.SlotStates.{entry_of}
 use Rattle.brc_model.specs.Paths.{PathEnd, At, Ended, Reports, follow}
 use Rattle.brc_check.specs.declared.visits.Visit.{Visit}
 use Rattle.brc_check.specs.declared.visits.Visits.{Visits}
@@ -64,7 +64,7 @@ pub record IsRival (list : List Visit) (at : ℕ) (reported : CheckCode) (point 
   pub listed : slice_get list number ≡ Some visit
   pub there : visit.at ≡ point
 
--- each visit but the first is behind another one
+-- each visit but the first comes after another one
 abbrev pub IsChained : List Visit → Type 0
 IsChained list = (number : ℕ) (v : Visit) → slice_get list (suc number) ≡ Some v → v.before ≤ number
 

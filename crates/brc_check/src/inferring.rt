@@ -5,7 +5,7 @@
 ghost use Rattle.std.specs.Prelude.{◌≡◌, ◌⊎◌, ◌<◌, ◌+◌, length, IfOk, OnOk, IfErr, MatchOption, MatchResult};
 ghost use Rattle.brc_lang.specs.Grammar.{IsModule, IsFunction};
 ghost use Rattle.brc_model.specs.Paths.{IsAcceptable, IsAcceptableFunction, follow, At};
-ghost use Rattle.brc_model.specs.VarStates.{entry_of};
+ghost use Rattle.brc_model.specs.SlotStates.{entry_of};
 ghost use Rattle.brc_check.specs.Entries.{StaysOn, IsBlocked};
 ghost use Rattle.brc_check.specs.Filling.{entry_at, first_filling, settled_at, IsFilledTo, IsFilled, IsInferred, AreReached};
 ghost use Rattle.brc_check.specs.Filling.{AreTrue};

@@ -1,7 +1,7 @@
 //! One instruction: the code that it reports in a state, the state that it leaves, and the point to which it leads.
 
 ghost use Rattle.std.specs.Prelude.{◌≡◌, ◌+◌, ◌<◌, ◌^◌};
-ghost use Rattle.brc_model.specs.VarStates.{lowest, after, target};
+ghost use Rattle.brc_model.specs.SlotStates.{lowest, after, target};
 
 use crate::refusing::{
     as_refusal, drop_refusal, fail_refusal, into_refusal, move_refusal, newref_refusal, ret_refusal,
@@ -12,7 +12,7 @@ use crate::refusing_items::{item_refusal, put_refusal, set_refusal};
 use crate::refusing_locks::{lock_refusal, unlock_refusal};
 use crate::variables::{forget_items, forget_stolen, kind_of, put, var, with_kind};
 use brc_lang::{CheckCode, Instr, Kind};
-use brc_model::{Exit, State, VarState};
+use brc_model::{Exit, Slot, State};
 
 /// Returns the lowest code that the instruction reports in the state, or `None`.
 pub fn refusal(instr: Instr, state: &State) -> Option<CheckCode>
@@ -46,13 +46,13 @@ pub fn refusal(instr: Instr, state: &State) -> Option<CheckCode>
 }
 
 /// Returns what the exit leaves in the variable that the instruction fills: a fault leaves nothing.
-fn filled(var: VarState, exit: Exit) -> VarState
+fn filled(var: Slot, exit: Exit) -> Slot
     ensures success { exit ≡ Exit.Success → result ≡ var }
-    ensures fault { exit ≡ Exit.Fault → result ≡ VarState.Empty }
+    ensures fault { exit ≡ Exit.Fault → result ≡ Slot.Empty }
 {
     match exit {
         Exit::Success => var,
-        Exit::Fault => VarState::Empty,
+        Exit::Fault => Slot::Empty,
     }
 }
 
@@ -62,33 +62,33 @@ pub fn apply(instr: Instr, exit: Exit, state: &mut State)
 {
     match instr {
         Instr::Num { to, .. } | Instr::Read { to, .. } => {
-            put(state, to, filled(VarState::Owned(Kind::Num), exit));
+            put(state, to, filled(Slot::Owned(Kind::Num), exit));
         }
-        Instr::List { to, .. } => put(state, to, filled(VarState::Owned(Kind::List), exit)),
-        Instr::Open { to, .. } => put(state, to, filled(VarState::Owned(Kind::File), exit)),
-        Instr::Connect { to, .. } => put(state, to, filled(VarState::Owned(Kind::Sock), exit)),
-        Instr::NoneObject { to } => put(state, to, VarState::Owned(Kind::None)),
-        Instr::Take { to, .. } => put(state, to, VarState::Owned(Kind::List)),
+        Instr::List { to, .. } => put(state, to, filled(Slot::Owned(Kind::List), exit)),
+        Instr::Open { to, .. } => put(state, to, filled(Slot::Owned(Kind::File), exit)),
+        Instr::Connect { to, .. } => put(state, to, filled(Slot::Owned(Kind::Sock), exit)),
+        Instr::NoneObject { to } => put(state, to, Slot::Owned(Kind::None)),
+        Instr::Take { to, .. } => put(state, to, Slot::Owned(Kind::List)),
         Instr::Newref { to, from } => {
             let kind = kind_of(var(state, from));
-            put(state, to, VarState::Owned(kind));
+            put(state, to, Slot::Owned(kind));
         }
         Instr::Move { to, from } => {
-            let handed = VarState::Owned(kind_of(var(state, from)));
-            put(state, from, VarState::Empty);
+            let handed = Slot::Owned(kind_of(var(state, from)));
+            put(state, from, Slot::Empty);
             put(state, to, handed);
         }
-        Instr::Drop { from } => put(state, from, VarState::Empty),
+        Instr::Drop { from } => put(state, from, Slot::Empty),
         Instr::Lock { object } => state.locked = Some(object),
         Instr::Unlock { .. } => {
             forget_items(state);
             state.locked = None;
         }
-        Instr::Borrow { to, .. } => put(state, to, filled(VarState::Locked(Kind::Any), exit)),
-        Instr::Fetch { to, .. } => put(state, to, filled(VarState::Owned(Kind::Any), exit)),
+        Instr::Borrow { to, .. } => put(state, to, filled(Slot::Locked(Kind::Any), exit)),
+        Instr::Fetch { to, .. } => put(state, to, filled(Slot::Owned(Kind::Any), exit)),
         // `PyList_SetItem` steals the reference, also if the index is out of range.
         Instr::Set { from, .. } => {
-            put(state, from, VarState::Empty);
+            put(state, from, Slot::Empty);
             forget_items(state);
         }
         Instr::Put { .. } => forget_items(state),
@@ -100,7 +100,7 @@ pub fn apply(instr: Instr, exit: Exit, state: &mut State)
         }
         // The arguments are stolen on both exits: the function called has given them up before it fails.
         Instr::Call { to, arguments, .. } => {
-            let returned = VarState::Owned(Kind::Any);
+            let returned = Slot::Owned(Kind::Any);
             forget_stolen(state, arguments.as_slice());
             put(state, to, filled(returned, exit));
         }

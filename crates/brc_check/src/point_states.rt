@@ -46,7 +46,7 @@ fn is_up_to(entry: &Option<KeptEntry>, at: usize) -> bool
     }
 }
 
-/// Returns the entry of the last kept point that isn't behind this one.
+/// Returns the entry of the last kept point that isn't after this one.
 fn nearest(kept: &[KeptEntry], at: usize) -> Option<KeptEntry>
     ensures { IsNearest kept.now at result }
 {
@@ -60,7 +60,7 @@ fn nearest(kept: &[KeptEntry], at: usize) -> Option<KeptEntry>
     found
 }
 
-/// Returns the state in which the success exit of the point leads to the point behind it, if it leads there.
+/// Returns the state in which the success exit of the point leads to the point after it, if it leads there.
 fn passed(code: &[Instr], at: usize, state: &State) -> Option<State>
     ensures { result ≡ passed code.now at (Some state.now) }
 {

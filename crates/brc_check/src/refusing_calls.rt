@@ -3,12 +3,12 @@
 ghost use Rattle.std.specs.Prelude.{◌≡◌};
 ghost use Rattle.std.specs.List.{list_any};
 ghost use Rattle.brc_lang.specs.declared.check_code.CheckCode.TheVariants as codes;
-ghost use Rattle.brc_model.specs.VarStates.{lowest, var_of, is_empty, is_stolen, clash, are_given_once};
-ghost use Rattle.brc_model.specs.VarStates.{breaks, of_argument};
+ghost use Rattle.brc_model.specs.SlotStates.{lowest, var_of, is_empty, is_stolen, clash, are_given_once};
+ghost use Rattle.brc_model.specs.SlotStates.{breaks, of_argument};
 
 use crate::variables::{kind_of, var};
 use brc_lang::{Argument, CheckCode, Instr, Kind, Passing, Variable};
-use brc_model::{State, VarState};
+use brc_model::{Slot, State};
 
 fn is_stolen(argument: &Argument) -> bool
     ensures { result ≡ is_stolen argument.now }
@@ -46,7 +46,7 @@ fn has_empty(state: &State, arguments: &[Argument]) -> bool
 {
     arguments
         .iter()
-        .any(|argument| var(state, argument.from) == VarState::Empty)
+        .any(|argument| var(state, argument.from) == Slot::Empty)
 }
 
 /// Returns whether the argument isn't known to be of its parameter's kind.
@@ -69,11 +69,7 @@ fn has_other_kinds(state: &State, arguments: &[Argument]) -> bool
 fn is_stolen_unowned(state: &State, argument: &Argument) -> bool
     ensures { result ≡ list_any (breaks state.now codes.NotOwned) (of_argument argument.now) }
 {
-    is_stolen(argument)
-        && matches!(
-            var(state, argument.from),
-            VarState::Caller(_) | VarState::Locked(_)
-        )
+    is_stolen(argument) && matches!(var(state, argument.from), Slot::Caller(_) | Slot::Locked(_))
 }
 
 fn has_stolen_unowned(state: &State, arguments: &[Argument]) -> bool
@@ -97,7 +93,7 @@ pub fn call_refusal(state: &State, to: Variable, arguments: &[Argument]) -> Opti
     if has_stolen_unowned(state, arguments) {
         return Some(CheckCode::NotOwned);
     }
-    if let VarState::Owned(_) = var(state, to) {
+    if let Slot::Owned(_) = var(state, to) {
         return Some(CheckCode::StillOwns);
     }
     // While nothing is locked, no variable that the call changes is the locked one.

@@ -1,11 +1,11 @@
 //! What an instruction about a list's items refuses. Only the thread that has locked the list may read or change them.
 
 ghost use Rattle.std.specs.Prelude.{◌≡◌};
-ghost use Rattle.brc_model.specs.VarStates.{lowest};
+ghost use Rattle.brc_model.specs.SlotStates.{lowest};
 
 use crate::variables::{is_list, is_locked, var};
 use brc_lang::{CheckCode, Instr, Variable};
-use brc_model::{State, VarState};
+use brc_model::{Slot, State};
 
 /// Returns the lowest code that `borrow` or `fetch` reports in the state.
 pub fn item_refusal(state: &State, to: Variable, list: Variable) -> Option<CheckCode>
@@ -13,13 +13,13 @@ pub fn item_refusal(state: &State, to: Variable, list: Variable) -> Option<Check
     ensures fetch { result ≡ lowest (Instr.Fetch to list 0 0) state.now }
 {
     let source = var(state, list);
-    if let VarState::Empty = source {
+    if let Slot::Empty = source {
         return Some(CheckCode::EmptyUsed);
     }
     if !is_list(source) {
         return Some(CheckCode::WrongKind);
     }
-    if let VarState::Owned(_) = var(state, to) {
+    if let Slot::Owned(_) = var(state, to) {
         return Some(CheckCode::StillOwns);
     }
     if !is_locked(state, list) {
@@ -33,7 +33,7 @@ pub fn put_refusal(state: &State, list: Variable, from: Variable) -> Option<Chec
     ensures { result ≡ lowest (Instr.Put list 0 from 0) state.now }
 {
     let changed = var(state, list);
-    if var(state, from) == VarState::Empty || changed == VarState::Empty {
+    if var(state, from) == Slot::Empty || changed == Slot::Empty {
         return Some(CheckCode::EmptyUsed);
     }
     if !is_list(changed) {
@@ -48,13 +48,13 @@ pub fn set_refusal(state: &State, list: Variable, from: Variable) -> Option<Chec
 {
     let given = var(state, from);
     let changed = var(state, list);
-    if given == VarState::Empty || changed == VarState::Empty {
+    if given == Slot::Empty || changed == Slot::Empty {
         return Some(CheckCode::EmptyUsed);
     }
     if !is_list(changed) {
         return Some(CheckCode::WrongKind);
     }
-    if let VarState::Caller(_) | VarState::Locked(_) = given {
+    if let Slot::Caller(_) | Slot::Locked(_) = given {
         return Some(CheckCode::NotOwned);
     }
     if !is_locked(state, list) {

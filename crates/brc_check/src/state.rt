@@ -1,18 +1,18 @@
 //! States: the first one, and their comparison.
 
 ghost use Rattle.std.specs.Prelude.{◌≡◌, ◌↔◌, IsTrue};
-ghost use Rattle.brc_model.specs.VarStates.{entry_of, parameter_var};
+ghost use Rattle.brc_model.specs.SlotStates.{entry_of, parameter_var};
 
 use brc_lang::{Kind, Parameter, Passing, Variable};
-use brc_model::{State, VarState};
+use brc_model::{Slot, State};
 
 /// Returns what a parameter's variable has at first: a reference that the caller lends, or one that the function owns.
-fn parameter_var(parameter: Parameter) -> VarState
+fn parameter_var(parameter: Parameter) -> Slot
     ensures { result ≡ parameter_var parameter }
 {
     match parameter.passing {
-        Passing::Borrow => VarState::Caller(parameter.kind),
-        Passing::Steal => VarState::Owned(parameter.kind),
+        Passing::Borrow => Slot::Caller(parameter.kind),
+        Passing::Steal => Slot::Owned(parameter.kind),
     }
 }
 
@@ -21,17 +21,20 @@ fn parameter_var(parameter: Parameter) -> VarState
 pub fn entry_of(parameters: &[Parameter]) -> State
     ensures { result ≡ entry_of parameters.now }
 {
-    let mut vars = [VarState::Empty; 16];
-    vars[0] = VarState::Caller(Kind::List);
+    let mut slots = [Slot::Empty; 16];
+    slots[0] = Slot::Caller(Kind::List);
     for number in 0..Variable::COUNT - 1 {
         if number < parameters.len() {
-            vars[number + 1] = parameter_var(parameters[number]);
+            slots[number + 1] = parameter_var(parameters[number]);
         }
     }
-    State { vars, locked: None }
+    State {
+        slots,
+        locked: None,
+    }
 }
 
-fn same_vars(one: &[VarState; 16], other: &[VarState; 16]) -> bool
+fn same_slots(one: &[Slot; 16], other: &[Slot; 16]) -> bool
     ensures { IsTrue result ↔ (one.now ≡ other.now) }
 {
     one == other
@@ -51,5 +54,5 @@ fn same_locked(one: Option<Variable>, other: Option<Variable>) -> bool
 pub fn same_state(one: &State, other: &State) -> bool
     ensures { IsTrue result ↔ (one.now ≡ other.now) }
 {
-    same_vars(&one.vars, &other.vars) && same_locked(one.locked, other.locked)
+    same_slots(&one.slots, &other.slots) && same_locked(one.locked, other.locked)
 }

@@ -3,31 +3,31 @@
 ghost use Rattle.std.specs.Prelude.{◌≡◌, [], ◌∷◌, map};
 ghost use Rattle.std.specs.List.{list_any};
 ghost use Rattle.brc_lang.specs.declared.kind.Kind.TheVariants as kinds;
-ghost use Rattle.brc_model.specs.VarStates.{var_of, is_owned, kind_of, is_one_of, lockable, with_resource, names, may_be};
-ghost use Rattle.brc_model.specs.VarStates.{with_kind, put, without_item, without_items, without_stolen};
+ghost use Rattle.brc_model.specs.SlotStates.{var_of, is_owned, kind_of, is_one_of, lockable, with_resource, names, may_be};
+ghost use Rattle.brc_model.specs.SlotStates.{with_kind, put, without_item, without_items, without_stolen};
 
 use brc_lang::{Argument, Kind, Passing, Variable};
-use brc_model::{State, VarState};
+use brc_model::{Slot, State};
 
-pub fn var(state: &State, variable: Variable) -> VarState
+pub fn var(state: &State, variable: Variable) -> Slot
     ensures { result ≡ var_of state.now variable }
 {
-    state.vars[variable.number() as usize]
+    state.slots[variable.number() as usize]
 }
 
 /// Replaces the variable's state.
-pub fn put(state: &mut State, variable: Variable, var: VarState)
+pub fn put(state: &mut State, variable: Variable, var: Slot)
     ensures { state.new ≡ put state.old variable var }
 {
-    state.vars[variable.number() as usize] = var;
+    state.slots[variable.number() as usize] = var;
 }
 
-pub fn kind_of(var: VarState) -> Kind
+pub fn kind_of(var: Slot) -> Kind
     ensures { result ≡ kind_of var }
 {
     match var {
-        VarState::Empty => Kind::Any,
-        VarState::Owned(kind) | VarState::Caller(kind) | VarState::Locked(kind) => kind,
+        Slot::Empty => Kind::Any,
+        Slot::Owned(kind) | Slot::Caller(kind) | Slot::Locked(kind) => kind,
     }
 }
 
@@ -39,21 +39,21 @@ pub fn may_be(known: Kind, asked: Kind) -> bool
 }
 
 /// Returns whether the variable's state is known to name a list.
-pub fn is_list(var: VarState) -> bool
+pub fn is_list(var: Slot) -> bool
     ensures { result ≡ is_one_of (kind_of var) (kinds.List ∷ []) }
 {
     kind_of(var) == Kind::List
 }
 
 /// Returns whether the variable's state is known to name a number.
-pub fn is_num(var: VarState) -> bool
+pub fn is_num(var: Slot) -> bool
     ensures { result ≡ is_one_of (kind_of var) (kinds.Num ∷ []) }
 {
     kind_of(var) == Kind::Num
 }
 
 /// Returns whether the variable's state is known to name a file or a socket, which has a resource of the host.
-pub fn has_resource(var: VarState) -> bool
+pub fn has_resource(var: Slot) -> bool
     ensures { result ≡ is_one_of (kind_of var) with_resource }
 {
     matches!(kind_of(var), Kind::File | Kind::Sock)
@@ -67,14 +67,14 @@ pub fn is_lockable(kind: Kind) -> bool
 }
 
 /// Returns the variable's state with another kind.
-pub fn with_kind(var: VarState, kind: Kind) -> VarState
+pub fn with_kind(var: Slot, kind: Kind) -> Slot
     ensures { result ≡ with_kind var kind }
 {
     match var {
-        VarState::Empty => VarState::Empty,
-        VarState::Owned(_) => VarState::Owned(kind),
-        VarState::Caller(_) => VarState::Caller(kind),
-        VarState::Locked(_) => VarState::Locked(kind),
+        Slot::Empty => Slot::Empty,
+        Slot::Owned(_) => Slot::Owned(kind),
+        Slot::Caller(_) => Slot::Caller(kind),
+        Slot::Locked(_) => Slot::Locked(kind),
     }
 }
 
@@ -87,33 +87,33 @@ pub fn is_locked(state: &State, variable: Variable) -> bool
     }
 }
 
-pub fn any_owned(vars: &[VarState; 16]) -> bool
-    ensures { result ≡ list_any is_owned vars.now }
+pub fn any_owned(slots: &[Slot; 16]) -> bool
+    ensures { result ≡ list_any is_owned slots.now }
 {
-    vars.iter().any(|var| matches!(var, VarState::Owned(_)))
+    slots.iter().any(|var| matches!(var, Slot::Owned(_)))
 }
 
 /// Returns the variable's state, or an empty one if it borrows from the locked list.
-fn without_item(var: VarState) -> VarState
+fn without_item(var: Slot) -> Slot
     ensures { result ≡ without_item var }
 {
     match var {
-        VarState::Locked(_) => VarState::Empty,
-        VarState::Empty | VarState::Owned(_) | VarState::Caller(_) => var,
+        Slot::Locked(_) => Slot::Empty,
+        Slot::Empty | Slot::Owned(_) | Slot::Caller(_) => var,
     }
 }
 
-fn vars_without_items(vars: [VarState; 16]) -> [VarState; 16]
-    ensures { result ≡ map without_item vars }
+fn slots_without_items(slots: [Slot; 16]) -> [Slot; 16]
+    ensures { result ≡ map without_item slots }
 {
-    vars.map(without_item)
+    slots.map(without_item)
 }
 
 /// Empties each variable that borrows from the locked list.
 pub fn forget_items(state: &mut State)
     ensures { state.new ≡ without_items state.old }
 {
-    state.vars = vars_without_items(state.vars);
+    state.slots = slots_without_items(state.slots);
 }
 
 /// Empties each variable whose reference the call of these arguments steals.
@@ -122,7 +122,7 @@ pub fn forget_stolen(state: &mut State, arguments: &[Argument])
 {
     for argument in arguments {
         if let Passing::Steal = argument.parameter.passing {
-            put(state, argument.from, VarState::Empty);
+            put(state, argument.from, Slot::Empty);
         }
     }
 }

@@ -54,10 +54,10 @@ fn push_visit(list: &mut Sequence<Visit>, visit: Visit) -> Result<(), AllocError
     ensures { IfOk result (λ done. list.new ≡ list.old ++ visit ∷ []) }
 {
     // The state is taken apart so that the borrow checker sees each type that the push moves.
-    let State { vars, locked } = visit.state;
+    let State { slots, locked } = visit.state;
     list.push(Visit {
         at: visit.at,
-        state: State { vars, locked },
+        state: State { slots, locked },
         before: visit.before,
         exit: visit.exit,
     })

@@ -5,11 +5,11 @@ use Rattle.std.proofs.Common.{◌≡◌, ℕ, List, [], ◌∷◌, true, map, re
 use Rattle.brc_model.specs.declared.duty.Duty.{Duty}
 use Rattle.brc_model.specs.declared.duty.Duty.TheVariants.{
   BirthKind,
-  BirthSlot,
+  BirthField,
   BirthLocal,
   SettleKind,
   SettleCell,
-  TakeSlot,
+  TakeField,
   CloseResource,
   SettleEnd,
   KindLoad,
@@ -17,12 +17,12 @@ use Rattle.brc_model.specs.declared.duty.Duty.TheVariants.{
   UnlockGate,
   CellLoad,
   CellSwap,
-  LendSlot,
-  ReturnSlot,
+  LendField,
+  ReturnField,
   ReleaseLoad,
 }
 use Rattle.brc_model.specs.declared.duty.Holding.TheVariants.{InFlight, ByVariable}
-use Rattle.brc_model.specs.declared.address.Address.TheVariants.{KindOf, Cell, Slot, Local, Resource, Gate}
+use Rattle.brc_model.specs.declared.address.Address.TheVariants.{KindOf, Cell, Field, Local, Resource, Gate}
 use Rattle.brc_model.specs.declared.layout.Layout.{Layout}
 use Rattle.brc_model.specs.Duties.{address_of, new_word, continuation}
 use Rattle.brc_model.specs.Machine.{used_by, locked_by, lent_by}
@@ -46,7 +46,7 @@ sock = 21474836480
 
 births : List Duty
 births = BirthKind 7 InFlight number ∷ BirthKind 7 InFlight list ∷ BirthKind 7 InFlight file ∷ BirthKind 7 InFlight sock
-    ∷ BirthSlot 7 InFlight ∷ BirthLocal 7 InFlight ∷ []
+    ∷ BirthField 7 InFlight ∷ BirthLocal 7 InFlight ∷ []
 
 -- the words that the steps of a birth store
 births-leave : map (λ (d : Duty). new_word four 3 0 d 0) births ≡ number ∷ list ∷ file ∷ sock ∷ 1 ∷ 17179869185 ∷ []
@@ -55,8 +55,8 @@ births-leave = refl
 
 -- the duties that follow each of these steps
 births-lead_to : map (λ (d : Duty). continuation four 3 true 0 d 0) births
-    ≡ (BirthLocal 7 InFlight ∷ []) ∷ (BirthLocal 7 InFlight ∷ []) ∷ (BirthSlot 7 InFlight ∷ []) ∷
-    (BirthSlot 7 InFlight ∷ [])
+    ≡ (BirthLocal 7 InFlight ∷ []) ∷ (BirthLocal 7 InFlight ∷ []) ∷ (BirthField 7 InFlight ∷ []) ∷
+    (BirthField 7 InFlight ∷ [])
     ∷ (BirthLocal 7 InFlight ∷ []) ∷ [] ∷ []
 unfolding number list file sock births
 births-lead_to = refl
@@ -68,39 +68,39 @@ births-use = refl
 
 -- the word of each step
 births-are_at : map (λ (d : Duty). address_of four 3 0 d) births
-    ≡ KindOf 7 ∷ KindOf 7 ∷ KindOf 7 ∷ KindOf 7 ∷ Slot 7 ∷ Local 7 ∷ []
+    ≡ KindOf 7 ∷ KindOf 7 ∷ KindOf 7 ∷ KindOf 7 ∷ Field 7 ∷ Local 7 ∷ []
 unfolding number list file sock births
 births-are_at = refl
 
 -- the duty that follows the load of a dying object's kind word
 deaths-begin : map (λ (w : ℕ). continuation four 3 true 0 (SettleKind 7) w) (number ∷ list ∷ file ∷ sock ∷ [])
-    ≡ (SettleEnd 7 ∷ []) ∷ (SettleCell 7 0 1 ∷ []) ∷ (TakeSlot 7 ∷ []) ∷ (TakeSlot 7 ∷ []) ∷ []
+    ≡ (SettleEnd 7 ∷ []) ∷ (SettleCell 7 0 1 ∷ []) ∷ (TakeField 7 ∷ []) ∷ (TakeField 7 ∷ []) ∷ []
 unfolding number list file sock
 deaths-begin = refl
 
 -- the duties that close a resource
-deaths-go_on : map (λ (d : Duty). continuation four 3 true 0 d 1) (TakeSlot 7 ∷ CloseResource 7 ∷ [])
+deaths-go_on : map (λ (d : Duty). continuation four 3 true 0 d 1) (TakeField 7 ∷ CloseResource 7 ∷ [])
     ≡ (CloseResource 7 ∷ []) ∷ (SettleEnd 7 ∷ []) ∷ []
 deaths-go_on = refl
 
--- the slot is empty, and the resource has been closed once
-deaths-leave : new_word four 3 0 (TakeSlot 7) 1 ∷ new_word four 3 0 (CloseResource 7) 0 ∷ [] ≡ 0 ∷ 1 ∷ []
+-- the field is empty, and the resource has been closed once
+deaths-leave : new_word four 3 0 (TakeField 7) 1 ∷ new_word four 3 0 (CloseResource 7) 0 ∷ [] ≡ 0 ∷ 1 ∷ []
 deaths-leave = refl
 
-deaths-are_at : map (λ (d : Duty). address_of four 3 0 d) (TakeSlot 7 ∷ CloseResource 7 ∷ []) ≡ Slot 7 ∷ Resource 7 ∷ []
+deaths-are_at : map (λ (d : Duty). address_of four 3 0 d) (TakeField 7 ∷ CloseResource 7 ∷ []) ≡ Field 7 ∷ Resource 7 ∷ []
 deaths-are_at = refl
 
--- A resource is taken out of its slot, and put back: the thread has it lent in between.
-lends-leave : new_word four 3 0 (LendSlot 7) 1 ∷ new_word four 3 0 (ReturnSlot 7) 0 ∷ [] ≡ 0 ∷ 1 ∷ []
+-- A resource is taken out of its field, and put back: the thread has it lent in between.
+lends-leave : new_word four 3 0 (LendField 7) 1 ∷ new_word four 3 0 (ReturnField 7) 0 ∷ [] ≡ 0 ∷ 1 ∷ []
 lends-leave = refl
 
-lends-are_at : map (λ (d : Duty). address_of four 3 0 d) (LendSlot 7 ∷ ReturnSlot 7 ∷ []) ≡ Slot 7 ∷ Slot 7 ∷ []
+lends-are_at : map (λ (d : Duty). address_of four 3 0 d) (LendField 7 ∷ ReturnField 7 ∷ []) ≡ Field 7 ∷ Field 7 ∷ []
 lends-are_at = refl
 
-lends-lead_to : map (λ (d : Duty). continuation four 3 true 0 d 1) (LendSlot 7 ∷ ReturnSlot 7 ∷ []) ≡ [] ∷ [] ∷ []
+lends-lead_to : map (λ (d : Duty). continuation four 3 true 0 d 1) (LendField 7 ∷ ReturnField 7 ∷ []) ≡ [] ∷ [] ∷ []
 lends-lead_to = refl
 
-lends-lend : lent_by None (LendSlot 7) 1 ∷ lent_by (Some 7) (ReturnSlot 7) 0 ∷ [] ≡ Some 7 ∷ None ∷ []
+lends-lend : lent_by None (LendField 7) 1 ∷ lent_by (Some 7) (ReturnField 7) 0 ∷ [] ≡ Some 7 ∷ None ∷ []
 lends-lend = refl
 
 -- A look at the kind leaves the word as it is, and nothing follows.

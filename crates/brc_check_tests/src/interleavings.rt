@@ -51,9 +51,9 @@ fn first(alloc: Global, checked: &Checked) -> Result<World<'_>, NoMemory>
 fn make(world: &mut World<'_>, turn: u8) -> Result<Option<Did>, NoMemory> {
     match turn {
         0..THREADS => step(world, usize::from(turn), Choice::Ok),
-        3 => step(world, 0, Choice::Claim { row: 1 }),
-        4 => step(world, 1, Choice::Claim { row: 2 }),
-        _ => step(world, 2, Choice::Claim { row: 3 }),
+        3 => step(world, 0, Choice::Claim(1)),
+        4 => step(world, 1, Choice::Claim(2)),
+        _ => step(world, 2, Choice::Claim(3)),
     }
 }
 
@@ -88,8 +88,8 @@ fn one_move_more(alloc: Global, moves: &[u8], turn: u8) -> Result<Vec<u8>, Alloc
 
 /// Returns whether all threads are gone. Fails if what was created is neither closed nor left, or if all threads are
 /// gone and the report isn't that of `objects` objects, all closed.
-fn is_last(alloc: Global, world: &World<'_>, objects: u64) -> Result<bool, Fail> {
-    let (numbers, left) = counted(alloc, world)?;
+fn is_last(world: &World<'_>, objects: u64) -> Result<bool, Fail> {
+    let (numbers, left) = counted(world)?;
     let [_, running, created, closed, alive, _, _] = numbers;
     if closed.checked_add(alive) != Some(created) || alive != left as u64 {
         return Err("what was created is neither closed nor left")?;
@@ -132,7 +132,7 @@ fn visit(
     if did != Some(Did::Moved) || !seen.insert(format!(in alloc; "{world:?}")?)? {
         return Ok((did, false));
     }
-    let last = is_last(alloc, &world, objects)?;
+    let last = is_last(&world, objects)?;
     paths.push(moves)?;
     Ok((did, last))
 }

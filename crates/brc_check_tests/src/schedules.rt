@@ -67,9 +67,9 @@ const TWO: &[u8] = b"schedule 1\nworkers 2\nrows 4\ncall 1 f 1\ncall 2 f 1\n\
 const STEPS_OF_TWO: &[(u8, Choice, u32)] = &[
     (0, Choice::Fault, 1_000_000),
     (2, Choice::Ok, 1),
-    (0, Choice::Claim { row: 33_809 }, 1),
+    (0, Choice::Claim(33_809), 1),
     (1, Choice::Ok, 3),
-    (2, Choice::Claim { row: 0 }, 1),
+    (2, Choice::Claim(0), 1),
     (2, Choice::Stop, 1),
     (0, Choice::Stop, 1),
 ];

@@ -1,31 +1,34 @@
 //! The states along paths.
 
 use crate::modules::function_of;
-use brc_check::{CheckCode, Exit, State, Step, VarState, entry_of, first_states, follow};
+use brc_check::{CheckCode, Exit, Slot, State, Step, entry_of, first_states, follow};
 use brc_lang::Kind;
 use std::alloc::Global;
 use std::test::*;
 
 /// The state in which v1 has the variable's state, v0 is the caller's list, and the other variables are empty.
-fn state(var: VarState) -> State {
-    let mut vars = [VarState::Empty; 16];
-    vars[0] = VarState::Caller(Kind::List);
-    vars[1] = var;
-    State { vars, locked: None }
+fn state(var: Slot) -> State {
+    let mut slots = [Slot::Empty; 16];
+    slots[0] = Slot::Caller(Kind::List);
+    slots[1] = var;
+    State {
+        slots,
+        locked: None,
+    }
 }
 
 /// The number of the first point with another state of v1.
 fn first_other_state(
     alloc: Global,
     lines: &[u8],
-    vars: &[Option<VarState>],
+    slots: &[Option<Slot>],
 ) -> Result<Option<usize>, Fail> {
     let module = function_of(alloc, lines)?;
     let entries = first_states(alloc, &module.functions.as_slice()[0])?;
-    if entries.len() != vars.len() {
+    if entries.len() != slots.len() {
         return Ok(Some(entries.len()));
     }
-    for (at, var) in vars.iter().enumerate() {
+    for (at, var) in slots.iter().enumerate() {
         if entries.as_slice()[at] != var.map(state) {
             return Ok(Some(at));
         }
@@ -43,18 +46,18 @@ fn takes_two_steps(alloc: Global) -> Result<bool, Fail> {
     };
     let reported = follow(code, 1, &arriving, Exit::Success);
     Ok(
-        entry == state(VarState::Empty)
-            && arriving == state(VarState::Owned(Kind::List))
+        entry == state(Slot::Empty)
+            && arriving == state(Slot::Owned(Kind::List))
             && matches!(reported, Step::Error(CheckCode::LeftOwned)),
     )
 }
 
-const EMPTY: Option<VarState> = Some(VarState::Empty);
+const EMPTY: Option<Slot> = Some(Slot::Empty);
 
-const NUMBER: Option<VarState> = Some(VarState::Owned(Kind::Num));
+const NUMBER: Option<Slot> = Some(Slot::Owned(Kind::Num));
 
 /// Lines, and the state of v1 at each point where a path comes first.
-const CASES: &[(&[u8], &[Option<VarState>])] = &[
+const CASES: &[(&[u8], &[Option<Slot>])] = &[
     (
         b"num v1 1 else @2\nret v1\nfail\ndrop v1\nfail\n",
         &[EMPTY, NUMBER, EMPTY, None, None],
@@ -71,8 +74,8 @@ const CASES: &[(&[u8], &[Option<VarState>])] = &[
 #[test]
 fn paths_have_states(rt: HostRuntime) -> Result<(), Fail> {
     assert!(rt; takes_two_steps(rt.alloc())?);
-    for (lines, vars) in CASES {
-        let other = first_other_state(rt.alloc(), lines, vars)?;
+    for (lines, slots) in CASES {
+        let other = first_other_state(rt.alloc(), lines, slots)?;
         assert_eq!(rt; other, None, "{lines:?}");
     }
     Ok(())

@@ -58,8 +58,8 @@ fn is_gone(world: &World<'_>, thread: usize) -> bool {
 }
 
 /// Returns the numbers of the world's tally, in the order of a report, and how many objects it lists as left.
-pub fn counted(alloc: Global, world: &World<'_>) -> Result<([u64; 7], usize), NoMemory> {
-    let tally = tally(alloc, world)?;
+pub fn counted(world: &World<'_>) -> Result<([u64; 7], usize), NoMemory> {
+    let tally = tally(world)?;
     let numbers = [
         tally.threads,
         tally.running,
@@ -73,8 +73,8 @@ pub fn counted(alloc: Global, world: &World<'_>) -> Result<([u64; 7], usize), No
 }
 
 /// Returns the tally. This function has no contract, because `World::tally`'s would make each later line slow to prove.
-fn tally(alloc: Global, world: &World<'_>) -> Result<Tally, NoMemory> {
-    world.tally(alloc)
+fn tally(world: &World<'_>) -> Result<Tally, NoMemory> {
+    world.tally()
 }
 
 /// A function that makes a reference to the root and gives it up.

@@ -3,32 +3,32 @@
 ghost use Rattle.brc_lang.specs.Grammar.{IsModule};
 
 use crate::modules::{function_of, module_of};
-use brc_check::{CheckCode, Checked, State, Table, VarState, infer, verify};
+use brc_check::{CheckCode, Checked, Slot, State, Table, infer, verify};
 use brc_lang::{Kind, Module, Variable};
 use std::alloc::Global;
 use std::test::*;
 
 /// The states of v1 and v2 at a point, and the number of the locked variable, if one is; v0 is the caller's list, and the
 /// others are empty. `None` is a point that no path reaches, or one past the last.
-type Entry = Option<(VarState, VarState, Option<u8>)>;
+type Entry = Option<(Slot, Slot, Option<u8>)>;
 
-const EMPTY: VarState = VarState::Empty;
+const EMPTY: Slot = Slot::Empty;
 
-const NUMBER: VarState = VarState::Owned(Kind::Num);
+const NUMBER: Slot = Slot::Owned(Kind::Num);
 
-const NONE: VarState = VarState::Owned(Kind::None);
+const NONE: Slot = Slot::Owned(Kind::None);
 
-const LIST: VarState = VarState::Owned(Kind::List);
+const LIST: Slot = Slot::Owned(Kind::List);
 
-const FILE: VarState = VarState::Owned(Kind::File);
+const FILE: Slot = Slot::Owned(Kind::File);
 
-const SOCKET: VarState = VarState::Owned(Kind::Sock);
+const SOCKET: Slot = Slot::Owned(Kind::Sock);
 
 /// A fetched item, whose kind isn't known.
-const FETCHED: VarState = VarState::Owned(Kind::Any);
+const FETCHED: Slot = Slot::Owned(Kind::Any);
 
 /// A borrowed item, whose kind isn't known.
-const BORROWED: VarState = VarState::Locked(Kind::Any);
+const BORROWED: Slot = Slot::Locked(Kind::Any);
 
 /// The entry of the first point.
 const FIRST: Entry = Some((EMPTY, EMPTY, None));
@@ -165,7 +165,7 @@ const TABLES: &[TableCase] = &[
             Some((EMPTY, NUMBER, None)),
             Some((EMPTY, NUMBER, Some(0))),
             Some((BORROWED, NUMBER, Some(0))),
-            Some((VarState::Locked(Kind::Num), NUMBER, Some(0))),
+            Some((Slot::Locked(Kind::Num), NUMBER, Some(0))),
             Some((EMPTY, NUMBER, Some(0))),
             Some((EMPTY, NUMBER, None)),
             Some((BORROWED, NUMBER, Some(0))),
@@ -278,24 +278,24 @@ const LOOPS: &[TableCase] = &[
 
 /// What overwrites the entries of kept points: the state of v1, that of v2, or `None` where it stays, and the locked
 /// variable.
-const OVERWRITTEN: &[(VarState, Option<VarState>, Option<u8>)] = &[
+const OVERWRITTEN: &[(Slot, Option<Slot>, Option<u8>)] = &[
     (EMPTY, Some(EMPTY), None),
     (EMPTY, Some(NUMBER), None),
-    (EMPTY, Some(VarState::Caller(Kind::Num)), None),
+    (EMPTY, Some(Slot::Caller(Kind::Num)), None),
     (NUMBER, Some(EMPTY), None),
     (NUMBER, Some(NUMBER), None),
-    (NUMBER, Some(VarState::Caller(Kind::Num)), None),
+    (NUMBER, Some(Slot::Caller(Kind::Num)), None),
     (FETCHED, Some(EMPTY), None),
     (FETCHED, Some(NUMBER), None),
-    (FETCHED, Some(VarState::Caller(Kind::Num)), None),
+    (FETCHED, Some(Slot::Caller(Kind::Num)), None),
     (EMPTY, None, None),
     (EMPTY, None, Some(0)),
     (EMPTY, None, Some(1)),
     (BORROWED, None, None),
     (BORROWED, None, Some(0)),
     (BORROWED, None, Some(1)),
-    (VarState::Locked(Kind::Num), None, Some(0)),
-    (VarState::Caller(Kind::Any), None, Some(0)),
+    (Slot::Locked(Kind::Num), None, Some(0)),
+    (Slot::Caller(Kind::Any), None, Some(0)),
     (FILE, None, None),
     (FILE, None, Some(1)),
     (SOCKET, None, None),
@@ -305,23 +305,23 @@ const OVERWRITTEN: &[(VarState, Option<VarState>, Option<u8>)] = &[
     (LIST, None, None),
     (LIST, None, Some(0)),
     (LIST, None, Some(1)),
-    (VarState::Locked(Kind::List), None, Some(0)),
-    (VarState::Caller(Kind::List), None, Some(1)),
+    (Slot::Locked(Kind::List), None, Some(0)),
+    (Slot::Caller(Kind::List), None, Some(1)),
     (NUMBER, None, Some(0)),
 ];
 
 fn state_of(entry: Entry) -> Option<State> {
     let (one, two, locked) = entry?;
-    let mut vars = [VarState::Empty; 16];
-    vars[0] = VarState::Caller(Kind::List);
-    vars[1] = one;
-    vars[2] = two;
+    let mut slots = [Slot::Empty; 16];
+    slots[0] = Slot::Caller(Kind::List);
+    slots[1] = one;
+    slots[2] = two;
     let locked = match locked {
         Some(0) => Some(Variable::new(0)),
         Some(_) => Some(Variable::new(1)),
         None => None,
     };
-    Some(State { vars, locked })
+    Some(State { slots, locked })
 }
 
 /// The table of an acceptable module.
@@ -413,7 +413,7 @@ fn first_unnoticed(
     alloc: Global,
     lines: &[u8],
     at: usize,
-    entry: (VarState, VarState, Option<u8>),
+    entry: (Slot, Slot, Option<u8>),
 ) -> Result<Option<usize>, Fail> {
     for (number, (one, two, locked)) in OVERWRITTEN.iter().enumerate() {
         let other = (*one, two.unwrap_or(entry.1), *locked);

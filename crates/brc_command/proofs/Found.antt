@@ -18,7 +18,7 @@ use Rattle.brc_lang.specs.Limits.{function_limit, instruction_limit, static_limi
 use Rattle.brc_model.specs.declared.state.Exit.{Exit}
 use Rattle.brc_model.specs.declared.state.State.{State}
 use Rattle.brc_model.specs.Paths.{PathEnd, At, Ended, Reports, arrives, unless_reported, passes, follow}
-use Rattle.brc_model.specs.VarStates.{lowest, after, target, entry_of}
+use Rattle.brc_model.specs.SlotStates.{lowest, after, target, entry_of}
 use Rattle.brc_check.specs.declared.refused.Refused.{Refused as Refusal}
 use Rattle.brc_check.specs.Refusal.{IsReported, IsRefusedFor}
 use Rattle.brc_command.specs.declared.finding.Finding.{Finding}

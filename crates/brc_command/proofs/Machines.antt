@@ -7,7 +7,8 @@ use Rattle.brc_model.specs.World.{world_of}
 use Rattle.brc_check.specs.Accepted.{Accepted}
 use Rattle.brc_check.specs.Tables.{states_of}
 use Rattle.brc_schedule.specs.declared.schedule.Schedule.{Schedule}
-use Rattle.brc_world.specs.MachineTallies.{IsMachineOf, machine_tally}
+use Rattle.brc_machine.specs.MachineTallies.{machine_tally}
+use Rattle.brc_world.specs.MachineTallies.{IsMachineOf}
 use Rattle.brc_world.specs.Runs.{world_after, events_of}
 use Rattle.brc_world.specs.Tallies.{tally_of}
 use Rattle.brc_command.specs.Calls.{calls_of}

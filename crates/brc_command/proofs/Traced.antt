@@ -11,7 +11,7 @@ use Rattle.brc_report.specs.declared.tally.Tally.{Tally}
 use Rattle.brc_report.specs.Report.{tally_text}
 use Rattle.brc_schedule.specs.declared.schedule.Schedule.{Schedule}
 use Rattle.brc_trace.specs.TraceText.{trace_text}
-use Rattle.brc_world.specs.MachineTallies.{machine_tally}
+use Rattle.brc_machine.specs.MachineTallies.{machine_tally}
 use Rattle.brc_world.specs.Runs.{world_after, events_of}
 use Rattle.brc_world.specs.Tallies.{tally_of}
 use Rattle.brc_command.specs.Calls.{calls_of}

@@ -18,7 +18,7 @@ use Rattle.brc_schedule.specs.Text as schedules
 use Rattle.brc_schedule.specs.Fault as schedule_faults
 use Rattle.brc_world.specs.Runs.{world_after, events_of}
 use Rattle.brc_world.specs.Tallies.{tally_of}
-use Rattle.brc_world.specs.MachineTallies.{machine_tally}
+use Rattle.brc_machine.specs.MachineTallies.{machine_tally}
 use Rattle.brc_command.specs.declared.step_fault.StepFault.{StepFault}
 use Rattle.brc_command.specs.declared.step_fault.StepFault.TheVariants.{Text, Plan, Refused, NoFunction, NoMemory}
 use Rattle.brc_command.specs.declared.step_fault.StepFault.TheVariants.{Output}

@@ -6,7 +6,7 @@ use Rattle.brc_check.specs.Accepted.{Accepted}
 use Rattle.brc_report.specs.declared.paint.Paint.{Paint}
 use Rattle.brc_schedule.specs.declared.schedule.Schedule.{Schedule}
 use Rattle.brc_trace.specs.TraceText.{trace_text}
-use Rattle.brc_world.specs.MachineTallies.{machine_tally}
+use Rattle.brc_machine.specs.MachineTallies.{machine_tally}
 use Rattle.brc_world.specs.Runs.{events_of}
 use Rattle.brc_world.specs.Tallies.{tally_of}
 use Rattle.brc_command.specs.declared.step_fault.StepFault.{StepFault}

@@ -4,15 +4,6 @@ ghost use Rattle.brc_model.specs.Limits.{worker_limit, row_limit, times_limit};
 
 use brc_pages::Topic;
 
-/// The greatest number of workers.
-pub const MOST_THREADS: u32 = 32;
-
-/// The greatest number of rows of a worker.
-pub const MOST_ROWS: u16 = 1024;
-
-/// The greatest number of calls of a worker.
-pub const MOST_TIMES: u32 = 1_000_000;
-
 /// The greatest bound of a worker's instructions.
 pub const MOST_STEPS: u32 = 1_000_000_000;
 

@@ -205,7 +205,7 @@ fn check_file<'a, L: Load, W: Write>(
     }
 }
 
-// Returns whether both files are standard input, which can be loaded only once.
+/// Returns whether both files are standard input, which can be loaded only once.
 pub fn read_standard_input_twice(file: &str, schedule: &str) -> bool
     ensures twice { result ≡ true → IsStandardInput file.now × IsStandardInput schedule.now }
     ensures apart { result ≡ false → IsStandardInput file.now → IsStandardInput schedule.now → ⊥ }

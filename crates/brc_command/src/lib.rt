@@ -33,9 +33,8 @@ mod tracing;
 mod unchecked;
 
 pub use accepted::write_accepted;
-pub use asked::{
-    Asked, MOST_NAMES, MOST_ROWS, MOST_STEPS, MOST_THREADS, MOST_TIMES, NO_BOUND, Run,
-};
+pub use asked::{Asked, MOST_NAMES, MOST_STEPS, NO_BOUND, Run};
+pub use brc_model::{MOST_ROWS, MOST_TIMES, MOST_WORKERS};
 pub use carrying::{carry_out, execute, execute_on};
 pub use carrying_unchecked::execute_unchecked;
 pub use drawing::picture_text;

@@ -99,7 +99,7 @@ fn last_tally<T: Terminal>(
     let taken = take_lines(&mut world, schedule.steps.as_slice(), terminal);
     terminal.clear();
     taken?;
-    world.tally(alloc)
+    world.tally()
 }
 
 /// Takes the steps of all lines in order.

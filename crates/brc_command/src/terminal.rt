@@ -7,7 +7,7 @@ ghost use Rattle.brc_report.specs.declared.paint.Paint.TheVariants.{Plain};
 use brc_report::Paint;
 use brc_work::Gate;
 
-/// After how many steps a schedule says again how far it is.
+/// How many steps between two progress reports of a schedule.
 const STEPS_BETWEEN: u64 = 65_536;
 
 /// The terminal of whoever started the command. As the gate of a run it hears of each call that the workers make.

@@ -81,7 +81,7 @@ fn write_traced<W: Write>(
     let workers = usize::from(schedule.workers);
     let mut world = World::new(alloc, checked, workers, schedule.rows, calls)?;
     trace(alloc, checked.module(), &mut world, schedule, paint, out)?;
-    let tally = world.tally(alloc)?;
+    let tally = world.tally()?;
     match write_tally(&tally, out) {
         Ok(()) => Ok(()),
         Err(_) => Err(StepFault::Output),

@@ -7,7 +7,7 @@ use Rattle.std.proofs.lemmas.Bool.Decides.{eqb_tells, leb_tells}
 use Rattle.brc_word.specs.declared.values.TheConstants.{EMPTY, NONE, NUM, LIST}
 use Rattle.brc_word.specs.Words.{half, immortal_local, local_word}
 use Rattle.brc_model.specs.declared.address.Address.{Address}
-use Rattle.brc_model.specs.declared.address.Address.TheVariants.{Local, Shared, Gate, KindOf, Marks, Cell, Slot, Resource, ThreadWord}
+use Rattle.brc_model.specs.declared.address.Address.TheVariants.{Local, Shared, Gate, KindOf, Marks, Cell, Field, Resource, ThreadWord}
 use Rattle.brc_model.specs.declared.layout.Layout.{Layout}
 use Rattle.brc_model.specs.FirstRows.{HasLines, FirstRow, NoneRow, RootRow, ImmortalList, Number, UnbornRow, line_at, start, value_of, first_row, local_of_first, kind_word_of_first, cell_of_first}
 use Rattle.brc_model.specs.Layout.{by_row, first_immortal_list, first_number}
@@ -60,8 +60,8 @@ gate_other x = record { local = λ y. refl; kind = λ y. refl; cell = λ y i. re
 pub marks_other : (t w : ℕ) → IsOther (Marks t w)
 marks_other t w = record { local = λ y. refl; kind = λ y. refl; cell = λ y i. refl }
 
-pub slot_other : (x : ℕ) → IsOther (Slot x)
-slot_other x = record { local = λ y. refl; kind = λ y. refl; cell = λ y i. refl }
+pub field_other : (x : ℕ) → IsOther (Field x)
+field_other x = record { local = λ y. refl; kind = λ y. refl; cell = λ y i. refl }
 
 pub resource_other : (x : ℕ) → IsOther (Resource x)
 resource_other x = record { local = λ y. refl; kind = λ y. refl; cell = λ y i. refl }

@@ -148,9 +148,9 @@ pub fn access_of(blocks: Blocks, duty: Duty, thread: u8, head: u32) -> Access
         // The thread learns which reference was there, and none is left in the cell (`cell_keeps_its_reference`). Rule
         // `CellEmptied`.
         Duty::SettleCell { .. } => Access::Swap { word: EMPTY },
-        // No other thread finds the resource in its slot while the host uses or closes it. Rules `SlotEmptied` and
+        // No other thread finds the resource in its field while the host uses or closes it. Rules `FieldEmptied` and
         // `ResourceLent`.
-        Duty::TakeSlot { .. } | Duty::LendSlot { .. } => Access::Swap { word: EMPTY },
+        Duty::TakeField { .. } | Duty::LendField { .. } => Access::Swap { word: EMPTY },
         // The host closes the resource, which counts also if it reports a fault (`close_uncounted`). Rule
         // `ResourceClosed`.
         Duty::CloseResource { .. } => Access::Add { more: 1 },
@@ -170,9 +170,9 @@ pub fn access_of(blocks: Blocks, duty: Duty, thread: u8, head: u32) -> Access
         // The kind is stored before the object is born, and no word of a row is set before its birth
         // (`birth_kind_skipped`). Rules `KindOfResource` and `KindOfOther`.
         Duty::BirthKind { word, .. } => Access::Store { word, before: 0 },
-        // The resource is put into its slot before the object is born (`slot_left_empty`), and back into it after each
-        // call of the host (`lent_slot_left_empty`). Rules `SlotFilled` and `ResourceReturned`.
-        Duty::BirthSlot { .. } | Duty::ReturnSlot { .. } => Access::Store {
+        // The resource is put into its field before the object is born (`field_left_empty`), and back into it after each
+        // call of the host (`lent_field_left_empty`). Rules `FieldFilled` and `ResourceReturned`.
+        Duty::BirthField { .. } | Duty::ReturnField { .. } => Access::Store {
             word: FULL,
             before: EMPTY,
         },

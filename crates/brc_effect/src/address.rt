@@ -40,10 +40,10 @@ pub fn address_of(blocks: Blocks, thread: u8, head: u32, duty: Duty) -> Address
         Duty::SettleCell { row, cell, .. } | Duty::CellSwap { row, cell, .. } => {
             Address::Cell { row, cell }
         }
-        Duty::TakeSlot { row }
-        | Duty::BirthSlot { row, .. }
-        | Duty::LendSlot { row }
-        | Duty::ReturnSlot { row } => Address::Slot { row },
+        Duty::TakeField { row }
+        | Duty::BirthField { row, .. }
+        | Duty::LendField { row }
+        | Duty::ReturnField { row } => Address::Field { row },
         Duty::CloseResource { row } => Address::Resource { row },
         Duty::SetMark { row } | Duty::TakeMark { row } | Duty::ClaimMark { row } => {
             blocks.mark_place(row)

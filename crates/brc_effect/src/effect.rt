@@ -115,7 +115,7 @@ impl Doer {
             Duty::Settle => self.settle(found),
             Duty::SettleKind { row } => self.settle_kind(row, found),
             Duty::SettleCell { row, cell, cells } => self.settle_cell(row, cell, cells, found),
-            Duty::TakeSlot { row } => self.take_slot(row),
+            Duty::TakeField { row } => self.take_field(row),
             Duty::CloseResource { row } => self.close_resource(row),
             Duty::Leave { word, rows } => self.leave(word, rows),
             Duty::Scan { word, rows } => self.scan(word, rows, found),
@@ -123,13 +123,13 @@ impl Doer {
             Duty::Finish => self.finish(),
             Duty::ClaimMark { row } => self.claim_mark(row, found),
             Duty::BirthKind { row, holding, word } => self.birth_kind(row, holding, word),
-            Duty::BirthSlot { row, holding } => self.birth_slot(row, holding),
+            Duty::BirthField { row, holding } => self.birth_field(row, holding),
             Duty::BirthLocal { .. } => self.birth_local(),
             Duty::LockGate { row } => self.lock_gate(row, found),
             Duty::UnlockGate { .. } => self.unlock_gate(),
             Duty::CellSwap { .. } => self.cell_swap(found),
-            Duty::LendSlot { row } => self.lend_slot(row, found),
-            Duty::ReturnSlot { .. } => self.return_slot(),
+            Duty::LendField { row } => self.lend_field(row, found),
+            Duty::ReturnField { .. } => self.return_field(),
         }
     }
 

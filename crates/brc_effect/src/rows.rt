@@ -15,9 +15,6 @@ pub const ROOT: u32 = 1;
 /// Main's rows in front of the workers': none's and the root's.
 pub const FRONT_ROWS: u32 = 2;
 
-/// The most cells of a list in a text of the first two versions.
-pub const TEXT_CELLS: u8 = 8;
-
 /// The cells of the root.
 pub const ROOT_CELLS: u32 = 8;
 

@@ -1,17 +1,12 @@
 //! The layout of a module's heaps and worlds: which rows its static lines have.
 
 ghost use Rattle.std.specs.Prelude.{◌≡◌, ◌≤◌};
-ghost use Rattle.brc_lang.specs.Grammar.{cells_in};
 ghost use Rattle.brc_model.specs.FirstRows.{HasLines, value_count};
 ghost use Rattle.brc_model.specs.Limits.{number_limit};
 ghost use Rattle.brc_model.specs.StepMachine.{layout_of};
 
-use crate::rows::TEXT_CELLS;
-use brc_lang::{Module, Sequence, Version};
+use brc_lang::{Module, Sequence};
 use brc_model::Layout;
-
-/// The most cells of a list.
-const MOST_CELLS: u8 = 64;
 
 /// Returns the layout of a heap or a world of the module, with this number of workers and of rows for each of them.
 pub fn layout_of(module: &Module, workers: u8, rows: u16) -> Layout
@@ -24,19 +19,9 @@ pub fn layout_of(module: &Module, workers: u8, rows: u16) -> Layout
     Layout {
         workers,
         rows,
-        cells: cells_in(module.version),
+        cells: module.version.most_cells(),
         immortal_lists,
         numbers,
-    }
-}
-
-/// Returns the most cells of a list.
-fn cells_in(version: Version) -> u8
-    ensures { result ≡ cells_in version }
-{
-    match version {
-        Version::One | Version::Two => TEXT_CELLS,
-        Version::Three => MOST_CELLS,
     }
 }
 

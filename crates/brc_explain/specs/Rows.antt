@@ -7,8 +7,8 @@ use Rattle.brc_lang.specs.declared.module.Function.{Function}
 use Rattle.brc_lang.specs.declared.module.Instr.{Instr}
 use Rattle.brc_lang.specs.declared.module.Instr.TheVariants.{Goto, Again}
 use Rattle.brc_lang.specs.Grammar.{jump}
-use Rattle.brc_model.specs.declared.state.VarState.{VarState}
-use Rattle.brc_model.specs.declared.state.VarState.TheVariants.{Empty, Owned, Caller, Locked}
+use Rattle.brc_model.specs.declared.state.Slot.{Slot}
+use Rattle.brc_model.specs.declared.state.Slot.TheVariants.{Empty, Owned, Caller, Locked}
 use Rattle.brc_model.specs.declared.state.State.{State}
 use Rattle.brc_model.specs.declared.state.Exit.{Exit}
 use Rattle.brc_model.specs.declared.state.Exit.TheVariants.{Success, Fault as FaultExit}
@@ -138,7 +138,7 @@ pub record LeadToRefusal (functions : List Function) (r : Refused) (steps : Step
 -- ---- a variable
 
 -- whether a variable's reference is its own, in a word
-abbrev pub holding_word : VarState → List ℕ
+abbrev pub holding_word : Slot → List ℕ
 holding_word Empty = []
 holding_word (Owned kind) = codes "owned "
 holding_word (Caller kind) = codes "borrowed "

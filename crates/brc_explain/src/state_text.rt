@@ -3,7 +3,7 @@
 ghost use Rattle.std.specs.Prelude.{◌≡◌};
 ghost use Rattle.brc_explain.specs.Rows.{holding_word};
 
-use brc_check::{State, VarState};
+use brc_check::{Slot, State};
 use brc_lang::{Kind, Variable, Version, write_bytes, write_number, write_pieces};
 use brc_pages::write_in;
 use brc_report::{Paint, Role};
@@ -19,42 +19,42 @@ pub fn kind_noun(kind: Kind) -> &'static str {
 }
 
 /// Returns the two words for a variable's state, as `owned` and `list`; none if it is empty.
-pub fn var_words(var: VarState) -> (&'static str, &'static str)
+pub fn var_words(var: Slot) -> (&'static str, &'static str)
     ensures { result.0.now ≡ holding_word var }
 {
     match var {
-        VarState::Empty => ("", ""),
-        VarState::Owned(kind) => ("owned ", kind_noun(kind)),
-        VarState::Caller(kind) => ("borrowed ", kind_noun(kind)),
-        VarState::Locked(Kind::Any) => ("borrowed ", "item"),
-        VarState::Locked(Kind::None) => ("borrowed ", "item none"),
-        VarState::Locked(Kind::Num) => ("borrowed ", "item num"),
-        VarState::Locked(Kind::List) => ("borrowed ", "item list"),
-        VarState::Locked(Kind::File) => ("borrowed ", "item file"),
-        VarState::Locked(Kind::Sock) => ("borrowed ", "item sock"),
+        Slot::Empty => ("", ""),
+        Slot::Owned(kind) => ("owned ", kind_noun(kind)),
+        Slot::Caller(kind) => ("borrowed ", kind_noun(kind)),
+        Slot::Locked(Kind::Any) => ("borrowed ", "item"),
+        Slot::Locked(Kind::None) => ("borrowed ", "item none"),
+        Slot::Locked(Kind::Num) => ("borrowed ", "item num"),
+        Slot::Locked(Kind::List) => ("borrowed ", "item list"),
+        Slot::Locked(Kind::File) => ("borrowed ", "item file"),
+        Slot::Locked(Kind::Sock) => ("borrowed ", "item sock"),
     }
 }
 
 /// Returns whether the variable's state is empty.
-pub fn is_empty(var: VarState) -> bool {
-    matches!(var, VarState::Empty)
+pub fn is_empty(var: Slot) -> bool {
+    matches!(var, Slot::Empty)
 }
 
 /// Returns whether the variable's state owns a reference.
-pub fn is_owned(var: VarState) -> bool {
-    matches!(var, VarState::Owned(_))
+pub fn is_owned(var: Slot) -> bool {
+    matches!(var, Slot::Owned(_))
 }
 
 /// Returns the variable's state.
-pub fn var_at(state: &State, variable: Variable) -> VarState {
-    state.vars[variable.number() as usize]
+pub fn var_at(state: &State, variable: Variable) -> Slot {
+    state.slots[variable.number() as usize]
 }
 
 /// Writes each variable that isn't empty, and the locked one, as in `v0 borrowed list, v1 owned num, locked v0`.
 pub fn write_state<W: Write>(state: &State, paint: Paint, out: &mut W) -> io::Result<()> {
     write_bytes(paint.on(Role::State).as_bytes(), out)?;
     let mut separator: &[u8] = b"";
-    for (number, var) in state.vars.iter().enumerate() {
+    for (number, var) in state.slots.iter().enumerate() {
         if !is_empty(*var) {
             write_bytes(separator, out)?;
             write_var(number as u64, *var, out)?;
@@ -72,7 +72,7 @@ pub fn write_state<W: Write>(state: &State, paint: Paint, out: &mut W) -> io::Re
     write_bytes(paint.off().as_bytes(), out)
 }
 
-fn write_var<W: Write>(number: u64, var: VarState, out: &mut W) -> io::Result<()> {
+fn write_var<W: Write>(number: u64, var: Slot, out: &mut W) -> io::Result<()> {
     let (how, what) = var_words(var);
     write_bytes(b"v", out)?;
     write_number(number, out)?;

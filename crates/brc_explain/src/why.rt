@@ -3,7 +3,7 @@
 use crate::operand_roles::{arguments_of, roles_of};
 use crate::state_text::{is_empty, is_owned, var_at, var_words, write_variable};
 use crate::walking::reached;
-use brc_check::{CheckCode, Exit, State, VarState};
+use brc_check::{CheckCode, Exit, Slot, State};
 use brc_lang::{
     Argument, Function, Instr, Kind, Passing, Variable, write_bytes, write_instruction,
     write_number, write_pieces,
@@ -203,10 +203,10 @@ fn kind_phrase(kind: Kind) -> &'static str {
     }
 }
 
-fn kind_of(var: VarState) -> Kind {
+fn kind_of(var: Slot) -> Kind {
     match var {
-        VarState::Empty => Kind::Any,
-        VarState::Owned(kind) | VarState::Caller(kind) | VarState::Locked(kind) => kind,
+        Slot::Empty => Kind::Any,
+        Slot::Owned(kind) | Slot::Caller(kind) | Slot::Locked(kind) => kind,
     }
 }
 
@@ -285,7 +285,7 @@ fn write_borrowed<W: Write>(instr: Instr, state: &State, out: &mut W) -> io::Res
     };
     write_variable(given, out)?;
     let whose: &[u8] = match var_at(state, given) {
-        VarState::Locked(_) =>
+        Slot::Locked(_) =>
             b" borrows an item: the reference is the list's, and isn't given up here.\n",
         _ => b" borrows from the caller: the reference isn't given up here.\n",
     };
@@ -311,7 +311,7 @@ fn write_still<W: Write>(instr: Instr, state: &State, out: &mut W) -> io::Result
 /// Writes which variables own references at the end of a call, but for the one that is returned.
 fn write_left<W: Write>(instr: Instr, state: &State, out: &mut W) -> io::Result<()> {
     let returned = roles_of(instr).given;
-    for (number, var) in state.vars.iter().enumerate() {
+    for (number, var) in state.slots.iter().enumerate() {
         let variable = Variable::new(number as u8);
         if is_owned(*var) && returned != Some(variable) {
             write_variable(variable, out)?;
@@ -357,7 +357,7 @@ fn write_unlocked<W: Write>(instr: Instr, state: &State, out: &mut W) -> io::Res
 
 /// Writes each variable in which two states differ.
 pub fn write_differences<W: Write>(one: &State, other: &State, out: &mut W) -> io::Result<()> {
-    for (number, (first, second)) in one.vars.iter().zip(other.vars.iter()).enumerate() {
+    for (number, (first, second)) in one.slots.iter().zip(other.slots.iter()).enumerate() {
         if first != second {
             write_bytes(b"    v", out)?;
             write_number(number as u64, out)?;
@@ -374,7 +374,7 @@ pub fn write_differences<W: Write>(one: &State, other: &State, out: &mut W) -> i
     Ok(())
 }
 
-fn write_pair<W: Write>(first: VarState, second: VarState, out: &mut W) -> io::Result<()> {
+fn write_pair<W: Write>(first: Slot, second: Slot, out: &mut W) -> io::Result<()> {
     let (how, what) = words_or_empty(first);
     let (other_how, other_what) = words_or_empty(second);
     write_pieces(
@@ -391,7 +391,7 @@ fn write_pair<W: Write>(first: VarState, second: VarState, out: &mut W) -> io::R
     )
 }
 
-fn words_or_empty(var: VarState) -> (&'static str, &'static str) {
+fn words_or_empty(var: Slot) -> (&'static str, &'static str) {
     if is_empty(var) {
         ("", "empty")
     } else {

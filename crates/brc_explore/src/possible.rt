@@ -6,16 +6,7 @@ ghost use Rattle.brc_model.specs.Limits.{row_limit};
 ghost use Rattle.brc_model.specs.Safety.{AreCalls, IsCall};
 
 use brc_lang::Module;
-use brc_model::Call;
-
-/// The most workers of a machine.
-const MOST_WORKERS: usize = 32;
-
-/// The most rows of each worker.
-const MOST_ROWS: u16 = 1024;
-
-/// The most calls of one worker.
-const MOST_TIMES: u32 = 1_000_000;
+use brc_model::{Call, MOST_ROWS, MOST_TIMES, MOST_WORKERS};
 
 /// Returns whether a machine of the module can have `rows` rows for each worker and these calls.
 pub fn is_possible(module: &Module, rows: u16, calls: &[Call]) -> bool
@@ -26,7 +17,7 @@ pub fn is_possible(module: &Module, rows: u16, calls: &[Call]) -> bool
     if rows == 0 || rows > MOST_ROWS {
         return false;
     }
-    if calls.len() == 0 || calls.len() > MOST_WORKERS {
+    if calls.len() == 0 || calls.len() > usize::from(MOST_WORKERS) {
         return false;
     }
     are_calls(module, calls)

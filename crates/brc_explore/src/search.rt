@@ -13,7 +13,7 @@ use brc_replay::{Event, goes_wrong};
 use std::alloc::Global;
 use std::collections::{HashSet, VecDeque};
 
-/// After how many states whoever waits for the search hears of it.
+/// How many states between two progress reports.
 const STATES_BETWEEN: usize = 256;
 
 /// Which threads may take the next step.

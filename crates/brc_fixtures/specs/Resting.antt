@@ -4,13 +4,13 @@ use Rattle.std.proofs.Props.{props}
 use Rattle.brc_model.specs.declared.actor.Status.TheVariants.{Running}
 use Rattle.brc_model.specs.Layout.{root_row}
 use Rattle.brc_table.specs.Views.{open_work}
-use Rattle.brc_table.specs.Uses.{FirstSlot}
+use Rattle.brc_table.specs.Uses.{FirstField}
 use Rattle.brc_table.specs.Hands.{TableState, HandState, IsOf, IsRunning}
 
--- If the hand has locked this row's object, then the slot that it took last is that one, with what it held.
+-- If the hand has locked this row's object, then the field that it took last is that one, with what it held.
 abbrev pub HasBack : HandState → Option ℕ → Type 0
 HasBack hand None = Unit {0}
-HasBack hand (Some x) = FirstSlot hand.slots x hand.view.in_slot
+HasBack hand (Some x) = FirstField hand.fields x hand.view.in_field
 
 -- The hand runs, has no work at all, and has locked this row's object, or none. The heap has no static list.
 pub record IsAtRest (heap : TableState) (hand : HandState) (locked : Option ℕ) : Type 0 where

@@ -7,17 +7,17 @@ use Rattle.brc_host.specs.HostCalls.{HostCall, Close}
 use Rattle.brc_model.specs.declared.actor.Status.TheVariants.{Running, Gone}
 use Rattle.brc_model.specs.declared.duty.Holding.TheVariants.{InFlight}
 use Rattle.brc_model.specs.declared.duty.Duty.{Duty}
-use Rattle.brc_model.specs.declared.duty.Duty.TheVariants.{ReleaseLoad, Settle, SettleKind, SettleCell, TakeSlot, SettleEnd}
+use Rattle.brc_model.specs.declared.duty.Duty.TheVariants.{ReleaseLoad, Settle, SettleKind, SettleCell, TakeField, SettleEnd}
 use Rattle.brc_model.specs.Duties.{ready, has_resource, cells_of, cells_from, release_found}
 use Rattle.brc_table.specs.declared.view.View.{View}
-use Rattle.brc_table.specs.Views.{RowsAreThere, view_by, view_after, settling, settle_first, slot_emptied, slot_emptied_by, with_next}
+use Rattle.brc_table.specs.Views.{RowsAreThere, view_by, view_after, settling, settle_first, field_emptied, field_emptied_by, with_next}
 use Rattle.brc_table.specs.Calls.{MaySettle, SettlesFrom}
 use Rattle.brc_free.specs.Works.{Works, Next, HasWorked, ComesToSettle, AtOnce, InWork, to_settle, closes_by}
 use Rattle.brc_heap.specs.Steps.{Keeps}
 use Rattle.brc_heap.proofs.Keeping.{keeps_then, keeps_beside, did_keeps}
 use Rattle.brc_heap.proofs.Stepping.{finalising_unlocked, gate_apart}
 use Rattle.brc_free.proofs.Working.{head_unlocked, worked_first, worked_on, worked_then}
-use Rattle.brc_free.proofs.FirstDuties.{settle_kind_first, settle_cell_first, take_slot_first, settle_end_first}
+use Rattle.brc_free.proofs.FirstDuties.{settle_kind_first, settle_cell_first, take_field_first, settle_end_first}
 
 -- ---- taking the first object off the chain
 
@@ -73,12 +73,12 @@ taken_off v w x found rest some row at is there =
 -- A file or a socket has a resource to be closed,
 pub kind_has_resource : (v u w : View) (cs : List HostCall) (x found : ℕ) (rest : List Duty)
     → HasWorked v cs (SettleKind x ∷ rest) u → w ≡ view_after u found → has_resource found ≡ true
-    → HasWorked v cs (TakeSlot x ∷ rest) w
+    → HasWorked v cs (TakeField x ∷ rest) w
 kind_has_resource v u w cs x found rest at is has =
-    worked_on v u w cs (SettleKind x) rest (TakeSlot x ∷ rest) found at (settle_kind_first u.actor.head x rest) refl
+    worked_on v u w cs (SettleKind x) rest (TakeField x ∷ rest) found at (settle_kind_first u.actor.head x rest) refl
     refl is
     refl refl (record { locked = refl; cells = λ y i is. refl; gates = λ y is. refl })
-    (ap (λ (b : Bool). (if b then TakeSlot x ∷ [] else cells_from x 0 (cells_of found)) ++ rest) has)
+    (ap (λ (b : Bool). (if b then TakeField x ∷ [] else cells_from x 0 (cells_of found)) ++ rest) has)
 
 -- and any other object may have cells.
 pub kind_has_cells : (v u w : View) (cs : List HostCall) (x found : ℕ) (rest : List Duty)
@@ -88,7 +88,7 @@ kind_has_cells v u w cs x found rest at is none =
     worked_on v u w cs (SettleKind x) rest (cells_from x 0 (cells_of found) ++ rest) found at
     (settle_kind_first u.actor.head x rest) refl refl is
     refl refl (record { locked = refl; cells = λ y i is. refl; gates = λ y is. refl })
-    (ap (λ (b : Bool). (if b then TakeSlot x ∷ [] else cells_from x 0 (cells_of found)) ++ rest) none)
+    (ap (λ (b : Bool). (if b then TakeField x ∷ [] else cells_from x 0 (cells_of found)) ++ rest) none)
 
 -- These may be as many as the code has counted.
 pub cells_next : (v u w : View) (x found count : ℕ) (rest : List Duty) → HasWorked v [] (SettleKind x ∷ Settle ∷ rest) u
@@ -165,24 +165,24 @@ cells_end x n rest =
 
 -- The object is closed: one without a resource,
 pub ended : (v u w : View) (cs : List HostCall) (x found : ℕ) (rest : List Duty) → HasWorked v cs (SettleEnd x ∷ rest) u
-    → w ≡ view_after (slot_emptied u) found → v.actor.locked ≢ Some x → HasWorked v cs rest w
+    → w ≡ view_after (field_emptied u) found → v.actor.locked ≢ Some x → HasWorked v cs rest w
 ended v u w cs x found rest at is apart =
     let has : u.actor.agenda ≡ SettleEnd x ∷ rest = at.agenda ∙ settle_end_first u.actor.head x rest in
     worked_on v u w cs (SettleEnd x) rest rest found at (settle_end_first u.actor.head x rest) refl refl
-    (is ∙ ap (λ (ds : List Duty). view_after (slot_emptied_by ds u) found) has)
+    (is ∙ ap (λ (ds : List Duty). view_after (field_emptied_by ds u) found) has)
     refl refl (record { locked = refl; cells = λ y i is. refl; gates = gate_apart v u x apart at.keeps.locked }) refl
 
 -- and one whose resource was closed.
 pub ended_empty : (v u w : View) (cs : List HostCall) (x found : ℕ) (failed : Bool) (rest : List Duty)
-    → HasWorked v cs (TakeSlot x ∷ rest) u → w ≡ view_after (slot_emptied u) found → v.actor.locked ≢ Some x
+    → HasWorked v cs (TakeField x ∷ rest) u → w ≡ view_after (field_emptied u) found → v.actor.locked ≢ Some x
     → HasWorked v (cs ++ Close failed ∷ []) rest w
 ended_empty v u w cs x found failed rest at is apart =
-    let has : u.actor.agenda ≡ TakeSlot x ∷ rest = at.agenda ∙ take_slot_first u.actor.head x rest in
+    let has : u.actor.agenda ≡ TakeField x ∷ rest = at.agenda ∙ take_field_first u.actor.head x rest in
     let emptied : View = with_next u (SettleEnd x ∷ rest) in
     let does : w ≡ view_by emptied (SettleEnd x ∷ rest) found =
-    is ∙ ap (λ (ds : List Duty). view_after (slot_emptied_by ds u) found) has in
-    let work : Works v (cs ++ Close failed ∷ []) (view_after (slot_emptied u) found) =
-    subst (λ (ds : List Duty). Works v (cs ++ closes_by ds failed) (view_after (slot_emptied u) found)) has
+    is ∙ ap (λ (ds : List Duty). view_after (field_emptied_by ds u) found) has in
+    let work : Works v (cs ++ Close failed ∷ []) (view_after (field_emptied u) found) =
+    subst (λ (ds : List Duty). Works v (cs ++ closes_by ds failed) (view_after (field_emptied u) found)) has
     (Next cs u found failed at.works) in
     record {
       agenda = ap (λ (z : View). z.actor.agenda) does ∙ ap (λ (z : View). ready z.actor.head rest) (sym does);

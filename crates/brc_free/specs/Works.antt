@@ -5,10 +5,10 @@ use Rattle.brc_model.specs.declared.actor.Status.TheVariants.{Running, Gone}
 use Rattle.brc_model.specs.declared.duty.Holding.TheVariants.{InFlight}
 use Rattle.brc_model.specs.declared.duty.Reason.TheVariants.{Own, Handed}
 use Rattle.brc_model.specs.declared.duty.Duty.{Duty}
-use Rattle.brc_model.specs.declared.duty.Duty.TheVariants.{ReleaseLoad, SharedLoad, MergeSwap, MergeLoad, Settle, SettleCell, TakeSlot}
+use Rattle.brc_model.specs.declared.duty.Duty.TheVariants.{ReleaseLoad, SharedLoad, MergeSwap, MergeLoad, Settle, SettleCell, TakeField}
 use Rattle.brc_model.specs.Duties.{ready, once_merged, cells_from}
 use Rattle.brc_table.specs.declared.view.View.{View}
-use Rattle.brc_table.specs.Views.{view_after, slot_emptied, without_reference, turned, with_next}
+use Rattle.brc_table.specs.Views.{view_after, field_emptied, without_reference, turned, with_next}
 use Rattle.brc_effect.specs.declared.outcomes.LocalRelease.{LocalRelease}
 use Rattle.brc_heap.specs.Calls.{local_left}
 use Rattle.brc_heap.specs.Steps.{Keeps}
@@ -19,15 +19,15 @@ use Rattle.brc_free.specs.declared.giving_up.Remaining.TheVariants as remaining
 
 -- the call by which the first duty closes the resource of a dying object
 abbrev pub closes_by : List Duty → Bool → List HostCall
-closes_by (TakeSlot x ∷ rest) failed = Close failed ∷ []
+closes_by (TakeField x ∷ rest) failed = Close failed ∷ []
 closes_by _ failed = []
 
--- The hand has done duty after duty, and nothing else. Each resource of a dying object was taken out of its slot and
+-- The hand has done duty after duty, and nothing else. Each resource of a dying object was taken out of its field and
 -- closed before the object was closed: these are the calls of the host, in order.
 pub data Works (v : View) : List HostCall → View → Type 0 where
   Refl : Works v [] v
   Next : (closes : List HostCall) (u : View) (found : ℕ) (failed : Bool) → Works v closes u
-      → Works v (closes ++ closes_by u.actor.agenda failed) (view_after (slot_emptied u) found)
+      → Works v (closes ++ closes_by u.actor.agenda failed) (view_after (field_emptied u) found)
 
 -- The hand has done duty after duty, with these closes of the host, and these duties are left, but for those that need
 -- no step.
@@ -102,10 +102,10 @@ abbrev pub cells_left : List Duty → List Duty
 cells_left (SettleCell x i n ∷ rest) = cells_from x (i + 1) n ++ rest
 cells_left _ = []
 
--- The next duty is to take the resource of row x out of its slot.
+-- The next duty is to take the resource of row x out of its field.
 pub record TakesNext (x : ℕ) (ds : List Duty) : Type 0 where
   pub rest : List Duty
-  pub next : ds ≡ TakeSlot x ∷ rest
+  pub next : ds ≡ TakeField x ∷ rest
 
 -- The next duties are to merge the object of row x, because the hand has taken its mark, and then to settle.
 pub record ClaimedNext (x : ℕ) (ds : List Duty) : Type 0 where

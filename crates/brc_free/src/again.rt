@@ -6,9 +6,9 @@ ghost use Rattle.brc_table.specs.Hands.{IsOf, KeepsButView};
 ghost use Rattle.brc_heap.specs.Tries.{CarriesNext, GivesUpNext};
 ghost use Rattle.brc_free.specs.Works.{HasWorked, behind, carried_left};
 
-use crate::backoff::Backoff;
 use crate::finaliser::Finaliser;
 use crate::merging::merge;
+use crate::waiting::Waits;
 use brc_heap::{Hand, Heap, Looked, Marker, MergeStep, SharedRelease, Work};
 use std::sync::Wait;
 
@@ -16,7 +16,8 @@ use std::sync::Wait;
 /// again until no other thread has changed the shared word in between.
 #[cold]
 #[inline(never)]
-pub(crate) fn merge_again<T: Drop, R: Wait>(
+pub(crate) fn merge_again<T: Drop, Q: Waits, R: Wait>(
+    queue: &Q,
     rt: &R,
     heap: &Heap<T>,
     hand: &mut Hand<T>,
@@ -29,9 +30,8 @@ pub(crate) fn merge_again<T: Drop, R: Wait>(
     ensures kept { KeepsButView hand.old hand.new }
     ensures work { HasWorked hand.old.view [] (carried_left hand.old.view.actor.agenda) hand.new.view }
 {
-    let mut backoff = Backoff::new();
     for _ in rt.forever() {
-        backoff.wait();
+        queue.wait();
         match heap.merge(hand, row, carried, Work::Next) {
             MergeStep::Kept | MergeStep::Dying => return,
             MergeStep::Again => {}
@@ -40,7 +40,7 @@ pub(crate) fn merge_again<T: Drop, R: Wait>(
     unreachable!()
 }
 
-impl<'h, T: Drop, Q: Marker<T>> Finaliser<'h, T, Q> {
+impl<'h, T: Drop, Q: Marker<T> + Waits> Finaliser<'h, T, Q> {
     /// Does the next duties, behind which others may come: gives up a reference in the row's shared word, and tries
     /// again until no other thread has changed the word in between, as `give_up`.
     #[cold]
@@ -59,15 +59,14 @@ impl<'h, T: Drop, Q: Marker<T>> Finaliser<'h, T, Q> {
         ensures kept { KeepsButView hand.old hand.new }
         ensures work { HasWorked hand.old.view [] (behind hand.old.view.actor.agenda) hand.new.view }
     {
-        let mut backoff = Backoff::new();
         for _ in rt.forever() {
             match heap.release_shared(hand, row, Work::Next) {
                 SharedRelease::Kept | SharedRelease::Dying => return,
                 SharedRelease::Queued => match queue.post(hand, row) {
                     Looked::Left => return,
-                    Looked::Claimed => merge(rt, heap, hand, row),
+                    Looked::Claimed => merge(queue, rt, heap, hand, row),
                 },
-                SharedRelease::Again => backoff.wait(),
+                SharedRelease::Again => queue.wait(),
             }
         }
         unreachable!()

@@ -8,10 +8,11 @@ ghost use Rattle.brc_model.specs.declared.duty.Duty.{Duty};
 ghost use Rattle.brc_model.specs.declared.duty.Duty.TheVariants.{Settle, SettleEnd};
 ghost use Rattle.brc_model.specs.Duties.{has_resource, cells_of, cells_from};
 ghost use Rattle.brc_table.specs.Hands.{IsOf, KeepsButView};
-ghost use Rattle.brc_table.specs.Uses.{FirstSlot, behind_slot};
+ghost use Rattle.brc_table.specs.Uses.{FirstField, behind_field};
 ghost use Rattle.brc_free.specs.Works.{HasWorked, ComesToSettle, to_settle, EmptiesNext, CellNext, TakesNext, ClaimedNext, behind, cells_left, claimed_left};
 
 use crate::merging::merge;
+use crate::waiting::Waits;
 use brc_effect::kinds::{cells_of, has_resource};
 use brc_heap::{Hand, Heap, Marker};
 use brc_host::{Fault, Host};
@@ -41,12 +42,12 @@ fn is_plain(word: u64) -> bool
 /// What finalises the dying objects of a heap. It puts objects that other threads own into the queues that it was
 /// given.
 #[derive(Drop)]
-pub struct Finaliser<'h, T: Drop, Q: Marker<T>> {
+pub struct Finaliser<'h, T: Drop, Q: Marker<T> + Waits> {
     pub(crate) heap: &'h Heap<T>,
     pub(crate) queue: &'h Q,
 }
 
-impl<'h, T: Drop, Q: Marker<T>> Model for Finaliser<'h, T, Q> {
+impl<'h, T: Drop, Q: Marker<T> + Waits> Model for Finaliser<'h, T, Q> {
     ghost use Rattle.std.specs.Prelude.{◌≡◌};
     ghost use Rattle.brc_table.specs.Hands.{TableState};
 
@@ -57,7 +58,7 @@ impl<'h, T: Drop, Q: Marker<T>> Model for Finaliser<'h, T, Q> {
     ghost invariant = { λ f. Q.heap f.queue.now ≡ f.heap.now };
 }
 
-impl<'h, T: Drop, Q: Marker<T>> Finaliser<'h, T, Q> {
+impl<'h, T: Drop, Q: Marker<T> + Waits> Finaliser<'h, T, Q> {
     /// Returns what finalises the dying objects of the heap, with the queues of the heap's threads.
     pub fn new(heap: &'h Heap<T>, queue: &'h Q) -> Finaliser<'h, T, Q>
         requires { Q.heap queue.now ≡ heap.now }
@@ -77,7 +78,7 @@ impl<'h, T: Drop, Q: Marker<T>> Finaliser<'h, T, Q> {
         requires duty { (rest : List Duty) × ComesToSettle hand.old.view rest }
         ensures table { IsOf self.now hand.new }
         ensures carried { hand.new.carried ≡ hand.old.carried }
-        ensures slots { hand.new.slots ≡ hand.old.slots }
+        ensures fields { hand.new.fields ≡ hand.old.fields }
         ensures chain { hand.new.view.actor.head ≡ 0 }
         ensures work { (rest : List Duty) → ComesToSettle hand.old.view rest → (closes : List HostCall)
             × HasWorked (to_settle rest hand.old.view) closes rest hand.new.view
@@ -109,7 +110,7 @@ impl<'h, T: Drop, Q: Marker<T>> Finaliser<'h, T, Q> {
         requires duty { (rest : List Duty) × ComesToSettle hand.old.view rest }
         ensures table { IsOf heap.now hand.new }
         ensures carried { hand.new.carried ≡ hand.old.carried }
-        ensures slots { hand.new.slots ≡ hand.old.slots }
+        ensures fields { hand.new.fields ≡ hand.old.fields }
         ensures chain { hand.new.view.actor.head ≡ 0 }
         ensures work { (rest : List Duty) → ComesToSettle hand.old.view rest → (closes : List HostCall)
             × HasWorked (to_settle rest hand.old.view) closes rest hand.new.view
@@ -142,14 +143,14 @@ impl<'h, T: Drop, Q: Marker<T>> Finaliser<'h, T, Q> {
         requires duty { ClaimedNext row hand.old.view.actor.agenda }
         ensures table { IsOf self.now hand.new }
         ensures carried { hand.new.carried ≡ hand.old.carried }
-        ensures slots { hand.new.slots ≡ hand.old.slots }
+        ensures fields { hand.new.fields ≡ hand.old.fields }
         ensures chain { hand.new.view.actor.head ≡ 0 }
         ensures work { (closes : List HostCall)
             × HasWorked hand.old.view closes (claimed_left hand.old.view.actor.agenda) hand.new.view
             × (result ≡ raised (close_faults closes) 0)
             × HasAnswered H.answers H.counts host.old closes host.new }
     {
-        merge(rt, self.heap, hand, row);
+        merge(self.queue, rt, self.heap, hand, row);
         self.give_up(rt, hand, row);
         self.settle(rt, hand, host)
     }
@@ -201,10 +202,10 @@ impl<'h, T: Drop, Q: Marker<T>> Finaliser<'h, T, Q> {
         requires table { IsOf heap.now hand.old }
         requires alive { hand.old.view.actor.status ≢ Gone }
         requires duty { TakesNext row hand.old.view.actor.agenda }
-        requires slot { FirstSlot hand.old.slots row 1 }
+        requires field { FirstField hand.old.fields row 1 }
         ensures table { hand.new.table ≡ hand.old.table }
         ensures carried { hand.new.carried ≡ hand.old.carried }
-        ensures slots { hand.new.slots ≡ behind_slot hand.old.slots }
+        ensures fields { hand.new.fields ≡ behind_field hand.old.fields }
         ensures work { (closes : List HostCall) × HasWorked hand.old.view closes (behind hand.old.view.actor.agenda)
             hand.new.view
             × (result ≡ close_faults closes) × HasAnswered H.answers H.counts host.old closes host.new }
@@ -232,10 +233,10 @@ impl<'h, T: Drop, Q: Marker<T>> Finaliser<'h, T, Q> {
         requires table { IsOf heap.now hand.old }
         requires alive { hand.old.view.actor.status ≢ Gone }
         requires duty { EmptiesNext row cells hand.old.view.actor.agenda }
-        requires slot { FirstSlot hand.old.slots row 0 }
+        requires field { FirstField hand.old.fields row 0 }
         ensures table { hand.new.table ≡ hand.old.table }
         ensures carried { hand.new.carried ≡ hand.old.carried }
-        ensures slots { hand.new.slots ≡ behind_slot hand.old.slots }
+        ensures fields { hand.new.fields ≡ behind_field hand.old.fields }
         ensures work { (rest : List Duty) → hand.old.view.actor.agenda ≡ cells_from row 0 cells ++ rest
             → HasWorked hand.old.view [] rest hand.new.view }
     {

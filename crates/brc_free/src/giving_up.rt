@@ -1,4 +1,4 @@
-//! Giving references up in the midst of other work.
+//! Giving references up while other work waits.
 
 ghost use Rattle.std.specs.Prelude.{◌≡◌, ◌≢◌, List, [], ◌++◌};
 ghost use Rattle.brc_model.specs.declared.duty.Duty.{Duty};
@@ -9,20 +9,27 @@ ghost use Rattle.brc_free.specs.Works.{HasWorked, ReleasesNext, EndsRelease, IsL
 
 use crate::finaliser::Finaliser;
 use crate::merging::merge;
+use crate::waiting::Waits;
 use brc_heap::{Hand, Heap, LocalRelease, Looked, Marker, SharedRelease, Work, ZeroStep};
 use brc_model::{Duty, Holding};
 use std::sync::Wait;
 
 /// Does what `merge` does, as a call: an owner's last local reference is mostly the last of all.
 #[inline(never)]
-fn merge_at_zero<T: Drop, R: Wait>(rt: &R, heap: &Heap<T>, hand: &mut Hand<T>, row: u32)
+fn merge_at_zero<T: Drop, Q: Waits, R: Wait>(
+    queue: &Q,
+    rt: &R,
+    heap: &Heap<T>,
+    hand: &mut Hand<T>,
+    row: u32,
+)
     requires table { IsOf heap.now hand.old }
     requires alive { hand.old.view.actor.status ≢ Gone }
     requires duty { MergesNext row hand.old.view.actor.agenda }
     ensures kept { KeepsButView hand.old hand.new }
     ensures work { HasWorked hand.old.view [] (merge_left hand.old.view.actor.agenda) hand.new.view }
 {
-    merge(rt, heap, hand, row);
+    merge(queue, rt, heap, hand, row);
 }
 
 /// What a release leaves to a call, once the hand has made the steps of an owner.
@@ -36,7 +43,7 @@ pub(crate) enum Remaining {
     GiveUp,
 }
 
-impl<'h, T: Drop, Q: Marker<T>> Finaliser<'h, T, Q> {
+impl<'h, T: Drop, Q: Marker<T> + Waits> Finaliser<'h, T, Q> {
     /// Does the next duties, behind which others may come: gives up a reference that came out of a cell.
     pub(crate) fn release_item<R: Wait>(&self, rt: &R, hand: &mut Hand<T>, row: u32)
         requires table { IsOf self.now hand.old }
@@ -120,7 +127,7 @@ impl<'h, T: Drop, Q: Marker<T>> Finaliser<'h, T, Q> {
     {
         match remaining {
             Remaining::Nothing => {}
-            Remaining::Merge => merge_at_zero(rt, heap, hand, row),
+            Remaining::Merge => merge_at_zero(queue, rt, heap, hand, row),
             Remaining::GiveUp => Self::give_up_as_other(heap, queue, rt, hand, row),
         }
     }
@@ -176,7 +183,7 @@ impl<'h, T: Drop, Q: Marker<T>> Finaliser<'h, T, Q> {
         match queue.post(hand, row) {
             Looked::Left => {}
             Looked::Claimed => {
-                merge(rt, heap, hand, row);
+                merge(queue, rt, heap, hand, row);
                 Self::give_up_again(heap, queue, rt, hand, row);
             }
         }

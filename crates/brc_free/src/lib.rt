@@ -6,13 +6,13 @@
 #![tactic(auto)]
 
 mod again;
-mod backoff;
 mod finaliser;
 mod giving_up;
 mod merging;
 mod releasing;
 mod scanned;
+mod waiting;
 
-pub use backoff::Backoff;
 pub use finaliser::Finaliser;
 pub use merging::merge;
+pub use waiting::{Waits, wait_by};

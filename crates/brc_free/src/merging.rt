@@ -1,4 +1,4 @@
-//! Merging an object's two counts in the midst of other work.
+//! Merging an object's two counts while other work waits.
 
 ghost use Rattle.std.specs.Prelude.{◌≡◌, ◌≢◌, []};
 ghost use Rattle.brc_model.specs.declared.actor.Status.TheVariants.{Gone};
@@ -7,6 +7,7 @@ ghost use Rattle.brc_heap.specs.Tries.{MergesNext};
 ghost use Rattle.brc_free.specs.Works.{HasWorked, merge_left};
 
 use crate::again::merge_again;
+use crate::waiting::Waits;
 use brc_heap::{Hand, Heap, MergeStep, Work};
 use std::sync::Wait;
 
@@ -15,7 +16,13 @@ use std::sync::Wait;
 /// reference goes to the head of the hand's dying chain. A merge for a handed reference leaves the duty to give that
 /// up.
 #[inline(always)]
-pub fn merge<T: Drop, R: Wait>(rt: &R, heap: &Heap<T>, hand: &mut Hand<T>, row: u32)
+pub fn merge<T: Drop, Q: Waits, R: Wait>(
+    queue: &Q,
+    rt: &R,
+    heap: &Heap<T>,
+    hand: &mut Hand<T>,
+    row: u32,
+)
     requires table { IsOf heap.now hand.old }
     requires alive { hand.old.view.actor.status ≢ Gone }
     requires duty { MergesNext row hand.old.view.actor.agenda }
@@ -28,6 +35,6 @@ pub fn merge<T: Drop, R: Wait>(rt: &R, heap: &Heap<T>, hand: &mut Hand<T>, row: 
     };
     match heap.merge(hand, row, carried, Work::Next) {
         MergeStep::Kept | MergeStep::Dying => {}
-        MergeStep::Again => merge_again(rt, heap, hand, row, carried),
+        MergeStep::Again => merge_again(queue, rt, heap, hand, row, carried),
     }
 }

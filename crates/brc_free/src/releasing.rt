@@ -7,10 +7,11 @@ ghost use Rattle.brc_free.specs.Works.{HasWorked, HasReleased};
 
 use crate::finaliser::Finaliser;
 use crate::giving_up::Remaining;
+use crate::waiting::Waits;
 use brc_heap::{Hand, Marker};
 use std::sync::Wait;
 
-impl<'h, T: Drop, Q: Marker<T>> Finaliser<'h, T, Q> {
+impl<'h, T: Drop, Q: Marker<T> + Waits> Finaliser<'h, T, Q> {
     /// Gives up a reference to an object (`Py_DECREF`). An object without a reference goes to the head of the hand's
     /// dying chain: `settle` finalises it.
     ///
@@ -24,7 +25,7 @@ impl<'h, T: Drop, Q: Marker<T>> Finaliser<'h, T, Q> {
         requires idle { HasNoWork hand.old.view row }
         ensures table { IsOf self.now hand.new }
         ensures carried { hand.new.carried ≡ hand.old.carried }
-        ensures slots { hand.new.slots ≡ hand.old.slots }
+        ensures fields { hand.new.fields ≡ hand.old.fields }
         ensures work { (word : ℕ) × HasWorked (released_locally hand.old.view row word) [] [] hand.new.view }
         ensures released { HasReleased row hand.old.view hand.new.view }
     {

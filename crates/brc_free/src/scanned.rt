@@ -8,12 +8,12 @@ ghost use Rattle.brc_table.specs.Hands.{IsOf};
 ghost use Rattle.brc_free.specs.Works.{HasWorked, ClaimedNext, claimed_left};
 
 use crate::finaliser::Finaliser;
-use crate::merging::merge;
+use crate::waiting::Waits;
 use brc_heap::{Hand, Marker};
 use brc_host::Host;
 use std::sync::Wait;
 
-impl<'h, T: Drop, Q: Marker<T>> Finaliser<'h, T, Q> {
+impl<'h, T: Drop, Q: Marker<T> + Waits> Finaliser<'h, T, Q> {
     /// Does what `merge_claimed` does, as a call: a scan merges few objects.
     #[inline(never)]
     pub fn merge_scanned<R: Wait, H: Host<Res = T>>(
@@ -28,15 +28,13 @@ impl<'h, T: Drop, Q: Marker<T>> Finaliser<'h, T, Q> {
         requires duty { ClaimedNext row hand.old.view.actor.agenda }
         ensures table { IsOf self.now hand.new }
         ensures carried { hand.new.carried ≡ hand.old.carried }
-        ensures slots { hand.new.slots ≡ hand.old.slots }
+        ensures fields { hand.new.fields ≡ hand.old.fields }
         ensures chain { hand.new.view.actor.head ≡ 0 }
         ensures work { (closes : List HostCall)
             × HasWorked hand.old.view closes (claimed_left hand.old.view.actor.agenda) hand.new.view
             × (result ≡ raised (close_faults closes) 0)
             × HasAnswered H.answers H.counts host.old closes host.new }
     {
-        merge(rt, self.heap, hand, row);
-        self.give_up(rt, hand, row);
-        self.settle(rt, hand, host)
+        self.merge_claimed(rt, hand, host, row)
     }
 }

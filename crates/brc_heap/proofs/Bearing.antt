@@ -5,34 +5,34 @@ use Rattle.std.specs.List.{list_any}
 use Rattle.std.proofs.lemmas.Bool.{eq-eqb}
 use Rattle.std.proofs.lemmas.List.Folds.{list_any-append}
 use Rattle.brc_model.specs.declared.duty.Duty.{Duty}
-use Rattle.brc_model.specs.declared.duty.Duty.TheVariants.{BirthKind, BirthSlot, BirthLocal}
+use Rattle.brc_model.specs.declared.duty.Duty.TheVariants.{BirthKind, BirthField, BirthLocal}
 use Rattle.brc_model.specs.declared.duty.Holding.TheVariants.{AsCaller}
 use Rattle.brc_model.specs.Duties.{ready, has_resource}
 use Rattle.brc_table.specs.declared.view.View.{View}
-use Rattle.brc_table.specs.Views.{view_by, view_after, event_of, bearing, open_work, next_row, slot_filled, slot_filled_by, with_next, with_work}
+use Rattle.brc_table.specs.Views.{view_by, view_after, event_of, bearing, open_work, next_row, field_filled, field_filled_by, with_next, with_work}
 use Rattle.brc_table.specs.Calls.{OwnsFirst}
 use Rattle.brc_table.specs.KnownWords.{shows_kind, knows_kind}
 use Rattle.brc_heap.specs.Calls.{born, with_newborn, HasBorn}
 use Rattle.brc_heap.specs.Steps.{Keeps}
 use Rattle.brc_heap.proofs.Keeping.{keeps_then, keeps_beside, did_on}
 
--- A hand whose next duty is to put the new object's resource into its slot, or to store its first local word, does the
+-- A hand whose next duty is to put the new object's resource into its field, or to store its first local word, does the
 -- latter next once the resource is there.
 filled_next : (u : View) (x head : ℕ) (has : Bool)
-    → u.actor.agenda ≡ ready head ((if has then BirthSlot x AsCaller ∷ [] else BirthLocal x AsCaller ∷ []) ++ [])
-    → slot_filled u ≡ with_next u (BirthLocal x AsCaller ∷ [])
-filled_next u x zero true is = ap (λ (ds : List Duty). slot_filled_by ds u) is
-filled_next u x (suc head) true is = ap (λ (ds : List Duty). slot_filled_by ds u) is
+    → u.actor.agenda ≡ ready head ((if has then BirthField x AsCaller ∷ [] else BirthLocal x AsCaller ∷ []) ++ [])
+    → field_filled u ≡ with_next u (BirthLocal x AsCaller ∷ [])
+filled_next u x zero true is = ap (λ (ds : List Duty). field_filled_by ds u) is
+filled_next u x (suc head) true is = ap (λ (ds : List Duty). field_filled_by ds u) is
 filled_next u x zero false is =
-    ap (λ (ds : List Duty). slot_filled_by ds u) is ∙ ap (with_next u) is
+    ap (λ (ds : List Duty). field_filled_by ds u) is ∙ ap (with_next u) is
 filled_next u x (suc head) false is =
-    ap (λ (ds : List Duty). slot_filled_by ds u) is ∙ ap (with_next u) is
+    ap (λ (ds : List Duty). field_filled_by ds u) is ∙ ap (with_next u) is
 
 -- the hand before it stores the first local word
 abbrev pub begun : View → ℕ → View
 begun v word = with_next (view_after (bearing v word) 0) (BirthLocal (next_row v) AsCaller ∷ [])
 
-pub begun_is : (v : View) (word : ℕ) → slot_filled (view_after (bearing v word) 0) ≡ begun v word
+pub begun_is : (v : View) (word : ℕ) → field_filled (view_after (bearing v word) 0) ≡ begun v word
 begun_is v word = filled_next (view_after (bearing v word) 0) (next_row v) v.actor.head (has_resource word) refl
 
 -- A birth is two stores.
@@ -94,13 +94,13 @@ has_born v word =
 
 -- What comes next in a birth.
 owns_by : (x head : ℕ) (has : Bool)
-    → OwnsFirst x (ready head ((if has then BirthSlot x AsCaller ∷ [] else BirthLocal x AsCaller ∷ []) ++ []))
+    → OwnsFirst x (ready head ((if has then BirthField x AsCaller ∷ [] else BirthLocal x AsCaller ∷ []) ++ []))
 owns_by x zero true = refl
 owns_by x (suc head) true = refl
 owns_by x zero false = refl
 owns_by x (suc head) false = refl
 
--- Its last duty is to put the resource into the slot, or to store the first local word.
+-- Its last duty is to put the resource into the field, or to store the first local word.
 owns_next : (v : View) (word : ℕ) → OwnsFirst (next_row v) (view_after (bearing v word) 0).actor.agenda
 owns_next v word = owns_by (next_row v) v.actor.head (has_resource word)
 

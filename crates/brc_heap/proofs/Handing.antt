@@ -68,7 +68,7 @@ started_keeps u thread =
       aside = refl;
       used = refl;
       locked = refl;
-      in_slot = refl;
+      in_field = refl;
       given = refl;
       kinds = λ y word seen.
           list_any-append (shows_kind y word) u.trace (event ∷ [])

@@ -4,7 +4,7 @@ use Rattle.std.specs.Prelude.{◌==◌, if◌then◌else◌}
 use Rattle.std.proofs.lemmas.Bool.{eq-eqb, ne_eqb}
 use Rattle.brc_word.specs.Words.{free_word}
 use Rattle.brc_model.specs.declared.duty.Duty.{Duty}
-use Rattle.brc_model.specs.declared.duty.Duty.TheVariants.{Die, Settle, TakeSlot, Scan, TakeFound}
+use Rattle.brc_model.specs.declared.duty.Duty.TheVariants.{Die, Settle, TakeField, Scan, TakeFound}
 use Rattle.brc_model.specs.Duties.{ready, continuation, new_head}
 use Rattle.brc_model.specs.Machine.{is_running, status_by, used_by}
 use Rattle.brc_model.specs.OpenWork.{is_about, is_finalising, finalised, may_wait}
@@ -48,7 +48,7 @@ die_first zero x rest = refl
 die_first (suc head) x rest = refl
 
 plain_takes : (d : Duty) (rest : List Duty) → is_plain d ≡ true → TakesNothing (d ∷ rest)
-plain_takes (TakeSlot x) rest is = absurd cc
+plain_takes (TakeField x) rest is = absurd cc
 plain_takes _ rest is = tt
 
 -- ---- one duty more

@@ -16,7 +16,7 @@ use Rattle.brc_model.specs.FirstRows.{first_kind_word}
 use Rattle.brc_model.specs.declared.address.Address.TheVariants.{Local}
 use Rattle.brc_table.specs.declared.view.View.{View}
 use Rattle.brc_model.specs.declared.event.WordEvent.{WordEvent}
-use Rattle.brc_table.specs.Views.{view_after, resumed, turned, slot_filled, asking, retaining, releasing, bearing, work_about, open_work, with_work, rested, next_row, is_given}
+use Rattle.brc_table.specs.Views.{view_after, resumed, turned, field_filled, asking, retaining, releasing, bearing, work_about, open_work, with_work, rested, next_row, is_given}
 use Rattle.brc_table.specs.KnownWords.{knows_kind}
 use Rattle.brc_table.specs.Hands.{TableState, HandState, MayWait, carried_of}
 use Rattle.brc_heap.specs.Steps.{Keeps}
@@ -112,13 +112,13 @@ Merges r hand x = MergeIsFirst r hand x ⊎ ((carried : ℕ) × MergeIsBegun r h
 -- ---- kinds
 
 -- The hand has loaded the row's kind word. It is the word that the hand has seen there before, if it has. If the hand
--- has locked the object, the word says whether the object's slot has a resource. That of an object that is there from
+-- has locked the object, the word says whether the object's field has a resource. That of an object that is there from
 -- the start is its first one.
 pub record SeesKind (heap : TableState) (x word : ℕ) (v u : View) : Type 0 where
   pub view_is : u ≡ view_after (asking v x) word
   pub seen : knows_kind x word u ≡ true
   pub stays : (before : ℕ) → 0 < before → knows_kind x before v ≡ true → word ≡ before
-  pub slot : v.actor.locked ≡ Some x → v.in_slot ≡ resources_of word
+  pub field : v.actor.locked ≡ Some x → v.in_field ≡ resources_of word
   pub first : 0 < first_kind_word heap.lines heap.layout x → word ≡ first_kind_word heap.lines heap.layout x
 
 -- ---- births
@@ -136,10 +136,10 @@ IsBornWith cells kinds.File arg = arg ≡ 0
 IsBornWith cells kinds.Sock arg = arg ≡ 0
 IsBornWith cells _ arg = ⊥
 
--- the hand has stored the kind word of a new object, put its resource into its slot if the kind has one, and stored its
+-- the hand has stored the kind word of a new object, put its resource into its field if the kind has one, and stored its
 -- first local word
 abbrev pub born : View → ℕ → View
-born v word = view_after (slot_filled (view_after (bearing v word) 0)) 0
+born v word = view_after (field_filled (view_after (bearing v word) 0)) 0
 
 -- a hand that has used one row more, and holds a reference to its object
 abbrev pub with_newborn : View → View

@@ -1,4 +1,4 @@
--- What a heap's end tells, and when it comes.
+-- What a heap's end says, and when it comes.
 use Rattle.std.specs.Prelude.{◌≡◌, ◌⊎◌, ℕ, zero, suc, ◌+◌, ◌<◌, Bool, ◌==◌, nat_lt, if◌then◌else◌, Option, None, Some, List, [], ◌∷◌, ◌++◌, length, All}
 use Rattle.brc_word.specs.declared.values.TheConstants.{NOT_STARTED, RUNNING, LEAVING, GONE}
 use Rattle.brc_word.specs.Words.{closed_word}
@@ -8,7 +8,7 @@ use Rattle.brc_model.specs.Layout.{row_count, IsCounted}
 use Rattle.brc_table.specs.declared.view.View.{View}
 use Rattle.brc_model.specs.declared.event.WordEvent.{WordEvent}
 use Rattle.brc_table.specs.Views.{IsJoined}
-use Rattle.brc_table.specs.Ending.{EndState, EndsWith, HaveEnded, RowEnds, SlotEnds, kind_at, gate_at, cell_at}
+use Rattle.brc_table.specs.Ending.{EndState, EndsWith, HaveEnded, RowEnds, FieldEnds, kind_at, gate_at, cell_at}
 
 -- Says whether an object was born in the row.
 abbrev pub was_born : EndState → ℕ → Bool
@@ -28,13 +28,13 @@ abbrev pub item_at : EndState → ℕ → ℕ → Option ℕ
 item_at end x i = if nat_lt i end.layout.cells then named_row (cell_at end.layout end.words x i) else None
 
 -- Each thread is gone, or was never started. Exactly the born counted objects that no cell of an open list names are
--- closed, and the cells of closed lists are empty. The slots of closed objects are empty too, and the other counted
+-- closed, and the cells of closed lists are empty. The fields of closed objects are empty too, and the other counted
 -- objects have their resources. An object that was there from the start has its first kind word: none, the root, an
 -- immortal list, or a number in the cell of one.
 pub record HasEnded (end : EndState) : Type 0 where
   pub threads : HaveEnded end.layout end.words
   pub rows : (x : ℕ) → IsCounted end.layout x → x < row_count end.layout → RowEnds end.layout end.words x
-  pub slots : (x : ℕ) → IsCounted end.layout x → x < row_count end.layout → SlotEnds end x
+  pub fields : (x : ℕ) → IsCounted end.layout x → x < row_count end.layout → FieldEnds end x
   pub first : (x : ℕ) → 0 < first_kind_word end.lines end.layout x → x < row_count end.layout
       → kind_at end.words x ≡ first_kind_word end.lines end.layout x
 
@@ -42,7 +42,7 @@ pub record HasEnded (end : EndState) : Type 0 where
 abbrev pub look_at : ℕ → ℕ → WordEvent
 look_at thread word = record { address = ThreadWord thread; found = word; left = word }
 
--- the steps of a hand that loads the words of this thread and of those behind it, by rising number
+-- the steps of a hand that loads the words of this thread and of those after it, by rising number
 abbrev pub looks_from : ℕ → List ℕ → List WordEvent
 looks_from thread [] = []
 looks_from thread (word ∷ words) = look_at thread word ∷ looks_from (suc thread) words

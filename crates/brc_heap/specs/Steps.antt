@@ -1,9 +1,9 @@
--- What a hand does that executes duty after duty, with other duties behind them: which duties are left, and what stays
--- as it was.
+-- What a hand does that executes its first duties, one by one, while others come later: which duties are left, and what
+-- stays as it was.
 use Rattle.std.specs.Prelude.{◌≡◌, Bool, true, if◌then◌else◌, ℕ, List, ◌∷◌, Some}
 use Rattle.brc_word.specs.Words.{free_word}
 use Rattle.brc_model.specs.declared.duty.Duty.{Duty}
-use Rattle.brc_model.specs.declared.duty.Duty.TheVariants.{TakeSlot}
+use Rattle.brc_model.specs.declared.duty.Duty.TheVariants.{TakeField}
 use Rattle.brc_model.specs.Duties.{ready}
 use Rattle.brc_table.specs.declared.view.View.{View}
 use Rattle.brc_table.specs.KnownWords.{knows_kind, known_cell}
@@ -20,17 +20,17 @@ pub record Keeps (v u : View) : Type 0 where
   pub aside : u.actor.aside ≡ v.actor.aside
   pub used : u.actor.used ≡ v.actor.used
   pub locked : u.actor.locked ≡ v.actor.locked
-  pub in_slot : u.in_slot ≡ v.in_slot
+  pub in_field : u.in_field ≡ v.in_field
   pub given : u.given ≡ v.given
   pub kinds : (x word : ℕ) → knows_kind x word v ≡ true → knows_kind x word u ≡ true
   pub cells : (x i : ℕ) → v.actor.locked ≡ Some x → known_cell x i u ≡ known_cell x i v
 
--- The first duty takes no resource out of a slot.
+-- The first duty takes no resource out of a field.
 abbrev pub TakesNothing : List Duty → Type 0
-TakesNothing (TakeSlot x ∷ rest) = ⊥
+TakesNothing (TakeField x ∷ rest) = ⊥
 TakesNothing _ = Unit {0}
 
--- The hand has done duty after duty, none of which takes a resource out of a slot.
+-- The hand has done duty after duty, none of which takes a resource out of a field.
 pub data Steps (v : View) : View → Type 0 where
   Refl : Steps v v
   Next : (u : View) (found : ℕ) → Steps v u → TakesNothing u.actor.agenda → Steps v (view_after u found)

@@ -13,23 +13,10 @@ ghost use Rattle.brc_table.specs.Hands.{IsOf, IsRunning, KeepsButView};
 ghost use Rattle.brc_heap.specs.Calls.{kind_word, IsBornWith, born, HasBorn};
 
 use crate::heap::Heap;
+use brc_effect::kinds::kind_number;
 use brc_lang::Kind;
 use brc_table::Hand;
 use brc_word::kind_word;
-
-/// Returns the number that names the kind in kind words.
-fn kind_number(kind: Kind) -> u32
-    ensures { result ≡ kind_number kind }
-{
-    match kind {
-        Kind::Any => 0,
-        Kind::None => 1,
-        Kind::Num => 2,
-        Kind::List => 3,
-        Kind::File => 4,
-        Kind::Sock => 5,
-    }
-}
 
 impl<T: Drop> Heap<T> {
     /// Gives birth to an object: a number of value `arg`, a list of `arg` empty cells (at most as many as the layout
@@ -46,7 +33,7 @@ impl<T: Drop> Heap<T> {
         ensures known { kind_part (kind_word kind arg) ≡ kind_number kind }
         ensures table { IsOf self.now hand.new }
         ensures carried { hand.new.carried ≡ hand.old.carried }
-        ensures slots { hand.new.slots ≡ hand.old.slots }
+        ensures fields { hand.new.fields ≡ hand.old.fields }
         ensures events { hand.new.view ≡ born hand.old.view (kind_word kind arg) }
         ensures born { HasBorn hand.old.view hand.new.view }
         ensures seen { knows_kind result (kind_word kind arg) hand.new.view ≡ true }
@@ -73,7 +60,7 @@ impl<T: Drop> Heap<T> {
         let words = self.words();
         let row = words.kind_store(hand, word);
         if let Some(resource) = resource {
-            words.slot_put(hand, row, resource);
+            words.field_put(hand, row, resource);
         }
         words.first_local_store(hand, row);
         row

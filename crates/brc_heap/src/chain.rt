@@ -15,7 +15,7 @@ use brc_model::Duty;
 use brc_table::Hand;
 
 impl<T: Drop> Heap<T> {
-    /// Does the next duty, behind which others may come: chains the dying object.
+    /// Does the next duty, after which others may come: chains the dying object.
     #[inline(always)]
     pub(crate) fn chain(&self, hand: &mut Hand<T>, row: u32)
         requires table { IsOf self.now hand.old }

@@ -7,19 +7,18 @@ ghost use Rattle.brc_model.specs.FirstRows.{HasLines};
 ghost use Rattle.brc_model.specs.Machine.{has_room};
 ghost use Rattle.brc_model.specs.StepMachine.{layout_of};
 ghost use Rattle.brc_table.specs.Giving.{starting};
-ghost use Rattle.brc_table.specs.Hands.{IsOf, IsRunning, HasNoWork, most_references, CarriesNothing};
+ghost use Rattle.brc_table.specs.Hands.{IsOf, IsRunning, HasNoWork, most_references, CarriesNothing, plan_of};
+ghost use Rattle.brc_table.specs.Homes.{HoldsFirstWords};
 ghost use Rattle.brc_table.specs.Views.{holds, is_given, main_view, worker_view, giving};
 ghost use Rattle.brc_heap.specs.Calls.{retained, IsTaken, HasGiven};
 
 use crate::error::{NoMemory, Taken};
 use brc_effect::layout_of;
+pub use brc_effect::rows::ROOT;
 use brc_lang::Module;
 use brc_table::{Hand, Words};
 use std::alloc::Global;
 use std::marker::Model;
-
-/// The root's row.
-pub const ROOT: u32 = 1;
 
 /// All objects of one program, with their counts. `T` is the resource of a file or a socket.
 ///
@@ -40,7 +39,8 @@ impl<T: Drop> Model for Heap<T> {
 impl<T: Drop> Heap<T> {
     /// Returns a heap of the module for 1 to 32 workers with 1 to 1024 rows each, and main's hand, which holds the only
     /// reference to the root. The module's static lists are filled before any thread shares the heap: they are
-    /// immortal, and main owns the numbers in their cells.
+    /// immortal, and main owns the numbers in their cells. `first` says which words the heap has at first: the root's
+    /// cells are empty, and those of each static list name the numbers of its line, in order.
     ///
     /// # Errors
     ///
@@ -59,6 +59,7 @@ impl<T: Drop> Heap<T> {
         ensures table { IfOk result (λ made. IsOf made.0 made.1) }
         ensures view { IfOk result (λ made. made.1.view ≡ main_view (layout_of «module».now workers rows)) }
         ensures none { IfOk result (λ made. CarriesNothing made.1) }
+        ensures first { IfOk result (λ made. HoldsFirstWords T (plan_of made.0) made.1.view) }
     {
         let layout = layout_of(module, workers, rows);
         match Words::new(alloc, layout, &module.statics) {
@@ -102,9 +103,9 @@ impl<T: Drop> Heap<T> {
             × (main.new.view ≡ giving (starting (retained main.old.view root_row word found) thread) thread)) }
         ensures left { OnOk result (HasGiven thread main.old.view main.new.view) }
         ensures carried { main.new.carried ≡ main.old.carried }
-        ensures slots { main.new.slots ≡ main.old.slots }
+        ensures fields { main.new.fields ≡ main.old.fields }
         ensures none { IfOk result CarriesNothing }
-        ensures no_slot { IfOk result (λ hand. hand.slots ≡ []) }
+        ensures no_field { IfOk result (λ hand. hand.fields ≡ []) }
     {
         self.words.layout_is_plain();
         if thread == 0 || thread > self.words.workers() || main.has_given(thread) {

@@ -1,4 +1,4 @@
-//! How a hand in the midst of other work puts an object into its owner's queue.
+//! How a hand puts an object into its owner's queue while other duties are pending.
 
 ghost use Rattle.std.specs.Prelude.{◌≡◌, ◌≢◌, ℕ};
 ghost use Rattle.brc_model.specs.declared.actor.Status.TheVariants.{Gone};
@@ -15,7 +15,7 @@ pub trait Marker<T> {
     // The heap whose objects it puts there.
     ghost heap: { Self → TableState };
 
-    /// Does the next duties, behind which others may come: sets the row's mark, which puts the object into its owner's
+    /// Does the next duties, after which others may come: sets the row's mark, which puts the object into its owner's
     /// queue, and looks after it. An owner that runs will find the mark. If the owner is leaving or gone, its exit may
     /// have scanned the mark before it was set: the hand then takes the mark back, and merges the object if the mark
     /// was still set.

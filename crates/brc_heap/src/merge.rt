@@ -42,7 +42,7 @@ impl<T: Drop> Heap<T> {
         requires acts { CanAct hand.old.view }
         requires duty { (r : Reason) × Merges r hand.old row }
         ensures table { IsOf self.now hand.new }
-        ensures slots { hand.new.slots ≡ hand.old.slots }
+        ensures fields { hand.new.fields ≡ hand.old.fields }
         ensures first { (r : Reason) → MergeIsFirst r hand.old row → (local : ℕ) × (word : ℕ) × (found : ℕ)
             × (hand.new.view ≡ merge_begun hand.old.view row local word found)
             × (result ≡ first_answer local word found) }
@@ -71,7 +71,7 @@ impl<T: Drop> Heap<T> {
         requires acts { CanAct hand.old.view }
         requires duty { (r : Reason) × MergeIsFirst r hand.old row }
         ensures table { IsOf self.now hand.new }
-        ensures slots { hand.new.slots ≡ hand.old.slots }
+        ensures fields { hand.new.fields ≡ hand.old.fields }
         ensures first { (local : ℕ) × (word : ℕ) × (found : ℕ)
             × (hand.new.view ≡ merge_begun hand.old.view row local word found)
             × (result ≡ first_answer local word found) }
@@ -96,7 +96,7 @@ impl<T: Drop> Heap<T> {
         requires acts { CanAct hand.old.view }
         requires duty { (r : Reason) × (work_about row hand.old.view ≡ MergeLoad row carried r ∷ []) }
         ensures table { IsOf self.now hand.new }
-        ensures slots { hand.new.slots ≡ hand.old.slots }
+        ensures fields { hand.new.fields ≡ hand.old.fields }
         ensures events { (word : ℕ) × (found : ℕ)
             × (hand.new.view ≡ merge_tried (turned hand.old.view row) word found)
             × (result ≡ merge_answer carried word found) }
@@ -116,7 +116,7 @@ impl<T: Drop> Heap<T> {
         step
     }
 
-    /// Begins a merge, which may come next, with other duties behind it: swaps the local word for nobody's. Returns the
+    /// Begins a merge, which may come next, with other duties after it: swaps the local word for nobody's. Returns the
     /// local count, or `None` if nobody owned the object any more: it is merged already.
     #[inline(always)]
     pub fn take_local(&self, hand: &mut Hand<T>, row: u32, work: Work) -> Option<u32>
@@ -147,7 +147,7 @@ impl<T: Drop> Heap<T> {
     }
 
     /// Tries once to add the carried local count to the shared count, and to make the state merged. This may come next,
-    /// with other duties behind it.
+    /// with other duties after it.
     #[inline(always)]
     pub fn merge(&self, hand: &mut Hand<T>, row: u32, carried: u32, work: Work) -> MergeStep
         requires table { IsOf self.now hand.old }

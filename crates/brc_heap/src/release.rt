@@ -41,7 +41,7 @@ impl<T: Drop> Heap<T> {
         requires idle { HasNoWork hand.old.view row }
         ensures table { IsOf self.now hand.new }
         ensures carried { hand.new.carried ≡ hand.old.carried }
-        ensures slots { hand.new.slots ≡ hand.old.slots }
+        ensures fields { hand.new.fields ≡ hand.old.fields }
         ensures events { (word : ℕ) × OwnerFits hand.old.view.layout row word
             × (result ≡ local_answer hand.old.view word)
             × (hand.new.view ≡ released_locally hand.old.view row word) }
@@ -57,7 +57,7 @@ impl<T: Drop> Heap<T> {
         self.lower(hand, row, word)
     }
 
-    /// Does what follows the load of the local word in a release, with other duties behind it: a running owner stores
+    /// Does what follows the load of the local word in a release, with other duties after it: a running owner stores
     /// the lowered count.
     #[inline(always)]
     pub fn lower(&self, hand: &mut Hand<T>, row: u32, word: u64) -> LocalRelease
@@ -94,7 +94,7 @@ impl<T: Drop> Heap<T> {
         requires duty { work_about row hand.old.view ≡ DecideAtZero row ∷ [] }
         ensures table { IsOf self.now hand.new }
         ensures carried { hand.new.carried ≡ hand.old.carried }
-        ensures slots { hand.new.slots ≡ hand.old.slots }
+        ensures fields { hand.new.fields ≡ hand.old.fields }
         ensures events { (word : ℕ) × (result ≡ zero_answer word)
             × (hand.new.view ≡ decided hand.old.view row word) }
         ensures left { Leaves row (zero_left row result) hand.old.view hand.new.view }
@@ -104,7 +104,7 @@ impl<T: Drop> Heap<T> {
     }
 
     /// Decides what becomes of an object whose last local reference is gone: the work of `zero_step`, which may come
-    /// next, with other duties behind it.
+    /// next, with other duties after it.
     #[inline(always)]
     pub fn decide(&self, hand: &mut Hand<T>, row: u32, work: Work) -> ZeroStep
         requires table { IsOf self.now hand.old }
@@ -137,7 +137,7 @@ impl<T: Drop> Heap<T> {
         requires duty { (r : Reason) × (work_about row hand.old.view ≡ SharedLoad row r ∷ []) }
         ensures table { IsOf self.now hand.new }
         ensures carried { hand.new.carried ≡ hand.old.carried }
-        ensures slots { hand.new.slots ≡ hand.old.slots }
+        ensures fields { hand.new.fields ≡ hand.old.fields }
         ensures events { (word : ℕ) × (found : ℕ) × (result ≡ shared_answer word found)
             × (hand.new.view ≡ released_shared hand.old.view row word found) }
         ensures left { (r : Reason) → work_about row hand.old.view ≡ SharedLoad row r ∷ []
@@ -148,7 +148,7 @@ impl<T: Drop> Heap<T> {
     }
 
     /// Tries once to give up a reference in the shared word: the work of `try_release_shared`, which may come next,
-    /// with other duties behind it.
+    /// with other duties after it.
     #[inline(always)]
     pub fn release_shared(&self, hand: &mut Hand<T>, row: u32, work: Work) -> SharedRelease
         requires table { IsOf self.now hand.old }

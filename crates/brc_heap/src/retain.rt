@@ -25,7 +25,7 @@ impl<T: Drop> Heap<T> {
         requires few { length hand.old.view.references < most_references }
         ensures table { IsOf self.now hand.new }
         ensures carried { hand.new.carried ≡ hand.old.carried }
-        ensures slots { hand.new.slots ≡ hand.old.slots }
+        ensures fields { hand.new.fields ≡ hand.old.fields }
         ensures events { (word : ℕ) × (found : ℕ) × OwnerFits hand.old.view.layout row word
             × (hand.new.view ≡ retained hand.old.view row word found) }
         ensures own { block_of hand.old.view.layout row ≡ hand.old.view.thread → (word : ℕ) × (found : ℕ)

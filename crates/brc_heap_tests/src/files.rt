@@ -1,4 +1,4 @@
-//! Files under real threads: the resource of a file is in its slot, and a hand that has locked the file lends it.
+//! Files under real threads: the resource of a file is in its field, and a hand that has locked the file lends it.
 
 ghost use Rattle.std.specs.Prelude.{◌≡◌};
 ghost use Rattle.brc_table.specs.Views.{worker_view};

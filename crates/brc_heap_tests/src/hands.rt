@@ -106,7 +106,7 @@ pub fn main_at_first<R: Abort>(rt: &R, alloc: Global) -> Result<(), Fail> {
 }
 
 // Under `rt try --test --fail-alloc N` the Nth allocation fails. A heap of 32 workers makes 37: for its first words,
-// the list of spares, what each of 33 hands carries, and the words and slots of its table.
+// the list of spares, what each of 33 hands carries, and the words and fields of its table.
 #[test]
 fn no_memory(rt: HostRuntime) -> Result<(), Fail> {
     match opened::<u32>(rt.alloc(), 32, 1024) {

@@ -5,8 +5,8 @@ ghost use Rattle.brc_lang.specs.declared.module.Function.{Function};
 ghost use Rattle.brc_lang.specs.declared.version.Version.{Version};
 ghost use Rattle.brc_lang.specs.InstructionWords.{words, instruction_in, plain_instruction_in, item_instruction_in};
 ghost use Rattle.brc_lang.specs.InstructionWords.{host_instruction_in, path_instruction_in};
-ghost use Rattle.brc_lang.specs.Grammar.{has_calls, cells_in};
-ghost use Rattle.brc_lang.specs.Limits.{function_limit, cell_limit};
+ghost use Rattle.brc_lang.specs.Grammar.{has_calls};
+ghost use Rattle.brc_lang.specs.Limits.{function_limit};
 ghost use Rattle.brc_lang.specs.Progress.{KnowsDepths};
 
 use crate::above::Above;
@@ -20,12 +20,6 @@ use crate::operands::{
 };
 use crate::static_lines::{has_statics, take};
 use crate::version::Version;
-
-/// The most cells of a list in versions 1 and 2.
-const FEW_CELLS: u32 = 8;
-
-/// The most cells of a list.
-const MOST_CELLS: u32 = 64;
 
 /// The greatest index of an item.
 const LAST_INDEX: u32 = 255;
@@ -76,17 +70,6 @@ fn has_calls(version: Version) -> bool
     }
 }
 
-/// Returns the most cells of a list.
-fn cells_in(version: Version) -> u32
-    ensures value { result ≡ cells_in version }
-    ensures low { result ≤ cell_limit }
-{
-    match version {
-        Version::One | Version::Two => FEW_CELLS,
-        Version::Three => MOST_CELLS,
-    }
-}
-
 /// Reads an instruction without operands.
 fn lone_word(word: &[u8]) -> Result<Instr, FaultCode>
     ensures { (version : Version) (statics : List (List ℕ)) (above : List Function)
@@ -111,7 +94,7 @@ fn plain_instruction(version: Version, word: &[u8], operands: &[u8]) -> Result<I
             otherwise,
         })
     } else if is_word(word, b"list") {
-        let (to, cells, otherwise) = birth(1, cells_in(version), operands)?;
+        let (to, cells, otherwise) = birth(1, u32::from(version.most_cells()), operands)?;
         Ok(Instr::List {
             to,
             cells: cells as u8,

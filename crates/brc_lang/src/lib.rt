@@ -46,5 +46,5 @@ pub use parameter::{Argument, Parameter, Passing};
 pub use reading::read;
 pub use sequence::Sequence;
 pub use variable::Variable;
-pub use version::Version;
+pub use version::{MOST_CELLS, Version};
 pub use writing::write;

@@ -7,9 +7,9 @@ ghost use Rattle.brc_table.specs.Views.{view_after, asking, locking, unlocking};
 ghost use Rattle.brc_table.specs.Plays.{overwritten};
 ghost use Rattle.brc_table.specs.KnownWords.{knows_kind, KnowsCell};
 ghost use Rattle.brc_table.specs.Swaps.{MayPut};
-ghost use Rattle.brc_table.specs.Uses.{FirstSlot, behind_slot};
+ghost use Rattle.brc_table.specs.Uses.{FirstField, behind_field};
 ghost use Rattle.brc_table.specs.Hands.{most_references, IsOf, IsRunning, HoldsOne, Borrows, MayRead, MayLoad, MayChange, HasNoWork, HasNoRetain};
-ghost use Rattle.brc_list.specs.Calls.{KeepsWork, KeepsBesides, KeepsButSlot, SeesItem, SwapsItem, HasSlot, row_in, word_of};
+ghost use Rattle.brc_list.specs.Calls.{KeepsWork, KeepsBesides, KeepsButField, SeesItem, SwapsItem, HasField, row_in, word_of};
 
 use brc_heap::{Hand, Heap};
 use brc_word::values::{FREE, LIST};
@@ -39,8 +39,8 @@ impl<'h, T: Drop> Lists<'h, T> {
     }
 
     /// Tries once to lock a list to which the hand holds a reference, as it has locked none. Returns whether the hand
-    /// has locked it: not if another thread has locked it just now. The hand then has the list's slot too. If it has
-    /// seen the object's kind, it knows whether the slot has a resource.
+    /// has locked it: not if another thread has locked it just now. The hand then has the list's field too. If it has
+    /// seen the object's kind, it knows whether the field has a resource.
     pub fn try_lock(&self, hand: &mut Hand<T>, row: u32) -> bool
         requires table { IsOf self.now hand.old }
         requires running { IsRunning hand.old.view }
@@ -49,21 +49,21 @@ impl<'h, T: Drop> Lists<'h, T> {
         requires unlocked { hand.old.view.actor.locked ≡ None }
         ensures table { IsOf self.now hand.new }
         ensures carried { hand.new.carried ≡ hand.old.carried }
-        ensures slots { hand.new.slots
-            ≡ (if result then (row, hand.new.view.in_slot) ∷ hand.old.slots else hand.old.slots) }
+        ensures fields { hand.new.fields
+            ≡ (if result then (row, hand.new.view.in_field) ∷ hand.old.fields else hand.old.fields) }
         ensures kind { (word : ℕ) → result ≡ true → 0 < word
-            → knows_kind row word hand.old.view ≡ true → hand.new.view.in_slot ≡ resources_of word }
-        ensures events { (found : ℕ) × (hand.new.view ≡ view_after (locking hand.old.view row hand.new.view.in_slot)
+            → knows_kind row word hand.old.view ≡ true → hand.new.view.in_field ≡ resources_of word }
+        ensures events { (found : ℕ) × (hand.new.view ≡ view_after (locking hand.old.view row hand.new.view.in_field)
             found)
             × (result ≡ (found == free_word)) }
         ensures locked { hand.new.view.actor.locked ≡ (if result then Some row else None) }
-        ensures keeps { KeepsButSlot hand.old.view hand.new.view }
+        ensures keeps { KeepsButField hand.old.view hand.new.view }
     {
         self.heap.words().gate_lock(hand, row) == FREE
     }
 
     /// Unlocks the list that the hand has locked. The hand retains nothing meanwhile, and has put back a resource that
-    /// it lent: the slot has what it had when the hand locked the list.
+    /// it lent: the field has what it had when the hand locked the list.
     pub fn unlock(&self, hand: &mut Hand<T>, row: u32)
         requires table { IsOf self.now hand.old }
         requires running { IsRunning hand.old.view }
@@ -71,10 +71,10 @@ impl<'h, T: Drop> Lists<'h, T> {
         requires idle { HasNoWork hand.old.view row }
         requires locked { hand.old.view.actor.locked ≡ Some row }
         requires retains { HasNoRetain hand.old.view }
-        requires returned { FirstSlot hand.old.slots row hand.old.view.in_slot }
+        requires returned { FirstField hand.old.fields row hand.old.view.in_field }
         ensures table { IsOf self.now hand.new }
         ensures carried { hand.new.carried ≡ hand.old.carried }
-        ensures slots { hand.new.slots ≡ behind_slot hand.old.slots }
+        ensures fields { hand.new.fields ≡ behind_field hand.old.fields }
         ensures events { hand.new.view
             ≡ view_after (unlocking hand.old.view row) (overwritten (unlocking hand.old.view row)) }
         ensures unlocked { hand.new.view.actor.locked ≡ None }
@@ -92,7 +92,7 @@ impl<'h, T: Drop> Lists<'h, T> {
         requires idle { HasNoWork hand.old.view row }
         ensures table { IsOf self.now hand.new }
         ensures carried { hand.new.carried ≡ hand.old.carried }
-        ensures slots { hand.new.slots ≡ hand.old.slots }
+        ensures fields { hand.new.fields ≡ hand.old.fields }
         ensures events { (word : ℕ) × (hand.new.view ≡ view_after (asking hand.old.view row) word)
             × (result ≡ cells_of word) × ((before : ℕ) → 0 < before → knows_kind row before hand.old.view ≡ true
             → word ≡ before) }
@@ -120,7 +120,7 @@ impl<'h, T: Drop> Lists<'h, T> {
         requires knows { KnowsCell hand.old.view row cell }
         ensures table { IsOf self.now hand.new }
         ensures carried { hand.new.carried ≡ hand.old.carried }
-        ensures slots { hand.new.slots ≡ hand.old.slots }
+        ensures fields { hand.new.fields ≡ hand.old.fields }
         ensures sees { (word : ℕ) × SeesItem row cell word hand.old.view hand.new.view × (result ≡ row_in word) }
         ensures borrows { (x : ℕ) → result ≡ Some x → hand.old.view.actor.locked ≡ Some row → Borrows hand.new.view x }
         ensures locked { hand.new.view.actor.locked ≡ hand.old.view.actor.locked }
@@ -156,7 +156,7 @@ impl<'h, T: Drop> Lists<'h, T> {
         requires few { length hand.old.view.references < most_references }
         ensures table { IsOf self.now hand.new }
         ensures carried { hand.new.carried ≡ hand.old.carried }
-        ensures slots { hand.new.slots ≡ hand.old.slots }
+        ensures fields { hand.new.fields ≡ hand.old.fields }
         ensures swaps { (found : ℕ) × SwapsItem row cell (word_of item) found hand.old.view hand.new.view
             × (result ≡ row_in found) }
         ensures locked { hand.new.view.actor.locked ≡ hand.old.view.actor.locked }
@@ -177,33 +177,33 @@ impl<'h, T: Drop> Lists<'h, T> {
         }
     }
 
-    /// Takes the resource of the file or socket that the hand has locked, or finalises just now, out of its slot, for a
+    /// Takes the resource of the file or socket that the hand has locked, or finalises just now, out of its field, for a
     /// call of the host. While the resource is lent the hand can't unlock the object; from a dying object it is taken
     /// to be closed.
     pub fn lend(&self, hand: &mut Hand<T>, row: u32) -> T
         requires table { IsOf self.now hand.old }
-        requires slot { HasSlot hand.old.view row }
-        requires there { FirstSlot hand.old.slots row 1 }
+        requires field { HasField hand.old.view row }
+        requires there { FirstField hand.old.fields row 1 }
         ensures table { IsOf self.now hand.new }
         ensures carried { hand.new.carried ≡ hand.old.carried }
         ensures view { hand.new.view ≡ hand.old.view }
-        ensures slots { hand.new.slots ≡ (row, 0) ∷ behind_slot hand.old.slots }
+        ensures fields { hand.new.fields ≡ (row, 0) ∷ behind_field hand.old.fields }
     {
-        self.heap.words().slot_take(hand, row)
+        self.heap.words().field_take(hand, row)
     }
 
     /// Puts the lent resource of the file or socket that the hand has locked, or finalises just now, back into its
-    /// slot.
+    /// field.
     pub fn give_back(&self, hand: &mut Hand<T>, row: u32, resource: T)
         requires table { IsOf self.now hand.old }
-        requires slot { HasSlot hand.old.view row }
-        requires lent { FirstSlot hand.old.slots row 0 }
-        requires whole { hand.old.view.actor.locked ≡ Some row → hand.old.view.in_slot ≡ 1 }
+        requires field { HasField hand.old.view row }
+        requires lent { FirstField hand.old.fields row 0 }
+        requires whole { hand.old.view.actor.locked ≡ Some row → hand.old.view.in_field ≡ 1 }
         ensures table { IsOf self.now hand.new }
         ensures carried { hand.new.carried ≡ hand.old.carried }
         ensures view { hand.new.view ≡ hand.old.view }
-        ensures slots { hand.new.slots ≡ (row, 1) ∷ behind_slot hand.old.slots }
+        ensures fields { hand.new.fields ≡ (row, 1) ∷ behind_field hand.old.fields }
     {
-        self.heap.words().slot_put(hand, row, resource);
+        self.heap.words().field_put(hand, row, resource);
     }
 }

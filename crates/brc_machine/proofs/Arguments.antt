@@ -7,7 +7,7 @@ use Rattle.brc_lang.specs.declared.parameter.Argument.{Argument}
 use Rattle.brc_lang.specs.declared.parameter.Passing.{Passing}
 use Rattle.brc_lang.specs.declared.parameter.Passing.TheVariants.{Borrow, Steal}
 use Rattle.brc_model.specs.Layout.{root_row}
-use Rattle.brc_model.specs.VarStates.{is_stolen, stolen, padded}
+use Rattle.brc_model.specs.SlotStates.{is_stolen, stolen, padded}
 use Rattle.brc_model.specs.Threads.{row_of}
 use Rattle.brc_model.specs.Actions.{argument_rows, without_row}
 

@@ -2,12 +2,12 @@
 use Rattle.std.proofs.Common.{◌≡◌, ℕ, ◌+◌, List, length, refl}
 use Rattle.std.proofs.Math.Path.{fun_ext}
 use Rattle.brc_model.specs.declared.address.Address.{Address}
-use Rattle.brc_model.specs.declared.address.Address.TheVariants.{Local, Shared, Gate, KindOf, Marks, Cell, Slot, Resource, ThreadWord}
+use Rattle.brc_model.specs.declared.address.Address.TheVariants.{Local, Shared, Gate, KindOf, Marks, Cell, Field, Resource, ThreadWord}
 use Rattle.brc_model.specs.declared.layout.Layout.{Layout}
 use Rattle.brc_model.specs.FirstRows.{HasLines}
 use Rattle.brc_model.specs.StepMachine.{first_memory}
 use Rattle.brc_effect.specs.FirstLists.{with_lists}
-use Rattle.brc_effect.proofs.FirstListWords.{IsPlain, shared_other, gate_other, marks_other, slot_other, resource_other, thread_other, others_lists, locals_are, kinds_are, cells_are}
+use Rattle.brc_effect.proofs.FirstListWords.{IsPlain, shared_other, gate_other, marks_other, field_other, resource_other, thread_other, others_lists, locals_are, kinds_are, cells_are}
 use Rattle.brc_machine.specs.FirstWords.{plain_words}
 
 plain_is : (workers : ℕ) → IsPlain (plain_words workers) (1 + workers)
@@ -28,7 +28,7 @@ module _ (lines : List (List ℕ)) (layout : Layout) (has : HasLines lines layou
         | KindOf x ↦ kinds_are lines layout has (plain_words layout.workers) (1 + layout.workers) plain x
         | Marks t w ↦ others_lists lines layout has _ (length lines) (Marks t w) (marks_other t w)
         | Cell x i ↦ cells_are lines layout has (plain_words layout.workers) (1 + layout.workers) plain x i
-        | Slot x ↦ others_lists lines layout has _ (length lines) (Slot x) (slot_other x)
+        | Field x ↦ others_lists lines layout has _ (length lines) (Field x) (field_other x)
         | Resource x ↦ others_lists lines layout has _ (length lines) (Resource x) (resource_other x)
         | ThreadWord t ↦ others_lists lines layout has _ (length lines) (ThreadWord t) (thread_other t)
       ])

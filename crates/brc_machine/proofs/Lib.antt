@@ -3,3 +3,4 @@ pub mod FirstWords
 pub mod Arguments
 pub mod OwnedRows
 pub mod Agendas
+pub mod MachineTallying

@@ -12,7 +12,7 @@ use Rattle.brc_word.specs.declared.shared.Phase.TheVariants.{Default}
 use Rattle.brc_word.specs.Header.{IsSharedWord}
 use Rattle.brc_word.specs.Words.{half, immortal_local, fresh_word, local_word}
 use Rattle.brc_model.specs.declared.address.Address.{Address}
-use Rattle.brc_model.specs.declared.address.Address.TheVariants.{Local, Shared, Gate, KindOf, Marks, Cell, Slot, Resource, ThreadWord}
+use Rattle.brc_model.specs.declared.address.Address.TheVariants.{Local, Shared, Gate, KindOf, Marks, Cell, Field, Resource, ThreadWord}
 use Rattle.brc_model.specs.declared.layout.Layout.{Layout}
 use Rattle.brc_model.specs.Layout.{mark_words_of}
 use Rattle.brc_model.specs.Limits.{root_cells, row_limit, immortal_limit, number_limit}
@@ -40,7 +40,7 @@ has_word layout c (Marks t w) of there = (
   omega (arith, few_words layout t of.few_rows of.few_lists of.few_numbers, there.1),
 )
 has_word layout c (Cell x i) of there = (omega (arith, of.rows, there.0), omega (arith, of.cells, there.1))
-has_word layout c (Slot x) of there = omega (arith, of.rows, there)
+has_word layout c (Field x) of there = omega (arith, of.rows, there)
 has_word layout c (Resource x) of there = omega (arith, of.rows, there)
 has_word layout c (ThreadWord t) of there = omega (arith, of.threads, there)
 
@@ -108,9 +108,9 @@ abbrev cell_with : Columns → Address → ℕ → List ℕ
 cell_with c (Cell x i) word = slice_set c.cell (c.width * x + i) word
 cell_with c _ word = c.cell
 
-abbrev slot_with : Columns → Address → ℕ → List ℕ
-slot_with c (Slot x) word = slice_set c.slot x word
-slot_with c _ word = c.slot
+abbrev field_with : Columns → Address → ℕ → List ℕ
+field_with c (Field x) word = slice_set c.field x word
+field_with c _ word = c.field
 
 abbrev resource_with : Columns → Address → ℕ → List ℕ
 resource_with c (Resource x) word = slice_set c.resource x word
@@ -130,7 +130,7 @@ with_word c a word =
       kind = kind_with c a word;
       mark = mark_with c a word;
       cell = cell_with c a word;
-      slot = slot_with c a word;
+      field = field_with c a word;
       resource = resource_with c a word;
       thread = thread_with c a word;
       width = c.width;
@@ -152,7 +152,7 @@ stored_cell c x i word columns there low = record {
         | Marks t w ↦ refl
         | Cell y j ↦ group_word c.width c.cell x i y j word (cell_there c x i columns there low) low
             (λ inside e. same_from_place x i y j c.width low inside (omega (arith, e)))
-        | Slot y ↦ refl
+        | Field y ↦ refl
         | Resource y ↦ refl
         | ThreadWord t ↦ refl
       ]);
@@ -174,7 +174,7 @@ stored_marks c t w word columns there low = record {
         | Marks u v ↦ group_word mark_room c.mark t w u v word (omega (arith, columns.mark, there, low)) low
             (λ inside e. (omega (arith, e, low, inside), omega (arith, e, low, inside)))
         | Cell y j ↦ refl
-        | Slot y ↦ refl
+        | Field y ↦ refl
         | Resource y ↦ refl
         | ThreadWord u ↦ refl
       ]);
@@ -189,7 +189,7 @@ stored c (Gate x) word columns there = grind (arith, common_steps)
 stored c (KindOf x) word columns there = grind (arith, common_steps)
 stored c (Marks t w) word columns there = stored_marks c t w word columns there.0 there.1
 stored c (Cell x i) word columns there = stored_cell c x i word columns there.0 there.1
-stored c (Slot x) word columns there = grind (arith, common_steps)
+stored c (Field x) word columns there = grind (arith, common_steps)
 stored c (Resource x) word columns there = grind (arith, common_steps)
 stored c (ThreadWord t) word columns there = grind (arith, common_steps)
 
@@ -219,7 +219,7 @@ first_columns workers width n more = record {
   kind = half ∷ (3 * half + root_cells) ∷ replicate more 0;
   mark = replicate (mark_room * (1 + workers)) 0;
   cell = replicate (width * n) 0;
-  slot = replicate n 0;
+  field = replicate n 0;
   resource = replicate n 0;
   thread = replicate (1 + workers) 1;
   width = width;
@@ -243,7 +243,7 @@ first_words workers width n more =
       | KindOf (suc (suc x)) ↦ all_alike more x 0
       | Marks t w ↦ no_word (mark_room * (1 + workers)) (mark_room * t + w) (nat_lt w mark_room)
       | Cell x i ↦ no_word (width * n) (width * x + i) (nat_lt i width)
-      | Slot x ↦ all_alike n x 0
+      | Field x ↦ all_alike n x 0
       | Resource x ↦ all_alike n x 0
       | ThreadWord t ↦ running_word workers t
     ])
@@ -254,7 +254,7 @@ two_set : (n more v a b : ℕ) → n ≡ suc (suc more)
 two_set n more v a b e = rw e refl
 
 -- The columns that the code makes have the first words of a world without immortal lists.
-pub words_as : (workers width n more : ℕ) (local kind shared gate mark cell slot resource thread : List ℕ)
+pub words_as : (workers width n more : ℕ) (local kind shared gate mark cell field resource thread : List ℕ)
     (none root none_kind root_kind : ℕ)
     → n ≡ suc (suc more)
     → local ≡ replicate n 0 → none ≡ local_word 0 immortal_local → root ≡ local_word 0 (1 + workers)
@@ -262,7 +262,7 @@ pub words_as : (workers width n more : ℕ) (local kind shared gate mark cell sl
     → none_kind ≡ half → root_kind ≡ 3 * half + root_cells
     → shared ≡ replicate n fresh_word → gate ≡ replicate n 1 → mark ≡ replicate (mark_room * (1 + workers)) 0
     → cell ≡ replicate (width * n) 0
-    → slot ≡ replicate n 0 → resource ≡ replicate n 0 → thread ≡ replicate (1 + workers) 1
+    → field ≡ replicate n 0 → resource ≡ replicate n 0 → thread ≡ replicate (1 + workers) 1
     → word_in (record {
       local = slice_set (slice_set local 0 none) 1 root;
       shared = shared;
@@ -271,12 +271,12 @@ pub words_as : (workers width n more : ℕ) (local kind shared gate mark cell sl
           slice_set (slice_set kind 0 none_kind) 1 root_kind;
       mark = mark;
       cell = cell;
-      slot = slot;
+      field = field;
       resource = resource;
       thread = thread;
       width = width;
     }) ≡ plain_words workers
-words_as workers width n more local kind shared gate mark cell slot resource thread none root none_kind root_kind e l v
+words_as workers width n more local kind shared gate mark cell field resource thread none root none_kind root_kind e l v
     r k nk rk s g m c o p t =
     rw (
       l,

@@ -3,7 +3,7 @@ use Rattle.std.specs.Prelude.{ℕ, ◌+◌, ◌*◌, if◌then◌else◌, nat_le
 use Rattle.brc_word.specs.declared.values.TheConstants.{NOT_STARTED, RUNNING, EMPTY, FREE, NONE, LIST}
 use Rattle.brc_word.specs.Words.{half, immortal_local, local_word, fresh_word}
 use Rattle.brc_model.specs.declared.address.Address.{Address}
-use Rattle.brc_model.specs.declared.address.Address.TheVariants.{Local, Shared, Gate, KindOf, Marks, Cell, Slot, Resource, ThreadWord}
+use Rattle.brc_model.specs.declared.address.Address.TheVariants.{Local, Shared, Gate, KindOf, Marks, Cell, Field, Resource, ThreadWord}
 use Rattle.brc_model.specs.Layout.{by_row}
 use Rattle.brc_model.specs.Limits.{root_cells}
 
@@ -15,6 +15,6 @@ plain_words workers (Gate x) = FREE
 plain_words workers (KindOf x) = by_row (NONE * half) (LIST * half + root_cells) 0 x
 plain_words workers (Marks t w) = 0
 plain_words workers (Cell x i) = EMPTY
-plain_words workers (Slot x) = EMPTY
+plain_words workers (Field x) = EMPTY
 plain_words workers (Resource x) = 0
 plain_words workers (ThreadWord t) = if nat_le t workers then RUNNING else NOT_STARTED

@@ -2,3 +2,4 @@ pub mod Storage
 pub mod FirstWords
 pub mod Agendas
 pub mod Sights
+pub mod MachineTallies

@@ -5,7 +5,7 @@ use Rattle.brc_word.specs.Words.{fresh_word}
 use Rattle.brc_model.specs.Limits.{cell_limit, row_limit, immortal_limit, number_limit}
 use Rattle.brc_model.specs.Machine.{written}
 use Rattle.brc_model.specs.declared.address.Address.{Address}
-use Rattle.brc_model.specs.declared.address.Address.TheVariants.{Local, Shared, Gate, KindOf, Marks, Cell, Slot, Resource, ThreadWord}
+use Rattle.brc_model.specs.declared.address.Address.TheVariants.{Local, Shared, Gate, KindOf, Marks, Cell, Field, Resource, ThreadWord}
 use Rattle.brc_model.specs.declared.layout.Layout.{Layout}
 use Rattle.brc_model.specs.Layout.{row_count}
 
@@ -21,7 +21,7 @@ pub record Columns : Type 0 where
   pub kind : List ℕ
   pub mark : List ℕ
   pub cell : List ℕ
-  pub slot : List ℕ
+  pub field : List ℕ
   pub resource : List ℕ
   pub thread : List ℕ
   -- the number of cells of each row
@@ -35,7 +35,7 @@ word_in c (Gate x) = slice_index_or c.gate x 1
 word_in c (KindOf x) = slice_index_or c.kind x 0
 word_in c (Marks t w) = if nat_lt w mark_room then slice_index_or c.mark (mark_room * t + w) 0 else 0
 word_in c (Cell x i) = if nat_lt i c.width then slice_index_or c.cell (c.width * x + i) 0 else 0
-word_in c (Slot x) = slice_index_or c.slot x 0
+word_in c (Field x) = slice_index_or c.field x 0
 word_in c (Resource x) = slice_index_or c.resource x 0
 word_in c (ThreadWord t) = slice_index_or c.thread t 0
 
@@ -46,7 +46,7 @@ pub record AreColumns (c : Columns) : Type 0 where
   pub kind : length c.kind ≡ length c.local
   pub mark : length c.mark ≡ mark_room * length c.thread
   pub cell : length c.cell ≡ c.width * length c.local
-  pub slot : length c.slot ≡ length c.local
+  pub field : length c.field ≡ length c.local
   pub resource : length c.resource ≡ length c.local
 
 -- the columns have a word at the address
@@ -57,7 +57,7 @@ HasWord c (Gate x) = x < length c.local
 HasWord c (KindOf x) = x < length c.local
 HasWord c (Marks t w) = (t < length c.thread) × (w < mark_room)
 HasWord c (Cell x i) = (x < length c.local) × (i < c.width)
-HasWord c (Slot x) = x < length c.local
+HasWord c (Field x) = x < length c.local
 HasWord c (Resource x) = x < length c.local
 HasWord c (ThreadWord t) = t < length c.thread
 

@@ -29,7 +29,7 @@ pub struct Memory {
     kind: Vec<u64>,
     mark: Vec<u64>,
     cell: Vec<u64>,
-    slot: Vec<u64>,
+    field: Vec<u64>,
     resource: Vec<u64>,
     thread: Vec<u64>,
     /// The number of cells of each row.
@@ -48,7 +48,7 @@ impl Model for Memory {
       kind = m.kind.items;
       mark = m.mark.items;
       cell = m.cell.items;
-      slot = m.slot.items;
+      field = m.field.items;
       resource = m.resource.items;
       thread = m.thread.items;
       width = m.width;
@@ -61,7 +61,7 @@ impl Model for Memory {
       kind = m.kind.items;
       mark = m.mark.items;
       cell = m.cell.items;
-      slot = m.slot.items;
+      field = m.field.items;
       resource = m.resource.items;
       thread = m.thread.items;
       width = m.width;
@@ -100,7 +100,7 @@ impl Memory {
                 + word as usize],
             Address::Cell { row, cell } => self.cell[usize::from(self.width) * row as usize
                 + cell as usize],
-            Address::Slot { row } => self.slot[row as usize],
+            Address::Field { row } => self.field[row as usize],
             Address::Resource { row } => self.resource[row as usize],
             Address::ThreadWord { thread } => self.thread[thread as usize],
         }
@@ -123,7 +123,7 @@ impl Memory {
             } => self.mark[MARK_ROOM * thread as usize + number as usize] = word,
             Address::Cell { row, cell } => self.cell[usize::from(self.width) * row as usize
                 + cell as usize] = word,
-            Address::Slot { row } => self.slot[row as usize] = word,
+            Address::Field { row } => self.field[row as usize] = word,
             Address::Resource { row } => self.resource[row as usize] = word,
             Address::ThreadWord { thread } => self.thread[thread as usize] = word,
         }
@@ -158,7 +158,7 @@ impl Memory {
                     0,
                 )
             }
-            Address::Slot { row } => word_or(self.slot.as_slice(), row as usize, 0),
+            Address::Field { row } => word_or(self.field.as_slice(), row as usize, 0),
             Address::Resource { row } => word_or(self.resource.as_slice(), row as usize, 0),
             Address::ThreadWord { thread } => word_or(self.thread.as_slice(), thread as usize, 0),
         }
@@ -180,7 +180,7 @@ impl Memory {
             | Address::Shared { row }
             | Address::Gate { row }
             | Address::KindOf { row }
-            | Address::Slot { row }
+            | Address::Field { row }
             | Address::Resource { row } => (row as usize) < self.local.len(),
         }
     }
@@ -205,7 +205,7 @@ impl Memory {
             self.kind.as_slice(),
             self.mark.as_slice(),
             self.cell.as_slice(),
-            self.slot.as_slice(),
+            self.field.as_slice(),
             self.resource.as_slice(),
             self.thread.as_slice(),
         ]
@@ -222,7 +222,7 @@ impl Memory {
             kind: Vec::from_slice(alloc, self.kind.as_slice())?,
             mark: Vec::from_slice(alloc, self.mark.as_slice())?,
             cell: Vec::from_slice(alloc, self.cell.as_slice())?,
-            slot: Vec::from_slice(alloc, self.slot.as_slice())?,
+            field: Vec::from_slice(alloc, self.field.as_slice())?,
             resource: Vec::from_slice(alloc, self.resource.as_slice())?,
             thread: Vec::from_slice(alloc, self.thread.as_slice())?,
             width: self.width,
@@ -336,7 +336,7 @@ fn rooted_memory(alloc: Global, layout: Layout) -> Result<Memory, NoMemory>
         kind,
         mark: vec![in alloc; 0u64; MARK_ROOM * (1 + workers)]?,
         cell: vec![in alloc; 0u64; usize::from(layout.cells) * n]?,
-        slot: vec![in alloc; 0u64; n]?,
+        field: vec![in alloc; 0u64; n]?,
         resource: vec![in alloc; 0u64; n]?,
         thread: vec![in alloc; RUNNING; 1 + workers]?,
         width: layout.cells,

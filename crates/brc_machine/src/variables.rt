@@ -3,13 +3,13 @@
 ghost use Rattle.std.specs.Prelude.{◌≡◌, ◌<◌, true, is_some};
 ghost use Rattle.std.specs.List.{list_all, list_any};
 ghost use Rattle.brc_lang.specs.Limits.{variable_count};
-ghost use Rattle.brc_model.specs.VarStates.{is_owned};
+ghost use Rattle.brc_model.specs.SlotStates.{is_owned};
 ghost use Rattle.brc_model.specs.Threads.{entry_variables, row_of};
 ghost use Rattle.brc_model.specs.Actions.{argument_rows, first_named, kept_rows, owned_rows, passed_variables};
 
 use brc_effect::rows::ROOT;
 use brc_lang::{Argument, Passing, Variable};
-use brc_model::VarState;
+use brc_model::Slot;
 
 /// The row that each variable names, or `None` for an empty variable.
 pub type Variables = [Option<u32>; Variable::COUNT];
@@ -91,19 +91,19 @@ pub fn first_named(variables: &Variables) -> usize
     Variable::COUNT
 }
 
-fn is_owned(var: VarState) -> bool
+fn is_owned(var: Slot) -> bool
     ensures { result ≡ is_owned var }
 {
-    matches!(var, VarState::Owned(_))
+    matches!(var, Slot::Owned(_))
 }
 
-/// Returns the variables without those whose slots own no reference.
-pub fn owned_rows(vars: &[VarState; Variable::COUNT], variables: &Variables) -> Variables
-    ensures { result ≡ owned_rows vars.now variables.now }
+/// Returns the variables without those whose fields own no reference.
+pub fn owned_rows(slots: &[Slot; Variable::COUNT], variables: &Variables) -> Variables
+    ensures { result ≡ owned_rows slots.now variables.now }
 {
     let mut owned = *variables;
     for variable in 0..Variable::COUNT {
-        if !is_owned(vars[variable]) {
+        if !is_owned(slots[variable]) {
             owned[variable] = None;
         }
     }

@@ -7,13 +7,13 @@
 -- between two duties, `AloneBegins` those of what it does in one go, `LocksBegin` those of locks and of a look at a
 -- cell; `FirstOfChain` says what holds of the first object of a thread's dying chain, and `Locks` that the thread still
 -- holds the list that it has locked. `Moved`, `OneReference` and `HandedOver` hand a reference over to another thread.
--- None of these knows code. `Callers`, `FirstRows`, `FirstReferences`, `FirstCounts` and `FirstRanges` show the
--- invariant of a machine in which some threads hold the root and the cells of immortal lists hold numbers,
--- `FirstHands` and `FirstMachine` that the first machines are such, and `Sound` what is true of a module's functions.
--- `CodeInvariant` adds the second layer, about accepted code, `StepCases` splits an event by its
--- action, `KindsHold` shows over it that variables keep their kinds, `ItemsHold` that borrowed items stay in the locked
--- list and `RoomsHold` that a thread that awaits a birth has room for it, and `CodeEvents` carries both layers through
--- every list of events.
+-- None of these knows code. `Callers`, `FirstRows`, `FirstReferences` and `FirstThreads` to `FirstRanges` show the
+-- invariant of a machine in which some threads hold the root and the cells of immortal lists hold numbers (its threads;
+-- counts, births and kinds of its rows; the invariant; its ranges), `FirstHands` and `FirstMachine` that the first
+-- machines are such, and `Sound` what is true of a module's functions. `CodeInvariant` adds the second layer, about
+-- accepted code, `StepCases` splits an event by its action, `KindsHold` shows over it that variables keep their kinds,
+-- `ItemsHold` that borrowed items stay in the locked list and `RoomsHold` that a thread that awaits a birth has room for
+-- it, and `CodeEvents` carries both layers through every list of events.
 
 pub mod NotBad
 pub mod KeepsDuty
@@ -41,7 +41,11 @@ pub mod CellsSwapped
 pub mod Callers
 pub mod FirstRows
 pub mod FirstReferences
+pub mod FirstThreads
 pub mod FirstCounts
+pub mod FirstBirths
+pub mod FirstKinds
+pub mod FirstInvariant
 pub mod FirstRanges
 pub mod FirstHands
 pub mod FirstMachine

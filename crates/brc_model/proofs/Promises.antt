@@ -1,8 +1,8 @@
 -- What is promised of an accepted module (`Safe.accepted_is_safe`) and of each event follows from the invariant.
 --
--- In order: `Agreeing`; `Safe`, over `Keeping/StepCases`; `Counting`, the laws of the counting machine; `StatesRise` to
+-- In order: `Agreeing`; `TrueStates`, the states of an acceptable module's points; `Safe`, over `Keeping/StepCases`; `Counting`, the laws of the counting machine; `StatesRise` to
 -- `ClosedOnce`; `Gates`, `Births`, `MarksWatched`, `KindWords` and `CellsUnderLock`; `Guarded`, what of these holds of
--- running threads, and `SlotsFree` and `SlotsKnown`, what they know of slots; `RowLaws`, which extends these laws to
+-- running threads, and `FieldsFree` and `FieldsKnown`, what they know of fields; `RowLaws`, which extends these laws to
 -- every list of events, as `HandedMerges` does its own; `KnownKinds` and `BorrowedItems`, what the checker says of
 -- kinds and of borrowed items; then the laws of the world: `Worlds`, `AgendaMoves`, `Emptying`, `Emptied`, `Leading`,
 -- `Turns`, `Elsewhere`, `StepsMove`, `LocksWait`, `Trace`, `CallLimits`, `CallsLeft`, `Bounded`, `Faults`, `HostCalls`.
@@ -11,6 +11,7 @@
 
 pub mod Agreeing
 pub mod AtTheEnd
+pub mod TrueStates
 pub mod Safe
 pub mod Counting
 pub mod StatesRise
@@ -24,8 +25,8 @@ pub mod ResourcesClose
 pub mod KindWords
 pub mod CellsUnderLock
 pub mod Guarded
-pub mod SlotsFree
-pub mod SlotsKnown
+pub mod FieldsFree
+pub mod FieldsKnown
 pub mod RowLaws
 pub mod HandedMerges
 pub mod KnownKinds

@@ -1,6 +1,6 @@
 -- The thread that steps fits afterwards: the lemmas `thread_after_*`, duty by duty.
 --
--- In order: `Behind` (the duties behind the first know what they knew). `UnderWay` (no step changes whether the
+-- In order: `Behind` (the duties after the first know what they knew). `UnderWay` (no step changes whether the
 -- thread's exit is under way), `Locked` (the thread still holds the list that it has locked) and `Lending` (what it has
 -- lent is the resource of the object that it has locked). `Own`, `FitsAfter`, `Counts`, `Steps` and `Shown` put
 -- together what each step has to show; `FitsAfter` is what follows. `Retains` to `Births` show it, in the order of an

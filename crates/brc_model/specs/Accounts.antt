@@ -6,7 +6,7 @@ use Rattle.brc_model.specs.declared.duty.Holding.TheVariants.{ByVariable, AsCall
 use Rattle.brc_model.specs.AbstractState.{Reference, same_holding}
 use Rattle.brc_model.specs.declared.duty.Reason.TheVariants.{Own}
 use Rattle.brc_model.specs.declared.duty.Duty.{Duty}
-use Rattle.brc_model.specs.declared.duty.Duty.TheVariants.{RetainLoad, RetainStore, RetainAdd, ReleaseLoad, ReleaseStore, SharedLoad, SharedExchange, BirthKind, BirthSlot, BirthLocal, CellSwap}
+use Rattle.brc_model.specs.declared.duty.Duty.TheVariants.{RetainLoad, RetainStore, RetainAdd, ReleaseLoad, ReleaseStore, SharedLoad, SharedExchange, BirthKind, BirthField, BirthLocal, CellSwap}
 use Rattle.brc_model.specs.References.{held, one_if, reference_of}
 use Rattle.brc_word.specs.Words.{half}
 use Rattle.brc_model.specs.declared.layout.Layout.{Layout}
@@ -28,7 +28,7 @@ lacks (RetainLoad x h) k object = same_holding h k && (x == object)
 lacks (RetainStore x h w) k object = same_holding h k && (x == object)
 lacks (RetainAdd x h) k object = same_holding h k && (x == object)
 lacks (BirthKind x h w) k object = same_holding h k && (x == object)
-lacks (BirthSlot x h) k object = same_holding h k && (x == object)
+lacks (BirthField x h) k object = same_holding h k && (x == object)
 lacks (BirthLocal x h) k object = same_holding h k && (x == object)
 lacks _ k object = false
 
@@ -56,8 +56,8 @@ extra_aside aside k object = count_by (λ d. extra d k object) aside
 abbrev pub lacks_aside : List Duty → Holding → ℕ → ℕ
 lacks_aside aside k object = count_by (λ d. lacks d k object) aside
 
--- Of the thread's references the bag has those of its account, with those that its open work gives up, and without
--- those that its open work makes.
+-- The bag has the references of the thread's account, with those that its open work gives up, and without those that
+-- its open work makes.
 pub record HoldsAt (bag : List Reference) (t : ℕ) (account : Account) (agenda aside : List Duty) : Type 0 where
   pub each : (k : Holding) (object : ℕ)
       → held (reference_of t k object) bag + one_if (lacks_of agenda k object) + lacks_aside aside k object

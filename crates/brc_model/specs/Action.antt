@@ -24,7 +24,7 @@ pub data Action : Type 0 where
   -- it calls the host, which reads or writes the resource of the row, if there is one; and is then at the place that
   -- the call's exit decides
   Calls : Option ℕ → (Exit → Place) → Action
-  -- it does a duty, with these duties behind it, and is then at the place that the word found decides
+  -- it does a duty, with these duties after it, and is then at the place that the found word decides
   Does : Duty → List Duty → (ℕ → Place) → Action
 
 -- the place, whatever word the duty finds

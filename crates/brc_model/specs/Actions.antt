@@ -15,9 +15,9 @@ use Rattle.brc_model.specs.declared.actor.Stage.{Stage}
 use Rattle.brc_model.specs.declared.actor.Stage.TheVariants.{InRange, OutOfRange, Found, Retained, Loaded, Lent, Called, Granted}
 use Rattle.brc_model.specs.declared.duty.Holding.{Holding}
 use Rattle.brc_model.specs.declared.duty.Holding.TheVariants.{ByVariable, InFlight}
-use Rattle.brc_model.specs.declared.duty.Duty.TheVariants.{RetainLoad, ReleaseLoad, Settle, BirthKind, KindLoad, LockGate, UnlockGate, CellLoad, CellSwap, LendSlot, ReturnSlot}
+use Rattle.brc_model.specs.declared.duty.Duty.TheVariants.{RetainLoad, ReleaseLoad, Settle, BirthKind, KindLoad, LockGate, UnlockGate, CellLoad, CellSwap, LendField, ReturnField}
 use Rattle.brc_model.specs.Kinds.{same_kind, kind_of_word}
-use Rattle.brc_model.specs.VarStates.{is_stolen, stolen, padded}
+use Rattle.brc_model.specs.SlotStates.{is_stolen, stolen, padded}
 use Rattle.brc_model.specs.Threads.{row_of}
 use Rattle.brc_model.specs.Duties.{cells_of}
 use Rattle.brc_model.specs.AbstractState.{Move}
@@ -88,8 +88,8 @@ file_word = FILE * half
 abbrev pub sock_word : ℕ
 sock_word = SOCK * half
 
--- Returns what a thread does that makes an object of the kind word in the variable, if it has used `used` rows of its
--- block. If its block is full, it empties the variable and goes on at `otherwise`.
+-- Returns the action of a thread that makes an object of the kind word in the variable, if it has used `used` rows of
+-- its block. If its block is full, it empties the variable and goes on at `otherwise`.
 abbrev pub birth_action : Layout → ℕ → ℕ → Context → ℕ → List (Option ℕ) → ℕ → ℕ → ℕ → Action
 birth_action layout t used context at variables to word otherwise =
     if has_room layout t used
@@ -97,8 +97,8 @@ birth_action layout t used context at variables to word otherwise =
     (always (InCall context (at + 1) (slice_set variables to (Some (row_at layout t used)))))
     else Silent [] (InCall context otherwise (slice_set variables to None))
 
--- Returns what a thread does that asks the host for a resource, to make an object of it in the variable. It asks only
--- if its block has room for the object; otherwise, or if the host refuses, it empties the variable and goes on at
+-- Returns the action of a thread that asks the host for a resource, to make an object of it in the variable. It asks
+-- only if its block has room for the object; otherwise, or if the host refuses, it empties the variable and goes on at
 -- `otherwise`.
 abbrev pub grant_action : Layout → ℕ → ℕ → Context → ℕ → List (Option ℕ) → ℕ → ℕ → Action
 grant_action layout t used context at variables to otherwise =
@@ -107,20 +107,20 @@ grant_action layout t used context at variables to otherwise =
     (InCall context otherwise (slice_set variables to None)))
     else Silent [] (InCall context otherwise (slice_set variables to None))
 
--- Returns what a thread does that makes the object for which it has room.
+-- Returns the action of a thread that makes the object for which it has room.
 abbrev pub granted_birth : Layout → ℕ → ℕ → Context → ℕ → List (Option ℕ) → ℕ → ℕ → Action
 granted_birth layout t used context at variables to word =
     Does (BirthKind (row_at layout t used) (by_variable context to) word) []
     (always (InCall context (at + 1) (slice_set variables to (Some (row_at layout t used)))))
 
--- Returns what a thread does that lends the resource of the file or socket in the variable to a call of the host, and
--- what it does that puts the resource back.
+-- Returns the action of a thread that lends the resource of the file or socket in the variable to a call of the host.
 abbrev pub lend_action : Context → ℕ → List (Option ℕ) → ℕ → Action
 lend_action context at variables file =
-    with_row (row_of variables file) (λ row. Does (LendSlot row) [] (always (Inside context at variables Lent)))
+    with_row (row_of variables file) (λ row. Does (LendField row) [] (always (Inside context at variables Lent)))
 
+-- Returns the action of a thread that puts the resource back.
 abbrev pub return_action : List (Option ℕ) → ℕ → Place → Action
-return_action variables file place = with_row (row_of variables file) (λ row. Does (ReturnSlot row) [] (always place))
+return_action variables file place = with_row (row_of variables file) (λ row. Does (ReturnField row) [] (always place))
 
 -- The place that the list's kind word decides: whether the list has the cell.
 abbrev pub by_range : ℕ → Place → Place → ℕ → Place
@@ -182,7 +182,8 @@ callee_context context at variables to callee arguments otherwise = record {
 abbrev pub waiting_context : ℕ → OpenCall → List OpenCall → Context
 waiting_context left o outer = record { left = left; turns = o.turns; outer = outer }
 
--- Returns what a thread does that calls a function. The call's stolen references are the callee's from then on.
+-- Returns the action of a thread that calls a function. The references that the call steals are the callee's from then
+-- on.
 abbrev pub call_action : ℕ → Context → ℕ → List (Option ℕ) → ℕ → ℕ → List Argument → ℕ → Action
 call_action t context at variables to callee arguments otherwise =
     if list_all is_some (argument_rows variables arguments)
@@ -191,7 +192,7 @@ call_action t context at variables to callee arguments otherwise =
     (passed_variables variables arguments))
     else Stuck
 
--- Returns what a thread does that ends a call and returns the reference in the variable, which names the row. The
+-- Returns the action of a thread that ends a call and returns the reference in the variable, which names the row. The
 -- caller of an outermost call releases it. A call that waits for this one has it from then on, and goes on at the next
 -- instruction.
 abbrev pub ret_action : ℕ → ℕ → ℕ → ℕ → List OpenCall → Action
@@ -200,16 +201,16 @@ ret_action t left from row (o ∷ outer) =
     Silent (pass_on t (ByVariable (suc (length outer)) from) (ByVariable (length outer) o.to) row)
     (InCall (waiting_context left o outer) (o.at + 1) (slice_set o.variables o.to (Some row)))
 
--- Returns what a thread does that ends a call and returns no reference. A call that waits for this one goes on where a
--- fault of it leads.
+-- Returns the action of a thread that ends a call and returns no reference. A call that waits for this one goes on
+-- where the fault exit of its instruction leads.
 abbrev pub fail_action : ℕ → List OpenCall → Action
 fail_action left [] = Silent [] (Idle left)
 fail_action left (o ∷ outer) = Silent [] (InCall (waiting_context left o outer) o.otherwise o.variables)
 
 -- ---- instructions
 
--- Returns what a thread does at an instruction, if it has used `used` rows of its block. A lock that another thread
--- holds isn't got: the instruction hasn't begun, and the thread is where it was, at `before`.
+-- Returns the action of a thread at an instruction, if it has used `used` rows of its block. A thread that finds the
+-- object locked by another one hasn't begun the `lock`: it is where it was, at `before`.
 abbrev pub dispatch_instruction : Layout → ℕ → ℕ → Place → Context → ℕ → List (Option ℕ) → Option Instr → Action
 dispatch_instruction layout t used before context at variables None = Stuck
 dispatch_instruction layout t used before context at variables (Some (Num to value otherwise)) =
@@ -281,11 +282,11 @@ dispatch_instruction layout t used before context at variables (Some (Ret from))
     with_row (row_of variables from) (λ row. ret_action t context.left from row context.outer)
 dispatch_instruction layout t used before context at variables (Some Fail) = fail_action context.left context.outer
 
--- Returns what a thread does inside an instruction that takes several steps, by how far it is. An item is borrowed as
--- it is found, or fetched with a reference of its own. A stored item's reference is the variable's (`set`), or a new
--- one (`put`); the item that stood in the cell is released. (Python/C API manual, List Objects.) What the host grants
--- becomes an object. A resource is out of its state of a variable while a call of the host uses it, and goes back
--- however the call ends.
+-- Returns the action of a thread inside an instruction that takes several steps, by how far it is. An item is borrowed
+-- as it is found, or fetched with a reference of its own. A stored item's reference is the variable's (`set`), or a new
+-- one (`put`); the item that was in the cell is released. (Python/C API manual, List Objects.) What the host grants
+-- becomes an object. A resource is out of its field while a call of the host uses it, and goes back however the call
+-- ends.
 abbrev pub dispatch_inside : Layout → ℕ → ℕ → Context → ℕ → List (Option ℕ) → Stage → Option Instr → Action
 dispatch_inside layout t used context at variables InRange (Some (Borrow to list index otherwise)) =
     with_row (row_of variables list)

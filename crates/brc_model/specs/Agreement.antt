@@ -93,24 +93,36 @@ biased_total m x = local_part (m.memory (Local x)) + biased_part (m.memory (Shar
 abbrev pub awaiting : Machine → ℕ → ℕ
 awaiting m x = mark_of m.layout m.memory x + weighed (awaits x) m
 
+-- the row's state, by its shared word
+abbrev pub phase_of : Machine → ℕ → ℕ
+phase_of m x = phase_part (m.memory (Shared x))
+
+-- Default: no decrement is pending, and the shared count isn't negative. The owner counts the row locally, unless a
+-- thread has found its last local reference gone, or merges it.
+pub record DefaultAgrees (m : Machine) (x : ℕ) : Type 0 where
+  pub awaiting_none : awaiting m x ≡ 0
+  pub counts : bias ≤ biased_part (m.memory (Shared x))
+  pub local : IsCountedLocally m x ⊎ SomeThreadHas m (decides_or_merges x)
+
+-- Queued: one decrement is pending. The owner counts the row locally, unless the owner decides about it or merges it,
+-- or a thread has swapped the local count out.
+pub record QueuedAgrees (m : Machine) (x : ℕ) : Type 0 where
+  pub awaiting_one : awaiting m x ≡ 1
+  pub local : IsCountedLocally m x ⊎ OwnerHas m x (decides_or_merges x) ⊎ SomeThreadHas m (has_swapped x)
+
+-- Merged: nobody owns the row, its local count is 0, and its shared count is above 0.
+pub record MergedAgrees (m : Machine) (x : ℕ) : Type 0 where
+  pub unowned : m.memory (Local x) ≡ NOBODY
+  pub counts : bias < biased_part (m.memory (Shared x))
+
 pub record AgreesAt (m : Machine) (x : ℕ) : Type 0 where
   -- the counts add up to the references that are held and the pending decrements
   pub total : biased_total m x ≡ references_to x m.abstract.references + awaiting m x + bias
-  pub default_none : m.life x ≡ Live → phase_part (m.memory (Shared x)) ≡ DEFAULT → awaiting m x ≡ 0
-  pub default_counts : m.life x ≡ Live → phase_part (m.memory (Shared x)) ≡ DEFAULT
-      → bias ≤ biased_part (m.memory (Shared x))
-  pub queued_one : m.life x ≡ Live → phase_part (m.memory (Shared x)) ≡ QUEUED → awaiting m x ≡ 1
-  pub merged_free : m.life x ≡ Live → phase_part (m.memory (Shared x)) ≡ MERGED → m.memory (Local x) ≡ NOBODY
-  pub merged_counts : m.life x ≡ Live → phase_part (m.memory (Shared x)) ≡ MERGED
-      → bias < biased_part (m.memory (Shared x))
-  pub phase : m.life x ≡ Live → IsPhase (phase_part (m.memory (Shared x)))
-  -- the owner counts the row locally, unless a thread has found its last local reference gone, or merges it
-  pub default_local : m.life x ≡ Live → phase_part (m.memory (Shared x)) ≡ DEFAULT
-      → IsCountedLocally m x ⊎ SomeThreadHas m (decides_or_merges x)
-  -- the owner counts the row locally, unless the owner decides about it or merges it, or a thread has swapped the local
-  -- count out
-  pub queued_local : m.life x ≡ Live → phase_part (m.memory (Shared x)) ≡ QUEUED
-      → IsCountedLocally m x ⊎ OwnerHas m x (decides_or_merges x) ⊎ SomeThreadHas m (has_swapped x)
+  -- a live row is in one of the three states, and agrees as the state says
+  pub phase : m.life x ≡ Live → IsPhase (phase_of m x)
+  pub in_default : m.life x ≡ Live → phase_of m x ≡ DEFAULT → DefaultAgrees m x
+  pub in_queued : m.life x ≡ Live → phase_of m x ≡ QUEUED → QueuedAgrees m x
+  pub in_merged : m.life x ≡ Live → phase_of m x ≡ MERGED → MergedAgrees m x
 
 -- the row has no reference and no pending decrement, as each dying or closed row
 pub record IsFreeOf (m : Machine) (x : ℕ) : Type 0 where

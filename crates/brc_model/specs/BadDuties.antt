@@ -3,7 +3,7 @@ use Rattle.std.specs.Prelude.{ℕ, Bool, true, false, ◌||◌, ◌==◌, not, O
 use Rattle.brc_model.specs.AbstractState.{are_allowed}
 use Rattle.brc_model.specs.declared.duty.Duty.{Duty}
 use Rattle.brc_model.specs.declared.address.Address.{Address}
-use Rattle.brc_model.specs.declared.address.Address.TheVariants.{Local, Shared, Gate, KindOf, Marks, Cell, Slot, Resource, ThreadWord}
+use Rattle.brc_model.specs.declared.address.Address.TheVariants.{Local, Shared, Gate, KindOf, Marks, Cell, Field, Resource, ThreadWord}
 use Rattle.brc_model.specs.Duties.{address_of}
 use Rattle.brc_model.specs.Moves.{reference_effects}
 use Rattle.brc_model.specs.declared.actor.Actor.{Actor}
@@ -16,7 +16,7 @@ touched_row (Shared x) = Some x
 touched_row (Gate x) = Some x
 touched_row (KindOf x) = Some x
 touched_row (Cell x i) = Some x
-touched_row (Slot x) = Some x
+touched_row (Field x) = Some x
 touched_row (Resource x) = Some x
 touched_row (Marks t w) = None
 touched_row (ThreadWord t) = None

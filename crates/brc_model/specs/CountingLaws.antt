@@ -1,4 +1,4 @@
--- The laws of the counting machine that running threads stand on.
+-- The laws of the counting machine on which running threads rely.
 use Rattle.std.specs.Prelude.{◌≡◌, ◌≢◌, ◌⊎◌, ℕ, zero, suc, ◌+◌, ◌<◌, ◌≤◌, Bool, true, false, ◌&&◌, ◌==◌, count_by, List, [], ◌∷◌, ◌++◌, None, Some, slice_get}
 use Rattle.brc_model.specs.declared.duty.Holding.{Holding}
 use Rattle.brc_model.specs.declared.duty.Holding.TheVariants.{ByVariable, AsCaller, InFlight}

@@ -6,10 +6,10 @@ use Rattle.brc_model.specs.declared.duty.Holding.TheVariants.{InFlight}
 use Rattle.brc_model.specs.declared.duty.Reason.{Reason}
 use Rattle.brc_model.specs.declared.duty.Reason.TheVariants.{Own, Handed}
 use Rattle.brc_model.specs.declared.duty.Duty.{Duty}
-use Rattle.brc_model.specs.declared.duty.Duty.TheVariants.{RetainLoad, RetainStore, RetainAdd, ReleaseLoad, ReleaseStore, DecideAtZero, SharedLoad, SharedExchange, SetMark, Look, TakeMark, MergeSwap, MergeLoad, MergeExchange, Die, Settle, SettleKind, SettleCell, TakeSlot, CloseResource, SettleEnd, Leave, Scan, TakeFound, Finish, ClaimMark, MarksLoad, BirthKind, BirthSlot, BirthLocal, KindLoad, LockGate, UnlockGate, CellLoad, CellSwap, LendSlot, ReturnSlot}
+use Rattle.brc_model.specs.declared.duty.Duty.TheVariants.{RetainLoad, RetainStore, RetainAdd, ReleaseLoad, ReleaseStore, DecideAtZero, SharedLoad, SharedExchange, SetMark, Look, TakeMark, MergeSwap, MergeLoad, MergeExchange, Die, Settle, SettleKind, SettleCell, TakeField, CloseResource, SettleEnd, Leave, Scan, TakeFound, Finish, ClaimMark, MarksLoad, BirthKind, BirthField, BirthLocal, KindLoad, LockGate, UnlockGate, CellLoad, CellSwap, LendField, ReturnField}
 use Rattle.brc_model.specs.declared.address.Address.{Address}
 use Rattle.brc_model.specs.declared.layout.Layout.{Layout}
-use Rattle.brc_model.specs.declared.address.Address.TheVariants.{Local, Shared, Gate, KindOf, Marks, Cell, Slot, Resource, ThreadWord}
+use Rattle.brc_model.specs.declared.address.Address.TheVariants.{Local, Shared, Gate, KindOf, Marks, Cell, Field, Resource, ThreadWord}
 use Rattle.brc_word.specs.Words.{most_local, local_word, owner_part, local_part, is_immortal_word, fresh_word, dead_word, released_word, merged_word, free_word, locked_word, dying_word, next_part, closed_word, kind_part, argument_part, marks_of_word, mark_at, marked_word, unmarked_word, lowest_mark, first_marks}
 use Rattle.brc_model.specs.Layout.{block_of, row_at, mark_word, mark_bit}
 
@@ -34,20 +34,20 @@ duty_row (MergeExchange x c w r) = Some x
 duty_row (Die x) = Some x
 duty_row (SettleKind x) = Some x
 duty_row (SettleCell x i n) = Some x
-duty_row (TakeSlot x) = Some x
+duty_row (TakeField x) = Some x
 duty_row (CloseResource x) = Some x
 duty_row (SettleEnd x) = Some x
 duty_row (ClaimMark x) = Some x
 duty_row (BirthKind x h w) = Some x
-duty_row (BirthSlot x h) = Some x
+duty_row (BirthField x h) = Some x
 duty_row (BirthLocal x h) = Some x
 duty_row (KindLoad x) = Some x
 duty_row (LockGate x) = Some x
 duty_row (UnlockGate x) = Some x
 duty_row (CellLoad x i) = Some x
 duty_row (CellSwap x i y h) = Some x
-duty_row (LendSlot x) = Some x
-duty_row (ReturnSlot x) = Some x
+duty_row (LendField x) = Some x
+duty_row (ReturnField x) = Some x
 duty_row Settle = None
 duty_row (Leave w n) = None
 duty_row (Scan w n) = None
@@ -85,7 +85,7 @@ address_of layout t head (Die x) = Gate x
 address_of layout t head Settle = Gate (head - 1)
 address_of layout t head (SettleKind x) = KindOf x
 address_of layout t head (SettleCell x i n) = Cell x i
-address_of layout t head (TakeSlot x) = Slot x
+address_of layout t head (TakeField x) = Field x
 address_of layout t head (CloseResource x) = Resource x
 address_of layout t head (SettleEnd x) = Gate x
 address_of layout t head (Leave w n) = ThreadWord t
@@ -95,15 +95,15 @@ address_of layout t head Finish = ThreadWord t
 address_of layout t head (ClaimMark x) = mark_place layout x
 address_of layout t head (MarksLoad w) = Marks t w
 address_of layout t head (BirthKind x h w) = KindOf x
-address_of layout t head (BirthSlot x h) = Slot x
+address_of layout t head (BirthField x h) = Field x
 address_of layout t head (BirthLocal x h) = Local x
 address_of layout t head (KindLoad x) = KindOf x
 address_of layout t head (LockGate x) = Gate x
 address_of layout t head (UnlockGate x) = Gate x
 address_of layout t head (CellLoad x i) = Cell x i
 address_of layout t head (CellSwap x i y h) = Cell x i
-address_of layout t head (LendSlot x) = Slot x
-address_of layout t head (ReturnSlot x) = Slot x
+address_of layout t head (LendField x) = Field x
+address_of layout t head (ReturnField x) = Field x
 
 -- Returns the new value of the word that the step accesses.
 abbrev pub new_word : Layout → ℕ → ℕ → Duty → ℕ → ℕ
@@ -125,7 +125,7 @@ new_word layout t head (Die x) found = dying_word t head
 new_word layout t head Settle found = found
 new_word layout t head (SettleKind x) found = found
 new_word layout t head (SettleCell x i n) found = EMPTY
-new_word layout t head (TakeSlot x) found = EMPTY
+new_word layout t head (TakeField x) found = EMPTY
 new_word layout t head (CloseResource x) found = found + 1
 new_word layout t head (SettleEnd x) found = closed_word
 new_word layout t head (Leave w n) found = LEAVING
@@ -136,15 +136,15 @@ new_word layout t head Finish found = GONE
 new_word layout t head (ClaimMark x) found = unmarked_word found (mark_bit layout x)
 new_word layout t head (MarksLoad w) found = found
 new_word layout t head (BirthKind x h w) found = w
-new_word layout t head (BirthSlot x h) found = FULL
+new_word layout t head (BirthField x h) found = FULL
 new_word layout t head (BirthLocal x h) found = local_word t 1
 new_word layout t head (KindLoad x) found = found
 new_word layout t head (LockGate x) found = if found == free_word then locked_word t else found
 new_word layout t head (UnlockGate x) found = free_word
 new_word layout t head (CellLoad x i) found = found
 new_word layout t head (CellSwap x i y h) found = y + 1
-new_word layout t head (LendSlot x) found = EMPTY
-new_word layout t head (ReturnSlot x) found = FULL
+new_word layout t head (LendField x) found = EMPTY
+new_word layout t head (ReturnField x) found = FULL
 
 -- ---- what follows a step
 
@@ -219,9 +219,9 @@ continuation layout t running head (MergeExchange x c w r) found =
 continuation layout t running head (Die x) found = []
 continuation layout t running head Settle found = SettleKind (head - 1) ∷ Settle ∷ []
 continuation layout t running head (SettleKind x) found =
-    if has_resource found then TakeSlot x ∷ [] else cells_from x 0 (cells_of found)
+    if has_resource found then TakeField x ∷ [] else cells_from x 0 (cells_of found)
 continuation layout t running head (SettleCell x i n) found = release_found found ++ cells_from x (i + 1) n
-continuation layout t running head (TakeSlot x) found = CloseResource x ∷ []
+continuation layout t running head (TakeField x) found = CloseResource x ∷ []
 continuation layout t running head (CloseResource x) found = SettleEnd x ∷ []
 continuation layout t running head (SettleEnd x) found = []
 continuation layout t running head (Leave w n) found = Scan w n ∷ Finish ∷ []
@@ -234,16 +234,16 @@ continuation layout t running head Finish found = []
 continuation layout t running head (ClaimMark x) found = claimed x (mark_at found (mark_bit layout x)) ++ Settle ∷ []
 continuation layout t running head (MarksLoad w) found = []
 continuation layout t running head (BirthKind x h w) found =
-    if has_resource w then BirthSlot x h ∷ [] else BirthLocal x h ∷ []
-continuation layout t running head (BirthSlot x h) found = BirthLocal x h ∷ []
+    if has_resource w then BirthField x h ∷ [] else BirthLocal x h ∷ []
+continuation layout t running head (BirthField x h) found = BirthLocal x h ∷ []
 continuation layout t running head (BirthLocal x h) found = []
 continuation layout t running head (KindLoad x) found = []
 continuation layout t running head (LockGate x) found = []
 continuation layout t running head (UnlockGate x) found = []
 continuation layout t running head (CellLoad x i) found = []
 continuation layout t running head (CellSwap x i y h) found = release_found found
-continuation layout t running head (LendSlot x) found = []
-continuation layout t running head (ReturnSlot x) found = []
+continuation layout t running head (LendField x) found = []
+continuation layout t running head (ReturnField x) found = []
 
 -- the head of the dying chain after the step: 0, or a row plus 1
 abbrev pub new_head : ℕ → Duty → ℕ → ℕ

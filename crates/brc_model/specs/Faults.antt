@@ -26,7 +26,8 @@ acts says m event =
 abbrev pub count_after : (Action → Bool) → StepMachine → ℕ × Choice → ℕ → ℕ
 count_after says m event count = if acts says m event then counted (exit_of event.1) count else count
 
--- An event raises the count of faulted host calls at a host call that faults, and nowhere else; so for closes.
+-- An event counts a faulted host call where its thread's host call faults, and nowhere else; and likewise a faulted
+-- close.
 pub record CountsFaults (m : StepMachine) (event : ℕ × Choice) : Type 0 where
   pub calls : (next_machine m event).host_faults ≡ count_after calls_host m event m.host_faults
   pub closings : (next_machine m event).close_faults ≡ count_after closes_resource m event m.close_faults

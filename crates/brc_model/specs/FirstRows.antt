@@ -20,7 +20,7 @@ use Rattle.brc_model.specs.Machine.{Life, Unborn, Live}
 abbrev pub line_at : List (List ℕ) → ℕ → List ℕ
 line_at lines s = get_or lines s []
 
--- the number of values of the lines in front of line s
+-- the number of values of the lines before line s
 abbrev pub start : List (List ℕ) → ℕ → ℕ
 start lines zero = 0
 start [] (suc s) = 0
@@ -59,7 +59,7 @@ pub data FirstRow : Type 0 where
   -- no object yet
   UnbornRow : FirstRow
 
--- what a row behind none's and the root's has
+-- what a row after none's and the root's has
 abbrev pub later_row : Layout → ℕ → FirstRow
 later_row layout x =
     if nat_lt x (first_immortal_list layout) then UnbornRow

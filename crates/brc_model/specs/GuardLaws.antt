@@ -1,11 +1,11 @@
 -- What holds between any two steps of running threads beside the counts: marks that are set are watched, cells and
--- slots are guarded by their row's gate, owners alone count in local words, and a thread that is gone holds nothing.
+-- fields are guarded by their row's gate, owners alone count in local words, and a thread that is gone holds nothing.
 use Rattle.std.specs.Prelude.{true, false, ◌≡◌, ◌≢◌, ◌⊎◌, ℕ, List, [], None, Some, slice_get}
 use Rattle.brc_word.specs.declared.values.TheConstants.{UNSET}
 use Rattle.brc_word.specs.Words.{locked_word}
 use Rattle.brc_model.specs.declared.duty.Duty.{Duty}
 use Rattle.brc_model.specs.declared.actor.Status.TheVariants.{Gone}
-use Rattle.brc_model.specs.declared.address.Address.TheVariants.{Local, Gate, Cell, Slot}
+use Rattle.brc_model.specs.declared.address.Address.TheVariants.{Local, Gate, Cell, Field}
 use Rattle.brc_model.specs.Layout.{block_of}
 use Rattle.brc_model.specs.Duties.{address_of}
 use Rattle.brc_model.specs.declared.actor.Actor.{Actor}
@@ -32,15 +32,15 @@ pub record HoldsGate (m : Machine) (t x : ℕ) : Type 0 where
   pub locked : actor.locked ≡ Some x
   pub gate : m.memory (Gate x) ≡ locked_word t
 
--- A step that changes a cell is of the thread that holds the row's gate, or it is a step of the row's deallocation.
+-- Only the thread that holds the row's gate changes a cell of the row, or a step of the row's deallocation.
 abbrev pub CellsAreGuarded : Type 0
 CellsAreGuarded =
     (p : Accounts) (n : ℕ) (m : Machine) (t : ℕ) (a : Actor) (d : Duty) (rest : List Duty) (x i : ℕ) → Counts p n m
     → ComesNext m t a d rest → (machine_by_duty m t a d rest).memory (Cell x i) ≢ m.memory (Cell x i)
     → HoldsGate m t x ⊎ ((m.life x ≡ Dying t) × (is_finalising d x ≡ true))
 
--- What a thread's step leaves of the cells that threads guard. Of a list that another thread has locked or chained it
--- leaves every cell. It chains no row for another thread, and one for its own only by a step on the row's gate.
+-- What a thread's step leaves as it is: every cell of a list that another thread has locked or chained. The step chains
+-- no row for another thread, and one for its own only if it is a step on the row's gate.
 pub record LeavesGuarded (m : Machine) (t : ℕ) (a : Actor) (d : Duty) (rest : List Duty) : Type 0 where
   pub others : (u : ℕ) (b : Actor) (x : ℕ) → slice_get m.actors u ≡ Some b → u ≢ t
       → GuardsCells (machine_by_duty m t a d rest) u b x
@@ -52,12 +52,12 @@ abbrev pub GuardedCellsStay : Type 0
 GuardedCellsStay = (p : Accounts) (n : ℕ) (m : Machine) (t : ℕ) (a : Actor) (d : Duty) (rest : List Duty) → Counts p n m
     → ComesNext m t a d rest → LeavesGuarded m t a d rest
 
--- A step that takes a resource out of its slot or puts it there is of the thread that holds the row's gate, or that
--- deallocates the row, or in whose block the row is not yet born.
-abbrev pub SlotsAreGuarded : Type 0
-SlotsAreGuarded =
+-- Only a thread that holds the row's gate, that deallocates the row, or in whose block the row isn't born yet takes a
+-- resource out of the row's field or puts it there.
+abbrev pub FieldsAreGuarded : Type 0
+FieldsAreGuarded =
     (p : Accounts) (n : ℕ) (m : Machine) (t : ℕ) (a : Actor) (d : Duty) (rest : List Duty) (x : ℕ) → Counts p n m
-    → ComesNext m t a d rest → (machine_by_duty m t a d rest).memory (Slot x) ≢ m.memory (Slot x)
+    → ComesNext m t a d rest → (machine_by_duty m t a d rest).memory (Field x) ≢ m.memory (Field x)
     → HoldsGate m t x ⊎ ((m.life x ≡ Dying t) ⊎ ((m.life x ≡ Unborn) × (block_of m.layout x ≡ t)))
 
 -- While the thread of a row's block runs, a step that changes the row's local word is that thread's.

@@ -8,9 +8,9 @@ use Rattle.brc_word.specs.Words.{immortal_local, local_word, kind_part}
 use Rattle.brc_lang.specs.declared.kind.Kind.TheVariants as kinds
 use Rattle.brc_model.specs.Kinds.{kind_number, kind_of_word}
 use Rattle.brc_model.specs.declared.duty.Duty.{Duty}
-use Rattle.brc_model.specs.declared.duty.Duty.TheVariants.{Look, TakeMark, BirthSlot, BirthLocal}
+use Rattle.brc_model.specs.declared.duty.Duty.TheVariants.{Look, TakeMark, BirthField, BirthLocal}
 use Rattle.brc_model.specs.declared.address.Address.{Address}
-use Rattle.brc_model.specs.declared.address.Address.TheVariants.{Local, Shared, Gate, KindOf, Cell, Slot, ThreadWord}
+use Rattle.brc_model.specs.declared.address.Address.TheVariants.{Local, Shared, Gate, KindOf, Cell, Field, ThreadWord}
 use Rattle.brc_model.specs.declared.actor.Actor.{Actor}
 use Rattle.brc_model.specs.Machine.{Life, Unborn, Live, Closed, Machine, mark_of}
 use Rattle.brc_model.specs.References.{held, one_if, reference_of, word_holds, cell_reference}
@@ -102,21 +102,21 @@ pub record UsesFit (layout : Layout) (life : ℕ → Life) (t used : ℕ) : Type
 
 -- Says whether the thread's birth of the row has stored the kind word.
 abbrev pub kind_stored : List Duty → ℕ → Bool
-kind_stored (BirthSlot y h ∷ rest) x = y == x
+kind_stored (BirthField y h ∷ rest) x = y == x
 kind_stored (BirthLocal y h ∷ rest) x = y == x
 kind_stored _ x = false
 
--- Says whether the birth has put the resource into its slot.
-abbrev pub slot_stored : List Duty → ℕ → Bool
-slot_stored (BirthLocal y h ∷ rest) x = y == x
-slot_stored _ x = false
+-- Says whether the birth has put the resource into its field.
+abbrev pub field_stored : List Duty → ℕ → Bool
+field_stored (BirthLocal y h ∷ rest) x = y == x
+field_stored _ x = false
 
 -- The unused rows of a thread's block are blank, but for what the birth under way has stored.
 pub record BlankFits (layout : Layout) (memory : Address → ℕ) (t used : ℕ) (agenda : List Duty) : Type 0 where
   pub kinds : (x : ℕ) → block_of layout x ≡ t → used ≤ index_of layout t x → kind_stored agenda x ≡ false
       → memory (KindOf x) ≡ 0
-  pub slots : (x : ℕ) → block_of layout x ≡ t → used ≤ index_of layout t x → slot_stored agenda x ≡ false
-      → memory (Slot x) ≡ EMPTY
+  pub fields : (x : ℕ) → block_of layout x ≡ t → used ≤ index_of layout t x → field_stored agenda x ≡ false
+      → memory (Field x) ≡ EMPTY
 
 -- ---- the whole
 

@@ -5,8 +5,8 @@ use Rattle.std.specs.Prelude.{◌≡◌, ℕ, ◌+◌, ◌<◌, Bool, true, fals
 use Rattle.brc_lang.specs.declared.module.Function.{Function}
 use Rattle.brc_lang.specs.declared.module.Instr.{Instr}
 use Rattle.brc_lang.specs.declared.module.Instr.TheVariants.{Borrow, Fetch, Set, Put}
-use Rattle.brc_model.specs.declared.state.VarState.{VarState}
-use Rattle.brc_model.specs.declared.state.VarState.TheVariants.{Locked}
+use Rattle.brc_model.specs.declared.state.Slot.{Slot}
+use Rattle.brc_model.specs.declared.state.Slot.TheVariants.{Locked}
 use Rattle.brc_model.specs.declared.state.State.{State}
 use Rattle.brc_model.specs.declared.state.Exit.{Exit}
 use Rattle.brc_model.specs.declared.actor.Place.{Place}
@@ -15,7 +15,7 @@ use Rattle.brc_model.specs.declared.actor.Stage.{Stage}
 use Rattle.brc_model.specs.declared.actor.Stage.TheVariants.{InRange, Found, Retained}
 use Rattle.brc_model.specs.declared.address.Address.{Address}
 use Rattle.brc_model.specs.declared.address.Address.TheVariants.{KindOf, Cell}
-use Rattle.brc_model.specs.VarStates.{var_of}
+use Rattle.brc_model.specs.SlotStates.{var_of}
 use Rattle.brc_model.specs.Paths.{At, path_end}
 use Rattle.brc_model.specs.Threads.{function_in, row_of}
 use Rattle.brc_model.specs.Duties.{cells_of}
@@ -29,7 +29,7 @@ pub record IsItem (memory : Address → ℕ) (locked : Option ℕ) (x : ℕ) : T
   pub is_locked : locked ≡ Some list
   pub holds : memory (Cell list cell) ≡ x + 1
 
-abbrev pub borrows_item : VarState → Bool
+abbrev pub borrows_item : Slot → Bool
 borrows_item (Locked k) = true
 borrows_item _ = false
 
@@ -73,7 +73,7 @@ KnowsItems f memory locked (Inside context at variables stage) = KnowsInside f m
 KnowsItems f memory locked (Stopping lock calls) = Unit {0}
 KnowsItems f memory locked Exiting = Unit {0}
 
--- each thread's borrowed items stand in the list that it has locked
+-- each thread's borrowed items are in the list that it has locked
 abbrev pub ItemsAreThere : StepMachine → Type 0
 ItemsAreThere m =
     (t : ℕ) (a : StepActor) → slice_get m.actors t ≡ Some a

@@ -7,9 +7,9 @@ use Rattle.brc_model.specs.Kinds.{kind_of_word, is_counted_kind}
 use Rattle.brc_model.specs.declared.duty.Reason.{Reason}
 use Rattle.brc_model.specs.declared.duty.Reason.TheVariants.{Own, Handed}
 use Rattle.brc_model.specs.declared.duty.Duty.{Duty}
-use Rattle.brc_model.specs.declared.duty.Duty.TheVariants.{RetainLoad, RetainStore, RetainAdd, ReleaseLoad, ReleaseStore, DecideAtZero, SharedLoad, SharedExchange, SetMark, Look, TakeMark, MergeSwap, MergeLoad, MergeExchange, Die, Settle, SettleKind, SettleCell, TakeSlot, CloseResource, SettleEnd, Leave, Scan, TakeFound, Finish, ClaimMark, MarksLoad, BirthKind, BirthSlot, BirthLocal, KindLoad, LockGate, UnlockGate, CellLoad, CellSwap, LendSlot, ReturnSlot}
+use Rattle.brc_model.specs.declared.duty.Duty.TheVariants.{RetainLoad, RetainStore, RetainAdd, ReleaseLoad, ReleaseStore, DecideAtZero, SharedLoad, SharedExchange, SetMark, Look, TakeMark, MergeSwap, MergeLoad, MergeExchange, Die, Settle, SettleKind, SettleCell, TakeField, CloseResource, SettleEnd, Leave, Scan, TakeFound, Finish, ClaimMark, MarksLoad, BirthKind, BirthField, BirthLocal, KindLoad, LockGate, UnlockGate, CellLoad, CellSwap, LendField, ReturnField}
 use Rattle.brc_model.specs.declared.address.Address.{Address}
-use Rattle.brc_model.specs.declared.address.Address.TheVariants.{Local, Shared, Gate, KindOf, Cell, Slot, ThreadWord}
+use Rattle.brc_model.specs.declared.address.Address.TheVariants.{Local, Shared, Gate, KindOf, Cell, Field, ThreadWord}
 use Rattle.brc_model.specs.declared.actor.Status.{Status}
 use Rattle.brc_model.specs.declared.actor.Status.TheVariants.{Running, Leaving, Gone}
 use Rattle.brc_model.specs.Duties.{cells_of, has_resource, resources_of}
@@ -94,9 +94,8 @@ IsEmptyBut memory x i n = (j : ℕ) → (j < i) ⊎ (n ≤ j) → memory (Cell x
 abbrev pub IsEmpty : (Address → ℕ) → ℕ → Type 0
 IsEmpty memory x = (j : ℕ) → memory (Cell x j) ≡ EMPTY
 
--- What a thread knows of a row whose cells it empties, and which it then closes, even while these duties are behind
--- another one: the thread may release what it found in a cell first. Only lists have cells, so such a row has no
--- resource.
+-- What a thread knows of a row whose cells it empties, and which it then closes, even while another duty comes before
+-- these: the thread may release what it found in a cell first. Only lists have cells, so such a row has no resource.
 abbrev pub BehindFits : Machine → ℕ → Duty → Type 0
 BehindFits m t (SettleCell x i n) =
     (IsCounted m.layout x) × (m.life x ≡ Dying t) × (i < n) × IsDyingWord t (m.memory (Gate x))
@@ -110,7 +109,7 @@ BehindFits m t d = Unit {0}
 abbrev pub AreUsedMarks : ℕ → ℕ → ℕ → Type 0
 AreUsedMarks used w marks = marks < 2 ^ min (used - marks_of_word * w) marks_of_word
 
--- What the duty knows when it comes next. `rest` are the duties behind it. A swap of a cell needs to know no more: the
+-- What the duty knows when it comes next. `rest` are the duties after it. A swap of a cell needs to know no more: the
 -- thread's account has the reference that keeps the locked list alive, and no longer the one that goes into the cell.
 abbrev pub HeadFits : Machine → ℕ → Actor → Duty → List Duty → Type 0
 HeadFits m t a (RetainLoad x h) rest = IsBacked m t a x
@@ -140,7 +139,7 @@ HeadFits m t a (Die x) rest = (IsCounted m.layout x) × (m.life x ≡ Dying t) �
 HeadFits m t a Settle rest = 0 < a.head
 HeadFits m t a (SettleKind x) rest = (IsCounted m.layout x) × (m.life x ≡ Dying t) × IsDyingWord t (m.memory (Gate x))
 HeadFits m t a (SettleCell x i n) rest = BehindFits m t (SettleCell x i n)
-HeadFits m t a (TakeSlot x) rest =
+HeadFits m t a (TakeField x) rest =
     (IsCounted m.layout x) × (m.life x ≡ Dying t) × IsDyingWord t (m.memory (Gate x)) × IsEmpty m.memory x
     × (resources_of (m.memory (KindOf x)) ≡ 1)
 HeadFits m t a (CloseResource x) rest =
@@ -154,31 +153,31 @@ HeadFits m t a Finish rest = Unit {0}
 HeadFits m t a (ClaimMark x) rest = block_of m.layout x ≡ t
 HeadFits m t a (MarksLoad w) rest = w < mark_words_of m.layout t
 HeadFits m t a (BirthKind x h w) rest = IsNext m t a x × (rest ≡ []) × (is_counted_kind (kind_of_word w) ≡ true)
-HeadFits m t a (BirthSlot x h) rest =
+HeadFits m t a (BirthField x h) rest =
     IsNext m t a x × (rest ≡ []) × HasCountedKind m.memory x × (resources_of (m.memory (KindOf x)) ≡ 1)
 HeadFits m t a (BirthLocal x h) rest =
     IsNext m t a x × (rest ≡ []) × HasCountedKind m.memory x
-    × (m.memory (Slot x) ≡ resources_of (m.memory (KindOf x)))
+    × (m.memory (Field x) ≡ resources_of (m.memory (KindOf x)))
 HeadFits m t a (KindLoad x) rest = MayRead m t a x
 HeadFits m t a (LockGate x) rest = IsBacked m t a x × (a.locked ≡ None)
 HeadFits m t a (UnlockGate x) rest =
     IsBacked m t a x × (a.locked ≡ Some x) × HasNoRetainAside a × (a.lent ≡ None)
 HeadFits m t a (CellLoad x i) rest = MayRead m t a x × GuardsCells m t a x × (i < cells_of (m.memory (KindOf x)))
 HeadFits m t a (CellSwap x i y h) rest = (a.locked ≡ Some x) × (i < cells_of (m.memory (KindOf x)))
-HeadFits m t a (LendSlot x) rest =
+HeadFits m t a (LendField x) rest =
     (IsCounted m.layout x) × (a.locked ≡ Some x) × (a.lent ≡ None) × (has_resource (m.memory (KindOf x)) ≡ true)
-HeadFits m t a (ReturnSlot x) rest = a.lent ≡ Some x
+HeadFits m t a (ReturnField x) rest = a.lent ≡ Some x
 
 abbrev pub HeadOf : Machine → ℕ → Actor → List Duty → Type 0
 HeadOf m t a [] = Unit {0}
 HeadOf m t a (d ∷ rest) = HeadFits m t a d rest
 
--- Each of the duties knows what it has to know behind another one.
+-- Each of the duties knows what it has to know while another one comes first.
 abbrev pub AllBehind : Machine → ℕ → List Duty → Type 0
 AllBehind m t [] = Unit {0}
 AllBehind m t (d ∷ rest) = BehindFits m t d × AllBehind m t rest
 
--- the same of the duties behind an agenda's first duty
+-- the same of the duties after an agenda's first one
 abbrev pub BehindOf : Machine → ℕ → List Duty → Type 0
 BehindOf m t [] = Unit {0}
 BehindOf m t (d ∷ rest) = AllBehind m t rest

@@ -5,7 +5,7 @@ use Rattle.std.specs.Prelude.{◌≡◌, ◌≢◌, ◌⊎◌, ℕ, ◌<◌, Lis
 use Rattle.brc_lang.specs.declared.kind.Kind.{Kind}
 use Rattle.brc_lang.specs.declared.kind.Kind.TheVariants as kinds
 use Rattle.brc_lang.specs.declared.module.Function.{Function}
-use Rattle.brc_model.specs.declared.state.VarState.{VarState}
+use Rattle.brc_model.specs.declared.state.Slot.{Slot}
 use Rattle.brc_model.specs.declared.state.State.{State}
 use Rattle.brc_model.specs.declared.state.Exit.{Exit}
 use Rattle.brc_model.specs.declared.actor.Place.{Place}
@@ -13,7 +13,7 @@ use Rattle.brc_model.specs.declared.actor.Place.TheVariants.{Idle, InCall, Insid
 use Rattle.brc_model.specs.declared.address.Address.TheVariants.{KindOf}
 use Rattle.brc_model.specs.declared.thread.Choice.{Choice}
 use Rattle.brc_model.specs.Kinds.{kind_of_word}
-use Rattle.brc_model.specs.VarStates.{var_of, kind_of}
+use Rattle.brc_model.specs.SlotStates.{var_of, kind_of}
 use Rattle.brc_model.specs.Paths.{At, path_end}
 use Rattle.brc_model.specs.Threads.{function_in, row_of}
 use Rattle.brc_model.specs.declared.layout.Layout.{Layout}
@@ -26,14 +26,13 @@ abbrev pub IsTrueKind : Kind → ℕ → Type 0
 IsTrueKind kind word = (kind ≡ kinds.Any) ⊎ (kind_of_word word ≡ kind)
 
 -- The variable's kind is that of the row's kind word, if the variable names a row.
-abbrev pub HasTrueKind : (ℕ → ℕ) → VarState → Option ℕ → Type 0
+abbrev pub HasTrueKind : (ℕ → ℕ) → Slot → Option ℕ → Type 0
 HasTrueKind words var row = (x : ℕ) → row ≡ Some x → IsTrueKind (kind_of var) (words x)
 
 abbrev pub HaveTrueKinds : (ℕ → ℕ) → State → List (Option ℕ) → Type 0
 HaveTrueKinds words s variables = (v : ℕ) → HasTrueKind words (var_of s v) (row_of variables v)
 
--- In a call, each variable has the kind of its state of a variable in the state in which paths reach the thread's
--- point.
+-- In a call, each variable has the kind that the state says in which paths reach the thread's point.
 abbrev pub KnowsKinds : Function → (ℕ → ℕ) → Place → Type 0
 KnowsKinds f words (Idle left) = Unit {0}
 KnowsKinds f words (InCall context at variables) =

@@ -1,5 +1,5 @@
 -- Which rows a machine has, and whose they are. None and the root are main's. Then comes a block of rows for each
--- worker. The rows behind those are main's again. A thread counts the rows of its block from 0, wherever they are.
+-- worker. The rows after those are main's again. A thread counts the rows of its block from 0, wherever they are.
 use Rattle.std.specs.Prelude.{◌≡◌, ℕ, zero, suc, ◌+◌, ◌-◌, ◌*◌, ◌/◌, ◌%◌, Bool, false, ◌&&◌, ◌||◌, ◌==◌, nat_le, nat_lt, if◌then◌else◌}
 use Rattle.brc_word.specs.Words.{marks_of_word}
 use Rattle.brc_model.specs.declared.layout.Layout.{Layout}
@@ -18,11 +18,11 @@ by_row of_none of_root otherwise zero = of_none
 by_row of_none of_root otherwise (suc zero) = of_root
 by_row of_none of_root otherwise (suc (suc x)) = otherwise
 
--- main's rows in front of the workers': none's and the root's
+-- main's rows before the workers': none's and the root's
 abbrev pub front_rows : ℕ
 front_rows = 2
 
--- main's rows behind the workers': the immortal lists, and behind them the numbers in their cells
+-- main's rows after the workers': the immortal lists, and after them the numbers in their cells
 abbrev pub rear_rows : Layout → ℕ
 rear_rows layout = layout.immortal_lists + layout.numbers
 

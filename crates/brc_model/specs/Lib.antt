@@ -1,6 +1,6 @@
 pub mod Limits
 pub mod Layout
-pub mod VarStates
+pub mod SlotStates
 pub mod Paths
 pub mod Tables
 pub mod Kinds
@@ -45,7 +45,7 @@ pub mod Watched
 pub mod GuardLaws
 pub mod Ending
 pub mod ResourceLaws
-pub mod SlotLaws
+pub mod FieldLaws
 pub mod StopLaws
 pub mod Trace
 pub mod Bounded

@@ -6,10 +6,10 @@ use Rattle.brc_model.specs.declared.actor.Actor.{Actor}
 use Rattle.brc_model.specs.declared.actor.Status.{Status}
 use Rattle.brc_model.specs.declared.actor.Status.TheVariants.{Running, Leaving, Gone}
 use Rattle.brc_model.specs.declared.duty.Duty.{Duty}
-use Rattle.brc_model.specs.declared.duty.Duty.TheVariants.{Die, SettleEnd, Leave, Finish, BirthLocal, LockGate, UnlockGate, LendSlot, ReturnSlot}
+use Rattle.brc_model.specs.declared.duty.Duty.TheVariants.{Die, SettleEnd, Leave, Finish, BirthLocal, LockGate, UnlockGate, LendField, ReturnField}
 use Rattle.brc_model.specs.declared.address.Address.{Address}
 use Rattle.brc_model.specs.declared.layout.Layout.{Layout}
-use Rattle.brc_model.specs.declared.address.Address.TheVariants.{Local, Shared, Gate, KindOf, Marks, Cell, Slot, Resource, ThreadWord}
+use Rattle.brc_model.specs.declared.address.Address.TheVariants.{Local, Shared, Gate, KindOf, Marks, Cell, Field, Resource, ThreadWord}
 use Rattle.brc_model.specs.AbstractState.{AbstractState, Move, moved}
 use Rattle.brc_word.specs.Words.{free_word, mark_at}
 use Rattle.brc_model.specs.Duties.{mark_place, address_of, new_word, continuation, new_head, ready}
@@ -52,14 +52,14 @@ locked_by locked _ found = locked
 
 -- Says whether the duty takes a resource for a call of the host, or puts it back.
 abbrev pub is_lending : Duty → Bool
-is_lending (LendSlot x) = true
-is_lending (ReturnSlot x) = true
+is_lending (LendField x) = true
+is_lending (ReturnField x) = true
 is_lending _ = false
 
--- A thread that finds the resource in its slot has it lent, until it puts it back.
+-- A thread that finds the resource in its field has it lent, until it puts it back.
 abbrev pub lent_by : Option ℕ → Duty → ℕ → Option ℕ
-lent_by lent (LendSlot x) found = if found == FULL then Some x else lent
-lent_by lent (ReturnSlot x) found = None
+lent_by lent (LendField x) found = if found == FULL then Some x else lent
+lent_by lent (ReturnField x) found = None
 lent_by lent _ found = lent
 
 -- ---- the rows of a thread
@@ -90,7 +90,7 @@ same_address (Gate x) (Gate y) = x == y
 same_address (KindOf x) (KindOf y) = x == y
 same_address (Marks t w) (Marks u v) = (t == u) && (w == v)
 same_address (Cell x i) (Cell y j) = (x == y) && (i == j)
-same_address (Slot x) (Slot y) = x == y
+same_address (Field x) (Field y) = x == y
 same_address (Resource x) (Resource y) = x == y
 same_address (ThreadWord t) (ThreadWord u) = t == u
 same_address _ _ = false
@@ -140,7 +140,7 @@ actor_by layout t a d rest found = record {
   lent = lent_by a.lent d found;
 }
 
--- Returns the machine after the duty of thread t, which is one step on one word. `rest` are the duties behind it.
+-- Returns the machine after the duty of thread t, which is one step on one word. `rest` are the duties after it.
 abbrev pub machine_by_duty : Machine → ℕ → Actor → Duty → List Duty → Machine
 machine_by_duty m t a d rest =
     let address = address_of m.layout t a.head d in

@@ -14,7 +14,7 @@ use Rattle.brc_model.specs.declared.actor.Place.TheVariants.{Idle, InCall, Insid
 use Rattle.brc_model.specs.declared.address.Address.{Address}
 use Rattle.brc_model.specs.declared.address.Address.TheVariants.{KindOf}
 use Rattle.brc_model.specs.Kinds.{kind_of_word}
-use Rattle.brc_model.specs.VarStates.{is_one_of, lockable, with_resource}
+use Rattle.brc_model.specs.SlotStates.{is_one_of, lockable, with_resource}
 use Rattle.brc_model.specs.Threads.{row_of, entry_variables}
 
 -- the kind of the row's object, by its kind word

@@ -3,7 +3,7 @@ use Rattle.std.specs.Prelude.{◌≡◌, ◌⊎◌, ℕ, ◌+◌, ◌-◌, ◌*�
 use Rattle.brc_word.specs.declared.values.TheConstants.{SET}
 use Rattle.brc_word.specs.Words.{half, dying_word, marks_of_word, mark_at}
 use Rattle.brc_model.specs.declared.duty.Duty.{Duty}
-use Rattle.brc_model.specs.declared.duty.Duty.TheVariants.{RetainLoad, RetainStore, RetainAdd, ReleaseLoad, ReleaseStore, DecideAtZero, SharedLoad, SharedExchange, SetMark, Look, TakeMark, MergeSwap, MergeLoad, MergeExchange, Die, Settle, SettleKind, SettleCell, TakeSlot, CloseResource, SettleEnd, Leave, Scan, TakeFound, Finish, BirthKind, BirthSlot, BirthLocal, KindLoad, LockGate, UnlockGate, CellLoad, LendSlot, ReturnSlot}
+use Rattle.brc_model.specs.declared.duty.Duty.TheVariants.{RetainLoad, RetainStore, RetainAdd, ReleaseLoad, ReleaseStore, DecideAtZero, SharedLoad, SharedExchange, SetMark, Look, TakeMark, MergeSwap, MergeLoad, MergeExchange, Die, Settle, SettleKind, SettleCell, TakeField, CloseResource, SettleEnd, Leave, Scan, TakeFound, Finish, BirthKind, BirthField, BirthLocal, KindLoad, LockGate, UnlockGate, CellLoad, LendField, ReturnField}
 use Rattle.brc_model.specs.declared.address.Address.{Address}
 use Rattle.brc_model.specs.declared.address.Address.TheVariants.{Gate}
 use Rattle.brc_model.specs.declared.actor.Status.{Status}
@@ -16,7 +16,7 @@ use Rattle.brc_model.specs.Knowledge.{AreUsedMarks, HeadFits}
 
 -- ---- what is for later
 
--- What may be behind an agenda's first duty: the rest of a dying list, settling, and the end of the thread's exit. A
+-- What may come after an agenda's first duty: the rest of a dying list, settling, and the end of the thread's exit. A
 -- leaving thread still has to scan the marks of its used rows, from the mark word `w` on, and to take those that it has
 -- found.
 abbrev pub Later : ℕ → Status → List Duty → Type 0
@@ -33,7 +33,7 @@ Later used status (TakeFound w marks ∷ rest) =
 Later used status (Finish ∷ []) = status ≡ Leaving
 Later used status _ = ⊥
 
--- A whole agenda: any duty first, and behind it what may be there.
+-- A whole agenda: any duty first, and then what may come after it.
 abbrev pub Agenda : ℕ → Status → List Duty → Type 0
 Agenda used status [] = Later used status []
 Agenda used status (Settle ∷ rest) = Later used status (Settle ∷ rest)
@@ -76,7 +76,7 @@ AgendaFits a Leaving = Agenda a.used Leaving a.agenda
 -- ---- when a chain is empty
 
 -- Whenever a duty of the exit comes next, the chain is empty: settling empties it. Any other duty may fill it, so the
--- duties behind one have to fit a chain that isn't empty.
+-- duties after one have to fit a chain that isn't empty.
 abbrev pub IsSettled : ℕ → List Duty → Type 0
 IsSettled head [] = Unit {0}
 IsSettled head (Settle ∷ rest) = IsSettled 0 rest
@@ -100,7 +100,7 @@ abbrev pub is_finalising : Duty → ℕ → Bool
 is_finalising (Die y) x = y == x
 is_finalising (SettleKind y) x = y == x
 is_finalising (SettleCell y i n) x = y == x
-is_finalising (TakeSlot y) x = y == x
+is_finalising (TakeField y) x = y == x
 is_finalising (CloseResource y) x = y == x
 is_finalising (SettleEnd y) x = y == x
 is_finalising _ x = false
@@ -163,14 +163,14 @@ may_wait _ = false
 abbrev pub is_piece : Duty → Bool
 is_piece (Die x) = true
 is_piece (BirthKind x h w) = true
-is_piece (BirthSlot x h) = true
+is_piece (BirthField x h) = true
 is_piece (BirthLocal x h) = true
 is_piece (KindLoad x) = true
 is_piece (LockGate x) = true
 is_piece (UnlockGate x) = true
 is_piece (CellLoad x i) = true
-is_piece (LendSlot x) = true
-is_piece (ReturnSlot x) = true
+is_piece (LendField x) = true
+is_piece (ReturnField x) = true
 is_piece d = may_wait d
 
 -- The agenda is empty, or one such duty.

@@ -9,7 +9,7 @@ use Rattle.brc_lang.specs.declared.check_code.CheckCode.{CheckCode}
 use Rattle.brc_lang.specs.declared.check_code.CheckCode.TheVariants.{RunsOff}
 use Rattle.brc_model.specs.declared.state.State.{State}
 use Rattle.brc_model.specs.declared.state.Exit.{Exit}
-use Rattle.brc_model.specs.VarStates.{lowest, after, target, entry_of}
+use Rattle.brc_model.specs.SlotStates.{lowest, after, target, entry_of}
 
 -- the end of a path: a point in a state, the end of the call, or an error code that applies at a point
 pub data PathEnd : Type 0 where

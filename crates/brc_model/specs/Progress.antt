@@ -14,7 +14,7 @@ use Rattle.brc_model.specs.declared.duty.Reason.TheVariants.{Handed}
 use Rattle.brc_model.specs.declared.duty.Duty.{Duty}
 use Rattle.brc_model.specs.declared.duty.Duty.TheVariants.{MergeExchange}
 use Rattle.brc_model.specs.declared.actor.Status.TheVariants.{Running}
-use Rattle.brc_model.specs.declared.address.Address.TheVariants.{Local, Shared, Gate, KindOf, Cell, Slot, Resource}
+use Rattle.brc_model.specs.declared.address.Address.TheVariants.{Local, Shared, Gate, KindOf, Cell, Field, Resource}
 use Rattle.brc_model.specs.declared.actor.Actor.{Actor}
 use Rattle.brc_model.specs.Machine.{Unborn, Dying, Machine, mark_of}
 use Rattle.brc_model.specs.Actions.{StepActor}
@@ -76,7 +76,7 @@ pub record StaysAt (m next : StepMachine) (x : ℕ) : Type 0 where
   pub shared : next.memory (Shared x) ≡ m.memory (Shared x)
   pub kind : next.memory (KindOf x) ≡ m.memory (KindOf x)
   pub mark : mark_of next.layout next.memory x ≡ mark_of m.layout m.memory x
-  pub slot : next.memory (Slot x) ≡ m.memory (Slot x)
+  pub field : next.memory (Field x) ≡ m.memory (Field x)
   pub resource : next.memory (Resource x) ≡ m.memory (Resource x)
 
 -- no event changes an immortal row's words, but those that a lock guards

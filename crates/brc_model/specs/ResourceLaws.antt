@@ -4,7 +4,7 @@ use Rattle.std.specs.Prelude.{◌≡◌, ℕ, ◌≤◌, true, List, ◌∷◌, 
 use Rattle.brc_word.specs.declared.values.TheConstants.{EMPTY}
 use Rattle.brc_model.specs.declared.duty.Duty.{Duty}
 use Rattle.brc_model.specs.declared.duty.Duty.TheVariants.{SettleEnd}
-use Rattle.brc_model.specs.declared.address.Address.TheVariants.{KindOf, Slot, Resource}
+use Rattle.brc_model.specs.declared.address.Address.TheVariants.{KindOf, Field, Resource}
 use Rattle.brc_model.specs.Duties.{has_resource}
 use Rattle.brc_model.specs.declared.actor.Actor.{Actor}
 use Rattle.brc_model.specs.Machine.{Closed, Machine}
@@ -32,9 +32,9 @@ pub record ResourcesCloseOnce (m : StepMachine) : Type 0 where
 abbrev pub HasLent : Machine → ℕ → ℕ → Type 0
 HasLent m t x = (a : Actor) × (slice_get m.actors t ≡ Some a) × (a.lent ≡ Some x)
 
--- the row's slot is empty, no other thread has the resource lent, and the thread has locked the row
+-- the row's field is empty, no other thread has the resource lent, and the thread has locked the row
 pub record IsUsedAlone (m : Machine) (t x : ℕ) : Type 0 where
-  pub slot : m.memory (Slot x) ≡ EMPTY
+  pub field : m.memory (Field x) ≡ EMPTY
   pub alone : (u : ℕ) → HasLent m u x → u ≡ t
   pub locked : HasLock m t x
 

@@ -1,10 +1,10 @@
--- The resources of the host. Each file or socket that was born has its resource in exactly one place: in its slot, with
+-- The resources of the host. Each file or socket that was born has its resource in exactly one place: in its field, with
 -- the thread that has it lent to a call of the host, with the thread that is about to close it, or closed.
 use Rattle.std.specs.Prelude.{◌≡◌, ℕ, ◌+◌, ◌<◌, ◌==◌, List, sum_by}
 use Rattle.brc_model.specs.declared.duty.Duty.{Duty}
 use Rattle.brc_model.specs.declared.duty.Duty.TheVariants.{CloseResource, SettleEnd}
-use Rattle.brc_model.specs.declared.address.Address.TheVariants.{KindOf, Slot, Resource}
-use Rattle.brc_model.specs.VarStates.{names}
+use Rattle.brc_model.specs.declared.address.Address.TheVariants.{KindOf, Field, Resource}
+use Rattle.brc_model.specs.SlotStates.{names}
 use Rattle.brc_model.specs.Duties.{resources_of}
 use Rattle.brc_model.specs.declared.actor.Actor.{Actor}
 use Rattle.brc_model.specs.Machine.{Life, Unborn, Live, Dying, Closed, Machine}
@@ -39,7 +39,7 @@ ending x _ = 0
 pub record Resources : Type 0 where
   -- how many resources the row's kind has: one or none
   pub all : ℕ
-  pub slot : ℕ
+  pub field : ℕ
   pub lent : ℕ
   pub closing : ℕ
   -- how often the host has been asked to close it
@@ -49,7 +49,7 @@ pub record Resources : Type 0 where
 abbrev pub resources_at : Machine → ℕ → Resources
 resources_at m x = record {
   all = resources_of (m.memory (KindOf x));
-  slot = m.memory (Slot x);
+  field = m.memory (Field x);
   lent = lenders x m.actors;
   closing = weight (closing x) m.actors;
   closed = m.memory (Resource x);
@@ -60,7 +60,7 @@ resources_at m x = record {
 
 -- The resource is in one place, if the row's kind has one.
 abbrev pub IsPlaced : Resources → Type 0
-IsPlaced n = n.slot + n.lent + n.closing + n.closed ≡ n.all
+IsPlaced n = n.field + n.lent + n.closing + n.closed ≡ n.all
 
 -- A dying row's resource is closed once the thread is about to close the row, and not before.
 pub record IsSettling (n : Resources) : Type 0 where

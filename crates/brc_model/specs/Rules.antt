@@ -7,7 +7,7 @@ use Rattle.brc_model.specs.declared.duty.Holding.{Holding}
 use Rattle.brc_model.specs.declared.duty.Reason.{Reason}
 use Rattle.brc_model.specs.declared.duty.Reason.TheVariants.{Own, Handed}
 use Rattle.brc_model.specs.declared.duty.Duty.{Duty}
-use Rattle.brc_model.specs.declared.duty.Duty.TheVariants.{RetainLoad, RetainStore, RetainAdd, ReleaseLoad, ReleaseStore, DecideAtZero, SharedLoad, SharedExchange, SetMark, Look, TakeMark, MergeSwap, MergeLoad, MergeExchange, Die, Settle, SettleKind, SettleCell, TakeSlot, CloseResource, SettleEnd, Leave, Scan, TakeFound, Finish, ClaimMark, MarksLoad, BirthKind, BirthSlot, BirthLocal, KindLoad, LockGate, UnlockGate, CellLoad, CellSwap, LendSlot, ReturnSlot}
+use Rattle.brc_model.specs.declared.duty.Duty.TheVariants.{RetainLoad, RetainStore, RetainAdd, ReleaseLoad, ReleaseStore, DecideAtZero, SharedLoad, SharedExchange, SetMark, Look, TakeMark, MergeSwap, MergeLoad, MergeExchange, Die, Settle, SettleKind, SettleCell, TakeField, CloseResource, SettleEnd, Leave, Scan, TakeFound, Finish, ClaimMark, MarksLoad, BirthKind, BirthField, BirthLocal, KindLoad, LockGate, UnlockGate, CellLoad, CellSwap, LendField, ReturnField}
 use Rattle.brc_model.specs.declared.address.Address.{Address}
 use Rattle.brc_model.specs.declared.address.Address.TheVariants.{KindOf}
 use Rattle.brc_word.specs.Words.{most_local, local_word, local_part, is_immortal_word, fresh_word, dead_word, merged_word, free_word, locked_word, dying_word, closed_word, marks_of_word, mark_at, marked_word, unmarked_word, lowest_mark, first_marks}
@@ -31,13 +31,13 @@ module _ (memory : Address → ℕ) (layout : Layout) (t : ℕ) (running : Bool)
 
     -- a file or a socket: its resource comes next
     KindOfResource : (x : ℕ) (h : Holding) (word found : ℕ) → has_resource word ≡ true
-        → Goes (BirthKind x h word) found word (BirthSlot x h ∷ []) []
+        → Goes (BirthKind x h word) found word (BirthField x h ∷ []) []
     -- any other object is owned next
     KindOfOther : (x : ℕ) (h : Holding) (word found : ℕ) → has_resource word ≡ false
         → Goes (BirthKind x h word) found word (BirthLocal x h ∷ []) []
-    -- the resource is put into its slot before the object is born
-    SlotFilled : (x : ℕ) (h : Holding) (found : ℕ)
-        → Goes (BirthSlot x h) found FULL (BirthLocal x h ∷ []) []
+    -- the resource is put into its field before the object is born
+    FieldFilled : (x : ℕ) (h : Holding) (found : ℕ)
+        → Goes (BirthField x h) found FULL (BirthLocal x h ∷ []) []
     -- the thread that makes the object owns it, with one local reference
     Born : (x : ℕ) (h : Holding) (found : ℕ)
         → Goes (BirthLocal x h) found (local_word t 1) [] (birth t h x (kind_of_word (memory (KindOf x))))
@@ -72,10 +72,10 @@ module _ (memory : Address → ℕ) (layout : Layout) (t : ℕ) (running : Bool)
 
     -- the thread has it lent, for a call of the host
     ResourceLent : (x found : ℕ)
-        → Goes (LendSlot x) found EMPTY [] []
-    -- the host's call has ended, and the resource is back in its slot
+        → Goes (LendField x) found EMPTY [] []
+    -- the host's call has ended, and the resource is back in its field
     ResourceReturned : (x found : ℕ)
-        → Goes (ReturnSlot x) found FULL [] []
+        → Goes (ReturnField x) found FULL [] []
     -- ---- a new reference
 
     -- an immortal object is never counted
@@ -203,7 +203,7 @@ module _ (memory : Address → ℕ) (layout : Layout) (t : ℕ) (running : Bool)
         → Goes Settle found found (SettleKind (head - 1) ∷ Settle ∷ []) []
     -- a file or a socket has a resource to close
     DyingResource : (x found : ℕ) → has_resource found ≡ true
-        → Goes (SettleKind x) found found (TakeSlot x ∷ []) []
+        → Goes (SettleKind x) found found (TakeField x ∷ []) []
     -- a list's cells are emptied first; an object without cells is closed next
     DyingCells : (x found : ℕ) → has_resource found ≡ false
         → Goes (SettleKind x) found found (cells_from x 0 (cells_of found)) []
@@ -212,8 +212,8 @@ module _ (memory : Address → ℕ) (layout : Layout) (t : ℕ) (running : Bool)
         → Goes (SettleCell x cell cells) found EMPTY (release_found found ++ cells_from x (cell + 1) cells)
         (take_out t x cell found)
     -- no other thread finds the resource while the host closes it
-    SlotEmptied : (x found : ℕ)
-        → Goes (TakeSlot x) found EMPTY (CloseResource x ∷ []) []
+    FieldEmptied : (x found : ℕ)
+        → Goes (TakeField x) found EMPTY (CloseResource x ∷ []) []
     -- the host has closed the resource, also if it reports a fault
     ResourceClosed : (x found : ℕ)
         → Goes (CloseResource x) found (found + 1) (SettleEnd x ∷ []) []

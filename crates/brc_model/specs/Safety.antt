@@ -68,13 +68,23 @@ pub record IsSafeNow (m : StepMachine) : Type 0 where
   -- once all threads are gone, a cell of an open list holds each reference that is left
   pub left_in_lists : AllGone (counting m) → All (IsHeldByOpenList m.abstract) m.abstract.references
 
--- The module is safe, for all states that are true at each point that a path reaches, every number of workers and rows,
--- every list of calls and every list of steps and choices, wherever the list stops: no event is bad, the counts of each
--- row add up to the references that are held and the pending decrements, and nothing is closed twice. Once all threads
--- are gone, a cell of an open list holds each reference that is left, and exactly the objects to which none is left
--- have been closed.
-abbrev pub Safe : Module → Type 0
-Safe m =
+-- At each moment of the module's runs, `IsSafeNow` holds, for all states that are true at each point that a path
+-- reaches, every number of workers and rows, every list of calls and every list of steps and choices, wherever the list
+-- stops: no event is bad, the counts of each row add up to the references that are held and the pending decrements, and
+-- nothing is closed twice. Once all threads are gone, a cell of an open list holds each reference that is left, and
+-- exactly the objects to which none is left have been closed.
+abbrev pub RunsAreSafe : Module → Type 0
+RunsAreSafe m =
     (states : ℕ → ℕ → Option State) (rows : ℕ) (calls : List Call) (events : List (ℕ × Choice))
     → AreTrueWhereReached m states → 0 < rows → rows ≤ row_limit → AreCalls m calls
     → IsSafeNow (machine_after (first_machine m states rows calls) events)
+
+-- The module's points have states: some states are true at each point that a path reaches.
+abbrev pub HasStates : Module → Type 0
+HasStates m = (states : ℕ → ℕ → Option State) × AreTrueWhereReached m states
+
+-- The module is safe: its points have states, and its runs with any such states are safe. A module whose paths come to
+-- one point in different states has no such states, so it isn't safe.
+pub record Safe (m : Module) : Type 0 where
+  pub has_states : HasStates m
+  pub runs : RunsAreSafe m

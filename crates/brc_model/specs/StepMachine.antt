@@ -16,7 +16,7 @@ use Rattle.brc_model.specs.declared.state.State.{State}
 use Rattle.brc_model.specs.declared.state.Exit.{Exit}
 use Rattle.brc_model.specs.declared.state.Exit.TheVariants.{Success, Fault}
 use Rattle.brc_model.specs.declared.address.Address.{Address}
-use Rattle.brc_model.specs.declared.address.Address.TheVariants.{Local, Shared, Gate, KindOf, Marks, Cell, Slot, Resource, ThreadWord}
+use Rattle.brc_model.specs.declared.address.Address.TheVariants.{Local, Shared, Gate, KindOf, Marks, Cell, Field, Resource, ThreadWord}
 use Rattle.brc_model.specs.Limits.{most_faults}
 use Rattle.brc_model.specs.AbstractState.{AbstractState, Reference, Move, ByThread, moved}
 use Rattle.brc_model.specs.declared.layout.Layout.{Layout}
@@ -179,7 +179,7 @@ rooted_memory lines layout callers (Gate x) = FREE
 rooted_memory lines layout callers (KindOf x) = first_kind_word lines layout x
 rooted_memory lines layout callers (Marks t w) = 0
 rooted_memory lines layout callers (Cell x i) = cell_of_first lines layout i (first_row layout x)
-rooted_memory lines layout callers (Slot x) = EMPTY
+rooted_memory lines layout callers (Field x) = EMPTY
 rooted_memory lines layout callers (Resource x) = 0
 rooted_memory lines layout callers (ThreadWord t) = if nat_le t layout.workers then RUNNING else NOT_STARTED
 

@@ -5,7 +5,7 @@ use Rattle.brc_lang.specs.declared.module.Function.{Function}
 use Rattle.brc_model.specs.declared.actor.Context.{Context}
 use Rattle.brc_model.specs.declared.actor.OpenCall.{OpenCall}
 use Rattle.brc_model.specs.declared.thread.Choice.TheVariants.{Stop}
-use Rattle.brc_model.specs.VarStates.{var_of, is_owned}
+use Rattle.brc_model.specs.SlotStates.{var_of, is_owned}
 use Rattle.brc_model.specs.Threads.{number_under, row_of}
 use Rattle.brc_model.specs.Action.{StepActor}
 use Rattle.brc_model.specs.Stops.{owned_rows, waiting_state, owned_by, given_up, row_locked, stopping}
@@ -37,11 +37,11 @@ pub record GivesUpOwned (w : World) (t at : ℕ) (a : StepActor) (context : Cont
   -- what the state says is locked is what the thread has locked
   pub lock : a.actor.locked ≡ row_locked state.locked variables
   -- a variable's row is given up exactly if the variable owns a reference
-  pub owned : (v x : ℕ) → (row_of (owned_rows state.vars variables) v ≡ Some x)
+  pub owned : (v x : ℕ) → (row_of (owned_rows state.slots variables) v ≡ Some x)
       ↔ ((is_owned (var_of state v) ≡ true) × (row_of variables v ≡ Some x))
   -- the calls further out give up what they own, too
   pub outer : EachGivesUp w.functions w.states a.function context.outer
   -- the stop itself changes nothing but the thread's place
   pub leads : slice_get (step w t Stop).actors t
       ≡ Some (at_place a (stopping a.actor.locked
-      (owned_rows state.vars variables ∷ given_up w.functions w.states a.function context.outer)))
+      (owned_rows state.slots variables ∷ given_up w.functions w.states a.function context.outer)))

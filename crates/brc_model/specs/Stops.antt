@@ -1,8 +1,8 @@
--- Stops. A thread that stops unlocks what it has locked, and gives up what its calls hold, without a further call. What
--- that is say the states that the module's table gives the calls' points.
+-- Stops. A thread that stops unlocks what it has locked, and gives up what its calls hold, without a further call. The
+-- states that the module's table gives the calls' points say what that is.
 use Rattle.std.specs.Prelude.{ℕ, Bool, suc, ◌||◌, if◌then◌else◌, is_some, List, [], ◌∷◌, length, Option, None, Some, slice_get, slice_set}
 use Rattle.std.specs.List.{list_any}
-use Rattle.brc_model.specs.declared.state.VarState.{VarState}
+use Rattle.brc_model.specs.declared.state.Slot.{Slot}
 use Rattle.brc_model.specs.declared.state.State.{State}
 use Rattle.brc_model.specs.declared.state.Exit.TheVariants.{Fault}
 use Rattle.brc_lang.specs.declared.module.Instr.{Instr}
@@ -12,15 +12,15 @@ use Rattle.brc_model.specs.declared.actor.Place.{Place}
 use Rattle.brc_model.specs.declared.actor.Place.TheVariants.{Idle, InCall, Stopping}
 use Rattle.brc_model.specs.declared.duty.Holding.TheVariants.{ByVariable}
 use Rattle.brc_model.specs.declared.duty.Duty.TheVariants.{ReleaseLoad, Settle}
-use Rattle.brc_model.specs.VarStates.{is_owned, after}
+use Rattle.brc_model.specs.SlotStates.{is_owned, after}
 use Rattle.brc_model.specs.Threads.{function_at, number_under, row_of}
 use Rattle.brc_model.specs.Action.{Action, Skip, Stuck, Silent, Does, always, with_row}
 
 -- the rows of the variables whose states own a reference
-abbrev pub owned_rows : List VarState → List (Option ℕ) → List (Option ℕ)
+abbrev pub owned_rows : List Slot → List (Option ℕ) → List (Option ℕ)
 owned_rows [] rows = []
-owned_rows (var ∷ vars) [] = []
-owned_rows (var ∷ vars) (row ∷ rows) = (if is_owned var then row else None) ∷ owned_rows vars rows
+owned_rows (var ∷ slots) [] = []
+owned_rows (var ∷ slots) (row ∷ rows) = (if is_owned var then row else None) ∷ owned_rows slots rows
 
 -- the row that the thread has to unlock: that of the locked variable, if there is one
 abbrev pub row_locked : Option ℕ → List (Option ℕ) → Option ℕ
@@ -41,7 +41,7 @@ waiting_state functions states number o =
 -- the rows of the variables whose states own a reference, if there is a state
 abbrev pub owned_by : Option State → List (Option ℕ) → List (Option ℕ)
 owned_by None rows = []
-owned_by (Some s) rows = owned_rows s.vars rows
+owned_by (Some s) rows = owned_rows s.slots rows
 
 -- What the open calls of a thread that calls `first` give up, the nearest first.
 abbrev pub given_up : List Function → (ℕ → ℕ → Option State) → ℕ → List OpenCall → List (List (Option ℕ))
@@ -65,8 +65,8 @@ first_named [] = 0
 first_named (None ∷ rows) = suc (first_named rows)
 first_named (Some row ∷ rows) = 0
 
--- Returns what a thread does that gives up the reference of the call's first variable that has one. `outer` is what the
--- calls further out give up afterwards. Behind its last reference the thread settles.
+-- Returns the action of a thread that gives up the reference of the call's first variable that has one. `outer` is what
+-- the calls further out give up afterwards. After its last reference the thread settles.
 abbrev pub give_up_first : List (Option ℕ) → List (List (Option ℕ)) → Action
 give_up_first rows outer =
     let v = first_named rows in
@@ -75,23 +75,23 @@ give_up_first rows outer =
     (λ row. Does (ReleaseLoad row (ByVariable (length outer) v)) (if holds_some after then [] else Settle ∷ [])
     (always (stopping None after)))
 
--- Returns what a thread does that has stopped and has nothing to unlock: it gives up the references of its calls, one
--- after another, those of the innermost call first, by rising number.
+-- Returns the action of a thread that has stopped and has nothing to unlock: it gives up the references of its calls,
+-- one after another, those of the innermost call first, by rising number.
 abbrev pub give_up : List (List (Option ℕ)) → Action
 give_up [] = Stuck
 give_up (rows ∷ outer) = if list_any is_some rows then give_up_first rows outer else give_up outer
 
 -- ---- the stop itself
 
--- Returns what a thread does that stops in a call, at a point with this state. What the state says is locked it has to
--- unlock, and what the state says its variables own it has to give up; what they borrow isn't its own. The calls
--- further out give up the rows of `outer`.
+-- Returns the action of a thread that stops in a call, at a point with this state. It has to unlock what the state says
+-- is locked, and to give up what the state says its variables own; what they borrow isn't its own. The calls further
+-- out give up the rows of `outer`.
 abbrev pub stop_in_call : List (List (Option ℕ)) → List (Option ℕ) → Option State → Action
 stop_in_call outer variables None = Stuck
 stop_in_call outer variables (Some s) =
-    Silent [] (stopping (row_locked s.locked variables) (owned_rows s.vars variables ∷ outer))
+    Silent [] (stopping (row_locked s.locked variables) (owned_rows s.slots variables ∷ outer))
 
--- Returns what a thread does that calls `first` from outside, and stops at the place. Between two calls it holds
+-- Returns the action of a thread that calls `first` from outside, and stops at the place. Between two calls it holds
 -- nothing by variables.
 abbrev pub stop_action : List Function → (ℕ → ℕ → Option State) → ℕ → Place → Action
 stop_action functions states first (Idle left) = Silent [] (Idle 0)

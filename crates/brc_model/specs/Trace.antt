@@ -5,7 +5,7 @@ use Rattle.brc_lang.specs.declared.module.Function.{Function}
 use Rattle.brc_model.specs.declared.thread.Choice.{Choice}
 use Rattle.brc_model.specs.declared.duty.Duty.{Duty}
 use Rattle.brc_model.specs.declared.address.Address.{Address}
-use Rattle.brc_model.specs.declared.address.Address.TheVariants.{Slot, Resource}
+use Rattle.brc_model.specs.declared.address.Address.TheVariants.{Field, Resource}
 use Rattle.brc_model.specs.declared.event.WordEvent.{WordEvent}
 use Rattle.brc_model.specs.declared.state.Exit.{Exit}
 use Rattle.brc_model.specs.declared.state.State.{State}
@@ -18,9 +18,9 @@ use Rattle.brc_model.specs.StepMachine.{StepMachine, of_thread, at_place, step_a
 use Rattle.brc_model.specs.AbstractState.{Move}
 use Rattle.brc_model.specs.declared.layout.Layout.{Layout}
 
--- Says whether a word is at the address. Slots and the host's resources are none.
+-- Says whether a word is at the address. Fields and the host's resources are none.
 abbrev pub is_word : Address → Bool
-is_word (Slot x) = false
+is_word (Field x) = false
 is_word (Resource x) = false
 is_word _ = true
 

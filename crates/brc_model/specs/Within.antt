@@ -5,9 +5,9 @@ use Rattle.brc_word.specs.Words.{half, most_local, owner_part, local_part, biase
 use Rattle.brc_model.specs.declared.thread.Choice.{Choice}
 use Rattle.brc_model.specs.declared.actor.Place.{Place}
 use Rattle.brc_model.specs.declared.address.Address.{Address}
-use Rattle.brc_model.specs.declared.address.Address.TheVariants.{Local, Shared, Gate, KindOf, Marks, Cell, Slot, Resource, ThreadWord}
+use Rattle.brc_model.specs.declared.address.Address.TheVariants.{Local, Shared, Gate, KindOf, Marks, Cell, Field, Resource, ThreadWord}
 use Rattle.brc_model.specs.declared.duty.Duty.{Duty}
-use Rattle.brc_model.specs.declared.duty.Duty.TheVariants.{RetainLoad, RetainStore, RetainAdd, ReleaseLoad, ReleaseStore, SharedLoad, SharedExchange, MergeLoad, MergeExchange, TakeFound, SettleCell, TakeSlot, CloseResource, CellLoad, CellSwap, LendSlot, ReturnSlot}
+use Rattle.brc_model.specs.declared.duty.Duty.TheVariants.{RetainLoad, RetainStore, RetainAdd, ReleaseLoad, ReleaseStore, SharedLoad, SharedExchange, MergeLoad, MergeExchange, TakeFound, SettleCell, TakeField, CloseResource, CellLoad, CellSwap, LendField, ReturnField}
 use Rattle.brc_model.specs.Duties.{address_of}
 use Rattle.brc_model.specs.declared.actor.Actor.{Actor}
 use Rattle.brc_model.specs.Machine.{used_by, is_running}
@@ -25,7 +25,7 @@ IsThere layout (Gate x) = x < row_count layout
 IsThere layout (KindOf x) = x < row_count layout
 IsThere layout (Marks t w) = (t < 1 + layout.workers) × (w < mark_words_of layout t)
 IsThere layout (Cell x i) = (x < row_count layout) × (i < layout.cells)
-IsThere layout (Slot x) = x < row_count layout
+IsThere layout (Field x) = x < row_count layout
 IsThere layout (Resource x) = x < row_count layout
 IsThere layout (ThreadWord t) = t < 1 + layout.workers
 
@@ -49,10 +49,10 @@ Suits t running n (TakeFound w marks) found = (0 < marks) × (marks_of_word * w 
 Suits t running n (SettleCell x i k) found = found ≤ n
 Suits t running n (CellLoad x i) found = found ≤ n
 Suits t running n (CellSwap x i y h) found = (y < n) × (found ≤ n)
-Suits t running n (TakeSlot x) found = found ≡ FULL
+Suits t running n (TakeField x) found = found ≡ FULL
 Suits t running n (CloseResource x) found = found ≡ 0
-Suits t running n (LendSlot x) found = found ≡ FULL
-Suits t running n (ReturnSlot x) found = found ≡ EMPTY
+Suits t running n (LendField x) found = found ≡ FULL
+Suits t running n (ReturnField x) found = found ≡ EMPTY
 Suits t running n _ found = Unit {0}
 
 -- A row's local word names no owner, or the thread of the row's block.

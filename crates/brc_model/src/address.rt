@@ -15,8 +15,8 @@ pub enum Address {
     /// A cell of a list, from 0. The word is the row of the object that the cell references, plus 1, or 0 if it is
     /// empty.
     Cell { row: u32, cell: u32 },
-    /// Whether the resource of a file or a socket is in its slot.
-    Slot { row: u32 },
+    /// Whether the resource of a file or a socket is in its field.
+    Field { row: u32 },
     /// How often the host has been asked to close the object's resource.
     Resource { row: u32 },
     /// Whether the thread runs, is leaving or is gone.

@@ -1,4 +1,4 @@
-//! Laws of the counting machine, which running threads stand on: what a thread's next duty keeps and what it can rely
+//! Laws of the counting machine, on which running threads rely: what a thread's next duty keeps and what it can rely
 //! on, and what the counts of a row say.
 
 ghost use Rattle.brc_model.specs.CountingLaws.{DutiesAreKept, DutiesAreWithin, AccountsAreThere, ChainsAreThere, CountsAgree, HandedMergesLive};

@@ -117,8 +117,8 @@ pub enum Duty {
         cell: u32,
         cells: u32,
     },
-    /// Takes the resource of the dying file or socket out of its slot.
-    TakeSlot {
+    /// Takes the resource of the dying file or socket out of its field.
+    TakeField {
         row: u32,
     },
     /// Lets the host close the resource.
@@ -162,8 +162,8 @@ pub enum Duty {
         holding: Holding,
         word: u64,
     },
-    /// Puts the resource of the new file or socket into its slot.
-    BirthSlot {
+    /// Puts the resource of the new file or socket into its field.
+    BirthField {
         row: u32,
         holding: Holding,
     },
@@ -197,13 +197,13 @@ pub enum Duty {
         item: u32,
         holding: Holding,
     },
-    /// Takes the resource of the file or socket that the thread has locked out of its slot: the thread has it lent, for
+    /// Takes the resource of the file or socket that the thread has locked out of its field: the thread has it lent, for
     /// a call of the host.
-    LendSlot {
+    LendField {
         row: u32,
     },
-    /// Puts the resource that the thread has lent back into its slot.
-    ReturnSlot {
+    /// Puts the resource that the thread has lent back into its field.
+    ReturnField {
         row: u32,
     },
 }

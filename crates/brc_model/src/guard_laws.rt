@@ -1,7 +1,7 @@
 //! Laws of the counting machine as running threads use it, beside those of the counts: who watches a mark that is set,
 //! who may change a cell or a local word, and what a thread that is gone holds.
 
-ghost use Rattle.brc_model.specs.GuardLaws.{QueuedMarksAreWatched, CellsAreGuarded, GuardedCellsStay, SlotsAreGuarded, OwnersCountAlone, GoneThreadsHoldNothing};
+ghost use Rattle.brc_model.specs.GuardLaws.{QueuedMarksAreWatched, CellsAreGuarded, GuardedCellsStay, FieldsAreGuarded, OwnersCountAlone, GoneThreadsHoldNothing};
 
 /// States that each mark that is set is watched: by the running thread of its block, by that thread's exit, or by a
 /// thread that has the duty to look at it.
@@ -21,9 +21,9 @@ pub fn guarded_cells_stay()
 {}
 
 /// States that only the thread that holds a row's gate, that deallocates the row, or in whose block it isn't born yet,
-/// changes the row's slot.
-pub fn slots_are_guarded()
-    ensures { SlotsAreGuarded }
+/// changes the row's field.
+pub fn fields_are_guarded()
+    ensures { FieldsAreGuarded }
 {}
 
 /// States that while the thread of a row's block runs, no other thread changes the row's local word.

@@ -12,6 +12,7 @@ mod cell_laws;
 mod counting_laws;
 mod duty;
 mod event;
+mod field_laws;
 mod guard_laws;
 mod hand_laws;
 mod host_laws;
@@ -20,7 +21,7 @@ mod layout;
 mod resource_laws;
 mod row_laws;
 mod rule_laws;
-mod slot_laws;
+mod sizes;
 mod state;
 mod thread;
 mod work_laws;
@@ -36,15 +37,19 @@ pub use counting_laws::{
 };
 pub use duty::{Duty, Holding, Reason};
 pub use event::WordEvent;
+pub use field_laws::{
+    fields_are_free, fields_are_known, fields_end, given_fields_are_unlocked,
+    locked_fields_are_full, needed_fields_are_unlocked,
+};
 pub use guard_laws::{
-    cells_are_guarded, gone_threads_hold_nothing, guarded_cells_stay, owners_count_alone,
-    queued_marks_are_watched, slots_are_guarded,
+    cells_are_guarded, fields_are_guarded, gone_threads_hold_nothing, guarded_cells_stay,
+    owners_count_alone, queued_marks_are_watched,
 };
 pub use hand_laws::{
     cells_hold, hands_begin, references_are_handed_over, references_are_the_threads, rows_end,
 };
 pub use host_laws::{calls_use_what_is_lent, faults_are_counted};
-pub use laws::accepted_is_safe;
+pub use laws::{accepted_is_safe, true_states_are_there};
 pub use layout::Layout;
 pub use resource_laws::{lent_resources_are_used_alone, resources_close_once};
 pub use row_laws::{
@@ -56,11 +61,8 @@ pub use row_laws::{
     used_rows_are_born, variables_have_their_kinds,
 };
 pub use rule_laws::steps_go_by_rules;
-pub use slot_laws::{
-    given_slots_are_unlocked, locked_slots_are_full, needed_slots_are_unlocked, slots_are_free,
-    slots_are_known, slots_end,
-};
-pub use state::{Exit, State, VarState};
+pub use sizes::{MOST_ROWS, MOST_TIMES, MOST_WORKERS};
+pub use state::{Exit, Slot, State};
 pub use thread::{Call, Choice};
 pub use work_laws::{
     births_begin, cell_loads_begin, claims_begin, exits_begin, immortals_are_free, kinds_are_asked,

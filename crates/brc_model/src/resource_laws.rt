@@ -13,7 +13,7 @@ pub fn resources_close_once()
     ensures { (m : Module) → IsModule m → IsAcceptable m → Always ResourcesCloseOnce m }
 {}
 
-/// States that a thread that has a resource lent to a call of the host uses it alone: the slot is empty, no other
+/// States that a thread that has a resource lent to a call of the host uses it alone: the field is empty, no other
 /// thread has the resource lent, and the thread has locked the object.
 pub fn lent_resources_are_used_alone()
     ensures { (m : Module) → IsModule m → IsAcceptable m → Always LentAreUsedAlone m }

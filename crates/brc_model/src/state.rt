@@ -2,7 +2,7 @@ use brc_lang::{Kind, Variable};
 
 /// The checker's knowledge of one variable. (Extending manual, Ownership Rules: a reference is owned or borrowed.)
 #[derive(Clone, Copy, Debug, PartialEq, Eq)]
-pub enum VarState {
+pub enum Slot {
     /// It names no object.
     Empty,
     /// It owns a reference, which it has to give up once.
@@ -17,7 +17,7 @@ pub enum VarState {
 #[derive(Clone, Copy, Debug, PartialEq, Eq)]
 pub struct State {
     /// Each variable's state, by the variable's number.
-    pub vars: [VarState; 16],
+    pub slots: [Slot; 16],
     /// The variable whose critical section is open.
     pub locked: Option<Variable>,
 }

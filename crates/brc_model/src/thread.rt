@@ -15,7 +15,7 @@ pub enum Choice {
     /// The thread takes its next step. If that is a host call, the call faults.
     Fault,
     /// The thread takes the row's mark, if the object is in its queue.
-    Claim { row: u32 },
+    Claim(u32),
     /// The thread stops, if it is between two instructions: it gives up what its calls hold, and makes no further call.
     Stop,
 }

@@ -1,24 +1,26 @@
-ghost use Rattle.std.specs.Prelude.{◌≤◌, IfOk, length};
+ghost use Rattle.std.specs.Prelude.{◌≤◌, IfOk, is_err, length};
 ghost use Rattle.brc_lang.specs.Limits.{read_limit};
+ghost use Rattle.brc_os.specs.Closing.{IsClosedBy};
 
+use crate::ending::{Connected, Written};
 use crate::repeating::{read_some, write_whole};
 use brc_host::Fault;
 use std::fs::File;
 use std::io;
-use std::net::{Shutdown, TcpStream};
+use std::net::TcpStream;
 
 /// The most bytes of one read.
 const MOST_BYTES: usize = 4096;
 
 /// An open file, or the connection to a peer.
 #[derive(Drop)]
-pub enum OsResource {
+pub enum OsResource<F = File, P = TcpStream> {
     /// A file that was opened for reading only.
-    ReadFile(File),
+    ReadFile(F),
     /// A file that was opened for writing, so its close syncs it.
-    WrittenFile(File),
+    WrittenFile(F),
     /// The connection to a peer.
-    Peer(TcpStream),
+    Peer(P),
 }
 
 impl OsResource {
@@ -51,14 +53,18 @@ impl OsResource {
         };
         written.or(Err(Fault))
     }
+}
 
+impl<F: Written + Drop, P: Connected + Drop> OsResource<F, P> {
     /// Syncs a file that was opened for writing (fsync), so that what the system couldn't store is a fault, or shuts a
     /// connection in both directions (shutdown); then closes it (close), also if that failed.
-    pub(crate) fn close(self) -> Result<(), Fault> {
+    pub fn close(self) -> Result<(), Fault>
+        ensures { IsClosedBy F.synced P.shut self (is_err result) }
+    {
         let ended = match self {
-            OsResource::ReadFile(_) => Ok(()),
-            OsResource::WrittenFile(file) => file.sync_all(),
-            OsResource::Peer(stream) => stream.shutdown(Shutdown::Both),
+            OsResource::ReadFile(_file) => Ok(()),
+            OsResource::WrittenFile(mut file) => file.sync(),
+            OsResource::Peer(mut stream) => stream.shut(),
         };
         ended.or(Err(Fault))
     }

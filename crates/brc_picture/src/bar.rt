@@ -83,7 +83,7 @@ fn is_birth(event: &Event) -> bool {
     match event {
         Event::Does { duty, .. } => matches!(
             *duty,
-            Duty::BirthKind { .. } | Duty::BirthSlot { .. } | Duty::BirthLocal { .. }
+            Duty::BirthKind { .. } | Duty::BirthField { .. } | Duty::BirthLocal { .. }
         ),
         Event::Silent | Event::Calls(_) => false,
     }

@@ -7,6 +7,7 @@ use crate::note::{Left, Note};
 use crate::place::{Across, BAR, column_at, height_of, text_of, top_of};
 use crate::shapes::{close_text, open_text, write_rect};
 use crate::style::life_class;
+use brc_effect::rows::ROOT;
 use brc_lang::write_bytes;
 use brc_word::values::{DEFAULT, FILE, LIST, MERGED, NOBODY, NUM, ONE_REFERENCE, QUEUED, SOCK};
 use brc_word::{kind_argument, kind_number, local_count};
@@ -15,9 +16,6 @@ use std::io::Write;
 
 /// The biased count of the shared count 0.
 const BIAS: u64 = 1 << 40;
-
-/// The root's row.
-const ROOT: u32 = 1;
 
 /// What is left of a text in a bar.
 const PAD: u64 = 4;

@@ -108,7 +108,7 @@ pub fn touched_row(event: &Event) -> Option<u32> {
         | Address::Gate { row }
         | Address::KindOf { row }
         | Address::Cell { row, .. }
-        | Address::Slot { row }
+        | Address::Field { row }
         | Address::Resource { row } => row,
         Address::Marks { .. } => marked_row(duty)?,
         Address::ThreadWord { .. } => return None,

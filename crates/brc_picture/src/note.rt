@@ -55,7 +55,7 @@ pub fn left_by(thread: u8, event: &Event) -> Option<(u32, Left)> {
             _ => Left::Unmarked,
         },
         Address::Cell { .. }
-        | Address::Slot { .. }
+        | Address::Field { .. }
         | Address::Resource { .. }
         | Address::ThreadWord { .. } => return None,
     };

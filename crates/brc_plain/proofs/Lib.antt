@@ -8,3 +8,5 @@ pub mod Threads
 pub mod Steps
 pub mod Looking
 pub mod Beginning
+pub mod Tallying
+pub mod Gone

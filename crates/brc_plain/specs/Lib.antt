@@ -8,3 +8,4 @@ pub mod Lives
 pub mod Threads
 pub mod Plains
 pub mod Sights
+pub mod Gone

@@ -6,10 +6,9 @@ ghost use Rattle.brc_plain.specs.Acts.{item_named, place_at, place_by, rest_in};
 ghost use Rattle.brc_plain.specs.Places.{place_in};
 
 use crate::bag::Move;
-use crate::kinds::{kind_of_word, same_kind};
 use crate::place::{Context, Place};
 use crate::refused::Refused;
-use brc_effect::kinds::cells_of;
+use brc_effect::kinds::{cells_of, kind_of_word, same_kind};
 use brc_lang::{Kind, Variable};
 use brc_machine::variables::Variables;
 use brc_model::{Duty, Exit, Stage};

@@ -7,12 +7,10 @@ ghost use Rattle.brc_word.specs.Words.{biased_part, local_part, owner_part};
 ghost use Rattle.brc_effect.specs.Effects.{IsIndexed, IsNumbered};
 
 use crate::refused::Refused;
+use brc_lang::MOST_CELLS;
 use brc_model::Duty;
 use brc_word::values::{EMPTY, FULL, ONE_REFERENCE};
 use brc_word::{MARKS_OF_WORD, local_count, lowest_mark};
-
-/// The most cells of a list.
-const MOST_CELLS: u32 = 64;
 
 /// The greatest local count with which the owner counts locally, plus 1.
 const MOST_LOCAL: u32 = u32::MAX - 1;
@@ -105,9 +103,9 @@ pub fn ask_suits(
             ask(item < rows)?;
             ask(found <= u64::from(rows))
         }
-        Duty::TakeSlot { .. } | Duty::LendSlot { .. } => ask(found == FULL),
+        Duty::TakeField { .. } | Duty::LendField { .. } => ask(found == FULL),
         Duty::CloseResource { .. } => ask(found == 0),
-        Duty::ReturnSlot { .. } => ask(found == EMPTY),
+        Duty::ReturnField { .. } => ask(found == EMPTY),
         _ => Ok(()),
     }
 }
@@ -118,7 +116,7 @@ pub fn ask_numbered(rows: u32, duty: Duty) -> Result<(), Refused>
 {
     match duty {
         Duty::Die { row } => ask(row < rows),
-        Duty::SettleCell { cell, .. } => ask(cell < MOST_CELLS),
+        Duty::SettleCell { cell, .. } => ask(cell < u32::from(MOST_CELLS)),
         _ => Ok(()),
     }
 }

@@ -10,7 +10,6 @@ mod first;
 mod fits;
 mod here;
 mod key;
-mod kinds;
 mod lives;
 mod moves;
 mod needs;

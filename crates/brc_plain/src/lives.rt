@@ -116,7 +116,7 @@ pub fn touched_row(address: Address) -> Option<u32>
         | Address::Gate { row }
         | Address::KindOf { row }
         | Address::Cell { row, .. }
-        | Address::Slot { row }
+        | Address::Field { row }
         | Address::Resource { row } => Some(row),
         Address::Marks { .. } | Address::ThreadWord { .. } => None,
     }

@@ -7,8 +7,8 @@ ghost use Rattle.brc_plain.specs.Bags.{move_in, reference_in};
 ghost use Rattle.brc_machine.specs.Storage.{word_in};
 
 use crate::bag::{Holder, Move, Reference};
-use crate::kinds::kind_of_word;
 use crate::refused::Refused;
+use brc_effect::kinds::kind_of_word;
 use brc_machine::Memory;
 use brc_model::{Address, Duty, Holding, Reason};
 use brc_word::is_immortal;

@@ -4,12 +4,12 @@ ghost use Rattle.std.specs.Prelude.{◌≡◌, option_copied, slice_get};
 ghost use Rattle.std.specs.List.{list_all};
 ghost use Rattle.brc_model.specs.Needs.{has_its_kind, has_locked, has_locked_list, has_locked_resource, has_needs, kind_at, lacks_needs, starts_unfit, suits_kind};
 ghost use Rattle.brc_model.specs.Threads.{entry_variables};
-ghost use Rattle.brc_model.specs.VarStates.{is_one_of};
+ghost use Rattle.brc_model.specs.SlotStates.{is_one_of};
 ghost use Rattle.brc_plain.specs.Places.{place_in};
 ghost use Rattle.brc_machine.specs.Storage.{word_in};
 
-use crate::kinds::{kind_of_word, same_kind};
 use crate::place::Place;
+use brc_effect::kinds::{kind_of_word, same_kind};
 use brc_lang::{Argument, Instr, Kind};
 use brc_machine::Memory;
 use brc_machine::variables::{Variables, entry_variables, row_of};

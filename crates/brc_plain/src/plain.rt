@@ -18,7 +18,7 @@ use crate::thread::Thread;
 use brc_effect::{Blocks, layout_of};
 use brc_lang::Module;
 use brc_machine::{Faults, Memory, first_memory};
-use brc_model::{Call, Status};
+use brc_model::{Call, MOST_WORKERS, Status};
 use std::alloc::Global;
 
 mod acting;
@@ -45,9 +45,6 @@ pub struct Plain<'a> {
     faults: Faults,
 }
 
-/// The most workers of a machine.
-const MOST_WORKERS: usize = 32;
-
 /// A bound of the rows of a machine.
 pub(crate) const MOST_ROWS: usize = 1 << 20;
 
@@ -55,7 +52,7 @@ pub(crate) const MOST_ROWS: usize = 1 << 20;
 pub(crate) fn numbered(number: usize) -> Result<u8, Refused>
     ensures { IfOk result (λ own. (own ≡ number) × (own ≤ 32)) }
 {
-    if number > MOST_WORKERS {
+    if number > usize::from(MOST_WORKERS) {
         return Err(Refused::OutOfBounds);
     }
     Ok(number as u8)

@@ -40,7 +40,7 @@ impl<'h, T: Drop> Queue<'h, T> {
         requires root { hand.old.view.references ≡ root_row ∷ [] }
         ensures table { IsOf self.now hand.new }
         ensures carried { hand.new.carried ≡ hand.old.carried }
-        ensures slots { hand.new.slots ≡ hand.old.slots }
+        ensures fields { hand.new.fields ≡ hand.old.fields }
         ensures gone { hand.new.view.actor.status ≡ Gone }
         ensures idle { (hand.new.view.actor.agenda ≡ []) × (hand.new.view.actor.aside ≡ [])
             × (hand.new.view.actor.head ≡ 0) }

@@ -38,7 +38,7 @@ impl<'h, T: Drop> Queue<'h, T> {
         requires settled { hand.old.view.actor.head ≡ 0 }
         ensures table { IsOf self.now hand.new }
         ensures carried { hand.new.carried ≡ hand.old.carried }
-        ensures slots { hand.new.slots ≡ hand.old.slots }
+        ensures fields { hand.new.fields ≡ hand.old.fields }
         ensures free { IsFree hand.new.view }
         ensures settled { hand.new.view.actor.head ≡ 0 }
         ensures keeps { Keeps hand.old.view hand.new.view }
@@ -51,7 +51,7 @@ impl<'h, T: Drop> Queue<'h, T> {
         let heap = self.heap;
         let first = self.first_row(hand);
         for word in 0..words_used(hand.used()) {
-            failed = failed.saturating_add(self.look_at(heap, rt, hand, host, word, first));
+            failed = failed.saturating_add(self.claim_word(heap, rt, hand, host, word, first));
         }
         failed
     }
@@ -70,7 +70,7 @@ impl<'h, T: Drop> Queue<'h, T> {
     /// Loads the hand's mark word, and claims the marks of used rows that it has found there. `first` is the first row
     /// of the hand's block. Returns how many closes have failed, up to the greatest number.
     #[inline(always)]
-    fn look_at<R: Wait, H: Host<Res = T>>(
+    fn claim_word<R: Wait, H: Host<Res = T>>(
         &self,
         heap: &'h Heap<T>,
         rt: &R,

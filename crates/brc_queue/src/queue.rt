@@ -16,12 +16,15 @@ ghost use Rattle.brc_queue.specs.Calls.{marked, looked};
 use brc_effect::outcomes::{runs, taken};
 use brc_heap::{Hand, Heap, Looked, Work};
 use brc_model::Duty;
+use crossbeam_utils::Backoff;
 use std::marker::Model;
 
 /// The queues of a heap's threads. `T` is the resource of a file or a socket.
 #[derive(Drop)]
 pub struct Queue<'h, T: Drop> {
     pub(crate) heap: &'h Heap<T>,
+    // How the thread waits between two tries. A contract sees nothing of it.
+    pub(crate) backoff: Backoff,
 }
 
 impl<'h, T: Drop> Model for Queue<'h, T> {
@@ -37,7 +40,10 @@ impl<'h, T: Drop> Queue<'h, T> {
     pub fn new(heap: &'h Heap<T>) -> Queue<'h, T>
         ensures { result ≡ heap.now }
     {
-        Queue { heap }
+        Queue {
+            heap,
+            backoff: Backoff::new(),
+        }
     }
 
     /// Sets the mark of an object, as a release answered `Queued`. The object is then in its owner's queue, with the
@@ -48,7 +54,7 @@ impl<'h, T: Drop> Queue<'h, T> {
         requires duty { work_about row hand.old.view ≡ SetMark row ∷ [] }
         ensures table { IsOf self.now hand.new }
         ensures carried { hand.new.carried ≡ hand.old.carried }
-        ensures slots { hand.new.slots ≡ hand.old.slots }
+        ensures fields { hand.new.fields ≡ hand.old.fields }
         ensures events { (found : ℕ) × (hand.new.view ≡ marked hand.old.view row found) }
         ensures left { Leaves row (Look row ∷ []) hand.old.view hand.new.view }
         ensures references { hand.new.view.references ≡ hand.old.view.references }
@@ -84,19 +90,19 @@ impl<'h, T: Drop> Queue<'h, T> {
         requires duty { work_about row hand.old.view ≡ Look row ∷ [] }
         ensures table { IsOf self.now hand.new }
         ensures carried { hand.new.carried ≡ hand.old.carried }
-        ensures slots { hand.new.slots ≡ hand.old.slots }
+        ensures fields { hand.new.fields ≡ hand.old.fields }
         ensures events { (said : ℕ) × (found : ℕ)
             × (result ≡ look_answer said (mark_found hand.old.view row found))
             × (hand.new.view ≡ looked hand.old.view row said found) }
         ensures left { Leaves row (look_left row result) hand.old.view hand.new.view }
         ensures references { hand.new.view.references ≡ hand.old.view.references }
     {
-        self.look_after(hand, row, Work::Aside)
+        self.check_owner(hand, row, Work::Aside)
     }
 
     /// Looks after an object: the work of `look`, which may come next, with other duties behind it.
     #[inline(always)]
-    pub(crate) fn look_after(&self, hand: &mut Hand<T>, row: u32, work: Work) -> Looked
+    pub(crate) fn check_owner(&self, hand: &mut Hand<T>, row: u32, work: Work) -> Looked
         requires table { IsOf self.now hand.old }
         requires may { MayGoOn work hand.old.view }
         requires duty { LooksNext row (turned_to work hand.old.view row).actor.agenda }
@@ -127,7 +133,7 @@ impl<'h, T: Drop> Queue<'h, T> {
         requires duty { work_about row hand.old.view ≡ SetMark row ∷ [] }
         ensures table { IsOf self.now hand.new }
         ensures carried { hand.new.carried ≡ hand.old.carried }
-        ensures slots { hand.new.slots ≡ hand.old.slots }
+        ensures fields { hand.new.fields ≡ hand.old.fields }
         ensures events { (before : ℕ) × (said : ℕ) × (found : ℕ)
             × (result ≡ look_answer said (mark_found hand.old.view row found))
             × (hand.new.view ≡ looked (marked hand.old.view row before) row said found) }

@@ -13,7 +13,7 @@ use Rattle.brc_table.specs.Swaps.{with_item, without_item}
 use Rattle.brc_table.specs.Hands.{TableState, HandState, IsOf, IsRunning, MayWait}
 use Rattle.brc_table.specs.Calls.{IsFree}
 use Rattle.brc_heap.specs.Calls.{HasBorn, HasGiven, Leaves}
-use Rattle.brc_list.specs.Calls.{KeepsWork, KeepsButSlot, KeepsBesides, SwapsItem, row_in, word_of}
+use Rattle.brc_list.specs.Calls.{KeepsWork, KeepsButField, KeepsBesides, SwapsItem, row_in, word_of}
 use Rattle.brc_free.specs.Works.{HasReleased, HasWorked, ComesToSettle, AtOnce, to_settle}
 use Rattle.brc_heap.specs.Steps as steps
 use Rattle.brc_fixtures.specs.Resting.{HasBack}
@@ -116,75 +116,75 @@ after_giving {heap} {before} {after} thread rest table gives =
     (gives.head ∙ rest.head) (gives.keeps.locked ∙ rest.locked_is) tt
     (gives.keeps.references ∙ rest.references)
 
-back_again : (before after : HandState) (locked : Option ℕ) → after.slots ≡ before.slots
-    → after.view.in_slot ≡ before.view.in_slot → HasBack before locked → HasBack after locked
-back_again before after None slots same back = tt
-back_again before after (Some x) slots same back = record {
+back_again : (before after : HandState) (locked : Option ℕ) → after.fields ≡ before.fields
+    → after.view.in_field ≡ before.view.in_field → HasBack before locked → HasBack after locked
+back_again before after None fields same back = tt
+back_again before after (Some x) fields same back = record {
   rest = back.rest;
-  is = slots ∙ (back.is ∙ ap (λ (n : ℕ). (x, n) ∷ back.rest) (sym same));
+  is = fields ∙ (back.is ∙ ap (λ (n : ℕ). (x, n) ∷ back.rest) (sym same));
 }
 
 -- and a call about a row, after which nothing is to be done, leaves it with these references.
 pub after_call : {heap : TableState} {before after : HandState} {item locked : Option ℕ} (next : Option ℕ) (x : ℕ)
     → IsResting heap before item locked → IsOf heap after → Leaves x [] before.view after.view
-    → after.view.actor.head ≡ before.view.actor.head → after.slots ≡ before.slots
+    → after.view.actor.head ≡ before.view.actor.head → after.fields ≡ before.fields
     → after.view.references ≡ with_item before.view.layout (word_of next) (root_row ∷ [])
     → IsResting heap after next locked
-after_call {heap} {before} {after} {item} {locked} next x rest table leaves head slots references =
+after_call {heap} {before} {after} {item} {locked} next x rest table leaves head fields references =
     rests_again rest table leaves.keeps.layout leaves.keeps.status leaves.waits
     (none_beside x after.view rest leaves.agenda leaves.keeps.aside)
     (head ∙ rest.head) (leaves.keeps.locked ∙ rest.locked_is)
-    (back_again before after locked slots leaves.keeps.in_slot rest.returned) references
+    (back_again before after locked fields leaves.keeps.in_field rest.returned) references
 
 -- ---- calls of lists
 
--- A call that keeps all but the references and what the hand knows of the locked object's slot,
+-- A call that keeps all but the references and what the hand knows of the locked object's field,
 after_list : {heap : TableState} {before after : HandState} {item locked next now : Option ℕ}
-    (references : List ℕ) (slot : ℕ) → IsResting heap before item locked → IsOf heap after
-    → KeepsWork (record before.view { references = references; in_slot = slot }) after.view
+    (references : List ℕ) (field : ℕ) → IsResting heap before item locked → IsOf heap after
+    → KeepsWork (record before.view { references = references; in_field = field }) after.view
     → after.view.actor.locked ≡ now → HasBack after now
     → references ≡ with_item before.view.layout (word_of next) (root_row ∷ []) → IsResting heap after next now
-after_list references slot rest table keeps is back all =
+after_list references field rest table keeps is back all =
     rests_again rest table keeps.layout keeps.status keeps.waits (keeps.work ∙ rest.rests) (keeps.head ∙ rest.head)
     is back (keeps.references ∙ all)
 
 -- as one that asks,
 pub after_asking : {heap : TableState} {before after : HandState} {item locked : Option ℕ}
     → IsResting heap before item locked → IsOf heap after → KeepsWork before.view after.view
-    → after.view.actor.locked ≡ before.view.actor.locked → after.slots ≡ before.slots → IsResting heap after item locked
-after_asking {heap} {before} {after} {item} {locked} rest table keeps same slots =
-    after_list before.view.references before.view.in_slot rest table keeps (same ∙ rest.locked_is)
-    (back_again before after locked slots keeps.taken_slot rest.returned) rest.references
+    → after.view.actor.locked ≡ before.view.actor.locked → after.fields ≡ before.fields → IsResting heap after item locked
+after_asking {heap} {before} {after} {item} {locked} rest table keeps same fields =
+    after_list before.view.references before.view.in_field rest table keeps (same ∙ rest.locked_is)
+    (back_again before after locked fields keeps.taken_field rest.returned) rest.references
 
 -- a lock,
 pub after_lock : {heap : TableState} {before after : HandState} {item : Option ℕ} (row : ℕ) (result : Bool)
-    → Holds heap before item → IsOf heap after → KeepsButSlot before.view after.view
-    → after.slots ≡ (if result then (row, after.view.in_slot) ∷ before.slots else before.slots)
+    → Holds heap before item → IsOf heap after → KeepsButField before.view after.view
+    → after.fields ≡ (if result then (row, after.view.in_field) ∷ before.fields else before.fields)
     → after.view.actor.locked ≡ (if result then Some row else None) → result ≡ true → IsResting heap after item
     (Some row)
-after_lock row false rest table keeps slots locked is = absurd cc
-after_lock {heap} {before} {after} row true rest table keeps slots locked is =
-    after_list before.view.references after.view.in_slot rest table keeps locked
-    (record { rest = before.slots; is = slots }) rest.references
+after_lock row false rest table keeps fields locked is = absurd cc
+after_lock {heap} {before} {after} row true rest table keeps fields locked is =
+    after_list before.view.references after.view.in_field rest table keeps locked
+    (record { rest = before.fields; is = fields }) rest.references
 
 -- a lock that another thread has just now,
 pub after_miss : {heap : TableState} {before after : HandState} {item : Option ℕ} (row : ℕ) (result : Bool)
-    → Holds heap before item → IsOf heap after → KeepsButSlot before.view after.view
+    → Holds heap before item → IsOf heap after → KeepsButField before.view after.view
     → after.view.actor.locked ≡ (if result then Some row else None) → result ≡ false → Holds heap after item
 after_miss row true rest table keeps locked is = absurd cc
 after_miss {heap} {before} {after} row false rest table keeps locked is =
-    after_list before.view.references after.view.in_slot rest table keeps locked tt rest.references
+    after_list before.view.references after.view.in_field rest table keeps locked tt rest.references
 
 -- a swap,
 pub after_swap : {heap : TableState} {before after : HandState} {item : Option ℕ} (row cell found : ℕ)
     (next : Option ℕ) → IsResting heap before item (Some row) → IsOf heap after → KeepsBesides before.view after.view
     → SwapsItem row cell (word_of item) found before.view after.view → next ≡ row_in found
-    → after.slots ≡ before.slots → after.view.actor.locked ≡ Some row → IsResting heap after next (Some row)
-after_swap {heap} {before} {after} {item} row cell found next rest table keeps swaps is slots locked =
+    → after.fields ≡ before.fields → after.view.actor.locked ≡ Some row → IsResting heap after next (Some row)
+after_swap {heap} {before} {after} {item} row cell found next rest table keeps swaps is fields locked =
     let layout = before.view.layout in
     let word : word_of next ≡ found = ap word_of is ∙ word_row found in
-    after_list after.view.references before.view.in_slot rest table keeps locked
-    (back_again before after (Some row) slots keeps.taken_slot rest.returned)
+    after_list after.view.references before.view.in_field rest table keeps locked
+    (back_again before after (Some row) fields keeps.taken_field rest.returned)
     (swaps.references
     ∙ (ap (λ (rows : List ℕ). with_item layout found (without_item layout (word_of item) rows)) rest.references
     ∙ (ap (with_item layout found) (without_with layout (word_of item) (root_row ∷ []))
@@ -195,7 +195,7 @@ pub after_unlock : {heap : TableState} {before after : HandState} {item : Option
     → IsResting heap before item (Some row) → IsOf heap after → KeepsWork before.view after.view
     → after.view.actor.locked ≡ None → Holds heap after item
 after_unlock {heap} {before} {after} row rest table keeps locked =
-    after_list before.view.references before.view.in_slot rest table keeps locked tt rest.references
+    after_list before.view.references before.view.in_field rest table keeps locked tt rest.references
 
 -- ---- calls that wait
 

@@ -31,7 +31,7 @@ pub struct Counts {
 /// Reads from the file that the hand has locked, and writes to it. It reads and writes whichever call fails.
 fn uses(heap: &Heap<FakeResource>, hand: &mut Hand<FakeResource>, host: &mut FakeHost<'_>, row: u32)
     requires resting { IsAtRest heap.now hand.old (Some row) }
-    requires file { hand.old.view.in_slot ≡ 1 }
+    requires file { hand.old.view.in_field ≡ 1 }
     ensures resting { IsAtRest heap.now hand.new (Some row) }
     ensures references { hand.new.view.references ≡ hand.old.view.references }
 {
@@ -51,7 +51,7 @@ fn locked_file(
 ) -> Option<u32>
     requires resting { IsAtRest heap.now hand.old None }
     ensures resting { IfSome result (λ row. IsAtRest heap.now hand.new (Some row)) }
-    ensures file { OnSome result (hand.new.view.in_slot ≡ 1) }
+    ensures file { OnSome result (hand.new.view.in_field ≡ 1) }
     ensures counted { IfSome result (λ row. IsCounted heap.now.layout row) }
     ensures references { IfSome result (λ row. hand.new.view.references ≡ row ∷ hand.old.view.references) }
 {

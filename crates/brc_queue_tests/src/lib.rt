@@ -1,6 +1,6 @@
-//! Tests of queues, of deallocation and of heaps that end; an example, a runtime of its own threads and its own host, as
-//! `docs/EMBED.md` explains it; and a soak: eight workers make random calls in threads of their own, and the end of the
-//! heap is counted again from what they have noted.
+//! Tests of queues, of deallocation and of heaps that end; an example, a runtime of its own threads and its own host,
+//! as `docs/EMBED.md` explains it; and a soak: eight workers make random calls in threads of their own, and the end of
+//! the heap is counted again from what they have noted.
 #![tactic(auto)]
 
 #[cfg(test)]
@@ -31,6 +31,8 @@ mod meeting;
 mod modules;
 #[cfg(test)]
 mod no_files;
+#[cfg(test)]
+mod numbered_files;
 #[cfg(test)]
 mod posting;
 #[cfg(test)]

@@ -2,6 +2,7 @@
 
 ghost use Rattle.std.specs.Prelude.{◌≡◌};
 
+use brc_free::Waits;
 use brc_heap::{Hand, Heap, Looked, Marker};
 use brc_host::FakeResource;
 use brc_queue::Queue;
@@ -46,5 +47,11 @@ impl<'h> Marker<FakeResource> for Posts<'h> {
     fn post(&self, hand: &mut Hand<FakeResource>, row: u32) -> Looked {
         self.posts.fetch_add(1, Ordering::SeqCst);
         Marker::post(&self.queue, hand, row)
+    }
+}
+
+impl<'h> Waits for Posts<'h> {
+    fn wait(&self) {
+        self.queue.wait();
     }
 }

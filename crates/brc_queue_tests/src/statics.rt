@@ -1,4 +1,5 @@
-//! Two threads take numbers out of a static list under its lock, and one of them puts its own number in.
+//! Two threads take numbers out of a static list under its lock, and each puts a file of its own in. Both files stay
+//! open, each with its own resource.
 
 ghost use Rattle.std.specs.Prelude.{◌≡◌, ◌≢◌, true, None, Some, OnOk, IfOk, IfSome};
 ghost use Rattle.brc_model.specs.Layout.{is_immortal_row};
@@ -6,21 +7,26 @@ ghost use Rattle.brc_table.specs.Hands.{IsOf};
 ghost use Rattle.brc_queue_tests.specs.Embedded.{Holds, holds-prop};
 ghost use Rattle.brc_queue_tests.specs.Modules.{static_layout};
 
-use crate::embedded::{bear, leave, release};
 use crate::modules::static_module;
-use crate::no_files::NoFiles;
+use crate::numbered_files::NumberedFiles;
+use brc_free::Finaliser;
 use brc_heap::{Final, Hand, Heap, ROOT, Taken};
+use brc_lang::Kind;
 use brc_list::Lists;
+use brc_queue::Queue;
 use std::alloc::{AllocError, Global};
 use std::sync::Wait;
 use std::test::*;
 use std::thread;
 use std::thread::Threads;
 
+/// The resources of the two files.
+const FILES: [u32; 2] = [71, 72];
+
 /// The first static list: two workers with four rows each come before it.
 const LIST: u32 = 10;
 
-/// The second static list. Behind it are the numbers of the lists.
+/// The second static list. The numbers of the lists come after it.
 const OTHER: u32 = 11;
 
 /// The rows in all.
@@ -29,15 +35,15 @@ const ROWS: u32 = 15;
 /// A hand, which a thread takes with it.
 #[derive(Drop)]
 struct Worker<'a> {
-    heap: &'a Heap<()>,
-    hand: Hand<()>,
+    heap: &'a Heap<u32>,
+    hand: Hand<u32>,
     ghost lists: { heap.now.layout ≡ static_layout },
     ghost holds: { Holds heap.now hand None } by { holds-prop heap.now hand None },
     ghost apart: { hand.view.thread ≢ 0 },
 }
 
 /// Starts the thread and gives out its hand.
-fn starts<'a>(heap: &'a Heap<()>, main: &mut Hand<()>, thread: u8) -> Result<Worker<'a>, Taken>
+fn starts<'a>(heap: &'a Heap<u32>, main: &mut Hand<u32>, thread: u8) -> Result<Worker<'a>, Taken>
     requires lists { heap.now.layout ≡ static_layout }
     requires thread { thread ≢ 0 }
     requires main { main.old.view.thread ≡ 0 }
@@ -52,8 +58,8 @@ fn starts<'a>(heap: &'a Heap<()>, main: &mut Hand<()>, thread: u8) -> Result<Wor
 /// Tries once to put the item into the cell. Returns what was there, or `None` if another thread has locked the list.
 #[tactic(auto, using(crate::proofs::StaticLists::holds_list, crate::proofs::StaticLists::may_put_there))]
 fn try_swap(
-    heap: &Heap<()>,
-    hand: &mut Hand<()>,
+    heap: &Heap<u32>,
+    hand: &mut Hand<u32>,
     list: u32,
     cell: u32,
     item: Option<u32>,
@@ -75,8 +81,8 @@ fn try_swap(
 /// Puts the item into the cell, and waits while another thread has locked the list. Returns what was there.
 fn swap<R: Wait>(
     rt: &R,
-    heap: &Heap<()>,
-    hand: &mut Hand<()>,
+    heap: &Heap<u32>,
+    hand: &mut Hand<u32>,
     list: u32,
     cell: u32,
     item: Option<u32>,
@@ -93,22 +99,50 @@ fn swap<R: Wait>(
     unreachable!()
 }
 
-/// The first thread: takes the list's first number, and gives it up.
-fn takes<R: Wait>(rt: &R, worker: Worker<'_>) {
-    let Worker { heap, mut hand } = worker;
-    let mut host = NoFiles::new();
-    if let Some(row) = swap(rt, heap, &mut hand, LIST, 0, None) {
-        release(rt, heap, &mut hand, &mut host, row);
+/// Gives birth to a file with the resource. Returns its row, or `None` if the hand's block is full.
+fn bear(heap: &Heap<u32>, hand: &mut Hand<u32>, resource: u32) -> Option<u32>
+    requires holds { Holds heap.now hand.old None }
+    ensures holds { Holds heap.now hand.new result }
+{
+    if heap.room(hand) {
+        Some(heap.birth(hand, Kind::File, 0, Some(resource)))
+    } else {
+        None
     }
-    leave(rt, heap, &mut hand, &mut host);
 }
 
-/// The second thread: puts a number of its own in the place of the list's second one, and gives that up.
-fn puts<R: Wait>(rt: &R, worker: Worker<'_>) {
+/// Gives up a reference, and finalises what dies by that.
+fn release<R: Wait>(
+    rt: &R,
+    heap: &Heap<u32>,
+    hand: &mut Hand<u32>,
+    host: &mut NumberedFiles,
+    row: u32,
+)
+    requires holds { Holds heap.now hand.old (Some row) }
+    ensures holds { Holds heap.now hand.new None }
+{
+    let queue = Queue::new(heap);
+    let finaliser = Finaliser::new(heap, &queue);
+    finaliser.release(rt, hand, row);
+    finaliser.settle(rt, hand, host);
+}
+
+/// Leaves.
+fn leave<R: Wait>(rt: &R, heap: &Heap<u32>, hand: &mut Hand<u32>, host: &mut NumberedFiles)
+    requires holds { Holds heap.now hand.old None }
+    ensures table { IsOf heap.now hand.new }
+    ensures thread { hand.new.view.thread ≡ hand.old.view.thread }
+{
+    Queue::new(heap).leave(rt, hand, host);
+}
+
+/// A thread: puts a file of its own in the place of the number in the cell, and gives that up.
+fn puts<R: Wait>(rt: &R, worker: Worker<'_>, cell: u32, resource: u32) {
     let Worker { heap, mut hand } = worker;
-    let mut host = NoFiles::new();
-    let item = bear(heap, &mut hand);
-    if let Some(row) = swap(rt, heap, &mut hand, LIST, 1, item) {
+    let mut host = NumberedFiles::new();
+    let item = bear(heap, &mut hand, resource);
+    if let Some(row) = swap(rt, heap, &mut hand, LIST, cell, item) {
         release(rt, heap, &mut hand, &mut host, row);
     }
     leave(rt, heap, &mut hand, &mut host);
@@ -121,16 +155,17 @@ fn run<R: Threads + Wait + Sync>(
     two: Worker<'_>,
 ) -> Result<(), AllocError> {
     thread::scope(thread::scope_env(), rt, |scope| -> Result<(), AllocError> {
-        let one = scope.spawn(move || takes(rt, one))?;
-        let two = scope.spawn(move || puts(rt, two))?;
+        let one = scope.spawn(move || puts(rt, one, 0, FILES[0]))?;
+        let two = scope.spawn(move || puts(rt, two, 1, FILES[1]))?;
         one.join(rt);
         two.join(rt);
         Ok(())
     })
 }
 
-/// What the ended heap tells: how many objects it has but for none, how many of them are immortal, and how many are
-/// closed; the items of the first list, and those of the second one, which has one cell.
+/// What the ended heap says: how many objects it has but for none, how many of them are immortal, and how many are
+/// closed; the items of the first list, and those of the second one, which has one cell; and what the fields of the
+/// first list's items have.
 #[derive(Clone, Copy, Debug, PartialEq, Eq)]
 struct Seen {
     objects: u32,
@@ -138,10 +173,21 @@ struct Seen {
     closed: u32,
     first: [Option<u32>; 2],
     second: [Option<u32>; 2],
+    fields: [Option<u32>; 2],
 }
 
-/// Reads what the ended heap tells, or returns `None` if it hasn't these rows.
-fn read(end: &Final<()>) -> Option<Seen> {
+/// Returns the resource of the object in the row, if there is one.
+fn resource_of(end: &Final<u32>, row: Option<u32>) -> Option<u32> {
+    let row = row?;
+    if row < end.rows() {
+        end.slot(row).copied()
+    } else {
+        None
+    }
+}
+
+/// Reads what the ended heap says, or returns `None` if it hasn't these rows.
+fn read(end: &Final<u32>) -> Option<Seen> {
     if end.rows() != ROWS {
         return None;
     }
@@ -159,17 +205,19 @@ fn read(end: &Final<()>) -> Option<Seen> {
             closed = closed.saturating_add(1);
         }
     }
+    let first = [end.cell(LIST, 0), end.cell(LIST, 1)];
     Some(Seen {
         objects,
         immortal,
         closed,
-        first: [end.cell(LIST, 0), end.cell(LIST, 1)],
+        first,
         second: [end.cell(OTHER, 0), end.cell(OTHER, 64)],
+        fields: [resource_of(end, first[0]), resource_of(end, first[1])],
     })
 }
 
-/// Ends the heap. Returns what it tells, or `None` if a thread hasn't left.
-fn ended(heap: Heap<()>, main: Hand<()>) -> Option<Seen>
+/// Ends the heap. Returns what it says, or `None` if a thread hasn't left.
+fn ended(heap: Heap<u32>, main: Hand<u32>) -> Option<Seen>
     requires table { IsOf heap main }
     requires main { main.view.thread ≡ 0 }
 {
@@ -181,7 +229,7 @@ fn ended(heap: Heap<()>, main: Hand<()>) -> Option<Seen>
 
 /// Returns a heap with the two static lists for two workers with four rows each, and main's hand.
 #[tactic(auto, using(crate::proofs::StaticLists::has_static_lines))]
-fn opened(alloc: Global) -> Result<(Heap<()>, Hand<()>), Fail>
+fn opened(alloc: Global) -> Result<(Heap<u32>, Hand<u32>), Fail>
     ensures lists { IfOk result (λ made. made.0.layout ≡ static_layout) }
     ensures main { IfOk result (λ made. made.1.view.thread ≡ 0) }
     ensures holds { IfOk result (λ made. Holds made.0 made.1 None) }
@@ -196,15 +244,16 @@ fn threads_change_a_static_list(rt: HostRuntime) -> Result<(), Fail> {
     let one = starts(&heap, &mut main, 1)?;
     let two = starts(&heap, &mut main, 2)?;
     run(&rt, one, two)?;
-    leave(&rt, &heap, &mut main, &mut NoFiles::new());
-    // The root, the two lists, their three numbers, and the second thread's number. The root and the two numbers that
-    // the threads took are closed.
+    leave(&rt, &heap, &mut main, &mut NumberedFiles::new());
+    // The root, the two lists, their three numbers, and the threads' files. The root and the two numbers that the
+    // threads took are closed.
     let want = Seen {
-        objects: 7,
+        objects: 8,
         immortal: 2,
         closed: 3,
-        first: [None, Some(6)],
+        first: [Some(2), Some(6)],
         second: [Some(14), None],
+        fields: [Some(FILES[0]), Some(FILES[1])],
     };
     assert_eq!(rt; ended(heap, main), Some(want));
     Ok(())

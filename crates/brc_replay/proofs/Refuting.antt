@@ -18,7 +18,6 @@ use Rattle.brc_model.specs.Dispatch.{action_of, exit_of}
 use Rattle.brc_model.specs.Events.{begins_unfit, chooses_unfit, is_bad_action, is_bad_event}
 use Rattle.brc_model.specs.Safety.{IsHeldByOpenList, IsSafeNow, Safe}
 use Rattle.brc_model.specs.StepMachine.{StepMachine, of_thread, machine_by, next_machine, machine_after}
-use Rattle.brc_model.specs.Tables.{AreTrueWhereReached}
 use Rattle.brc_plain.specs.Begun.{begun}
 use Rattle.brc_plain.specs.Lost.{is_open_cell, keeps}
 use Rattle.brc_replay.specs.WrongRuns.{goes_on, GoOn, EndsBadly, HasLeak, IsWrongRun, WrongRunsShow}
@@ -128,22 +127,23 @@ go_on_parts (event ∷ before) last on =
     (and_from _ _ parts.0 rest.0, rest.1)
 
 -- At no moment of a safe module's run in which no thread stops is anything wrong.
-safe_after : (m : Module) (rows : ℕ) (calls : List Call) (events all : List (ℕ × Choice))
-    (states : ℕ → ℕ → Option State) → IsWrongRun m rows calls all → AreTrueWhereReached m states → Safe m → GoOn events
-    → IsSafeNow (with_states states (machine_after (begun m rows calls) events))
-safe_after m rows calls events all states wrong truth safe on =
+safe_after : (m : Module) (rows : ℕ) (calls : List Call) (events all : List (ℕ × Choice)) → IsWrongRun m rows calls all
+    → (safe : Safe m) → GoOn events
+    → IsSafeNow (with_states safe.has_states.0 (machine_after (begun m rows calls) events))
+safe_after m rows calls events all wrong safe on =
+    let states = safe.has_states.0 in
     subst (λ (n : StepMachine). IsSafeNow n) (same_after states (begun m rows calls) events on)
-    (safe states rows calls events truth wrong.some_rows wrong.most_rows wrong.calls_fit)
+    (safe.runs states rows calls events safe.has_states.1 wrong.some_rows wrong.most_rows wrong.calls_fit)
 
-bad_shown : (m : Module) (rows : ℕ) (calls : List Call) (events : List (ℕ × Choice))
-    (states : ℕ → ℕ → Option State) → IsWrongRun m rows calls events → AreTrueWhereReached m states → Safe m
-    → EndsBadly (begun m rows calls) events → ⊥
-bad_shown m rows calls events states wrong truth safe ends =
+bad_shown : (m : Module) (rows : ℕ) (calls : List Call) (events : List (ℕ × Choice)) → IsWrongRun m rows calls events
+    → Safe m → EndsBadly (begun m rows calls) events → ⊥
+bad_shown m rows calls events wrong safe ends =
+    let states = safe.has_states.0 in
     let parts = go_on_parts ends.before ends.last
     (subst (λ (all : List (ℕ × Choice)). GoOn all) ends.are wrong.wrong.go_on) in
     let n = machine_after (begun m rows calls) ends.before in
     let fine : is_bad_event (with_states states n) ends.last ≡ false =
-    (safe_after m rows calls ends.before events states wrong truth safe parts.0).none_bad ends.last in
+    (safe_after m rows calls ends.before events wrong safe parts.0).none_bad ends.last in
     let no : is_bad_event n ends.last ≡ false = sym (same_bad states n ends.last parts.1) ∙ fine in
     absurd (cc (no, ends.bad))
 
@@ -169,11 +169,10 @@ none_left p row (r ∷ references) held let_go =
     let other = another_object p row r (All-head (IsHeldByOpenList p) r references held) parts.0 in
     rw other (none_left p row references (All-tail (IsHeldByOpenList p) r references held) parts.1)
 
-leak_shown : (m : Module) (rows : ℕ) (calls : List Call) (events : List (ℕ × Choice))
-    (states : ℕ → ℕ → Option State) → IsWrongRun m rows calls events → AreTrueWhereReached m states → Safe m
-    → HasLeak (machine_after (begun m rows calls) events) → ⊥
-leak_shown m rows calls events states wrong truth safe ends =
-    let now = safe_after m rows calls events events states wrong truth safe wrong.wrong.go_on in
+leak_shown : (m : Module) (rows : ℕ) (calls : List Call) (events : List (ℕ × Choice)) → IsWrongRun m rows calls events
+    → Safe m → HasLeak (machine_after (begun m rows calls) events) → ⊥
+leak_shown m rows calls events wrong safe ends =
+    let now = safe_after m rows calls events events wrong safe wrong.wrong.go_on in
     let after = machine_after (begun m rows calls) events in
     let none = none_left after.abstract ends.row after.abstract.references (now.left_in_lists ends.gone)
     ends.lost.not_kept in
@@ -182,8 +181,8 @@ leak_shown m rows calls events states wrong truth safe ends =
 
 -- A module with a wrong run isn't safe.
 pub shown : WrongRunsShow
-shown m rows calls events states wrong truth safe =
+shown m rows calls events wrong safe =
     elim wrong.wrong.ends [
-      | inl ends ↦ bad_shown m rows calls events states wrong truth safe ends
-      | inr ends ↦ leak_shown m rows calls events states wrong truth safe ends
+      | inl ends ↦ bad_shown m rows calls events wrong safe ends
+      | inr ends ↦ leak_shown m rows calls events wrong safe ends
     ]

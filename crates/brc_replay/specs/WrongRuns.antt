@@ -1,17 +1,15 @@
 -- Wrong runs: the events of a module's threads that show that the module isn't safe. The last event is bad; or all
 -- threads are gone, and an object is lost: it isn't closed, and no cell of an open list holds a reference to it.
-use Rattle.std.specs.Prelude.{◌≡◌, ◌⊎◌, ℕ, ◌<◌, ◌≤◌, Bool, true, false, List, [], ◌∷◌, ◌++◌, Option}
+use Rattle.std.specs.Prelude.{◌≡◌, ◌⊎◌, ℕ, ◌<◌, ◌≤◌, Bool, true, false, List, [], ◌∷◌, ◌++◌}
 use Rattle.std.specs.List.{list_all}
 use Rattle.brc_lang.specs.declared.module.Module.{Module}
 use Rattle.brc_model.specs.declared.thread.Call.{Call}
 use Rattle.brc_model.specs.declared.thread.Choice.{Choice}
 use Rattle.brc_model.specs.declared.thread.Choice.TheVariants.{Ok, Fault, Claim, Stop}
-use Rattle.brc_model.specs.declared.state.State.{State}
 use Rattle.brc_model.specs.StepMachine.{StepMachine, counting, machine_after}
 use Rattle.brc_model.specs.Events.{is_bad_event}
 use Rattle.brc_model.specs.Limits.{row_limit}
 use Rattle.brc_model.specs.Safety.{AreCalls, AllGone, Safe}
-use Rattle.brc_model.specs.Tables.{AreTrueWhereReached}
 use Rattle.brc_plain.specs.Begun.{begun}
 use Rattle.brc_plain.specs.Lost.{IsLost}
 use Rattle.brc_replay.specs.declared.event.Event.{Event}
@@ -66,5 +64,5 @@ pub record IsWrongRun (m : Module) (rows : ℕ) (calls : List Call) (events : Li
 -- A module with a wrong run isn't safe.
 abbrev pub WrongRunsShow : Type 0
 WrongRunsShow =
-    (m : Module) (rows : ℕ) (calls : List Call) (events : List (ℕ × Choice)) (states : ℕ → ℕ → Option State)
-    → IsWrongRun m rows calls events → AreTrueWhereReached m states → Safe m → ⊥
+    (m : Module) (rows : ℕ) (calls : List Call) (events : List (ℕ × Choice))
+    → IsWrongRun m rows calls events → Safe m → ⊥

@@ -1,5 +1,5 @@
 -- A run of a function on real threads.
-use Rattle.std.specs.Prelude.{◌≡◌, ℕ, ◌+◌, ◌<◌, None, List, [], ◌∷◌, length, map, sum_by, slice_index_or}
+use Rattle.std.specs.Prelude.{◌≡◌, ℕ, ◌+◌, ◌<◌, None, All, List, [], ◌∷◌, length, map, sum_by, slice_index_or}
 use Rattle.brc_host.specs.HostCounts.{raised}
 use Rattle.brc_host.specs.HostCalls.{HostCall, HasAnswered, close_faults}
 use Rattle.brc_host.specs.declared.counts.HostCounts.{HostCounts}
@@ -38,17 +38,17 @@ totals_in gone = map (λ w. totals_of w.1) gone
 -- or is stopped where it has begun `steps` instructions: its thread is gone, and has made the events of the calls,
 -- those of its stop, if it was stopped, and then those of its exit, and its host was asked for just what they ask. The
 -- tally is of the end of the heap that they share, at which each thread is gone, of what each worker has counted of its
--- host's answers, and of the closes of main that failed.
+-- host's answers, and of the closes of main that failed. Worker k + 1 had host k.
 pub record IsTallyOf {S : Type 0} (answers : S → HostCall → S → Type 0) (counts : S → HostCounts) (m : Module)
-    (workers rows : ℕ) (call : Call) (steps close_faults : ℕ) (tally : Tally) : Type 0 where
+    (workers rows : ℕ) (call : Call) (steps : ℕ) (hosts : List S) (close_faults : ℕ) (tally : Tally) : Type 0 where
   pub heap : TableState
   pub same : heap.layout ≡ layout_of m workers rows
   pub lines : heap.lines ≡ m.statics
   pub gone : List (HandState × Ran)
   pub end : EndState
   pub one_each : length gone ≡ workers
-  pub each : (k : ℕ) (w : HandState × Ran) → k < workers
-      → HasGone answers counts (job heap m call.function call.times steps (k + 1)) (slice_index_or gone k w).0
+  pub each : (k : ℕ) (w : HandState × Ran) (h : S) → k < workers → HasGone answers counts
+      (job heap m call.function call.times steps (k + 1) (slice_index_or hosts k h)) (slice_index_or gone k w).0
       (slice_index_or gone k w).1
   pub of : end.table ≡ heap.table
   pub layout : end.layout ≡ layout_of m workers rows
@@ -59,20 +59,22 @@ pub record IsTallyOf {S : Type 0} (answers : S → HostCall → S → Type 0) (c
 
 -- Main has left with these closes of its host, and no other call. The tally has counted those that failed.
 pub record CountsMain {S : Type 0} (answers : S → HostCall → S → Type 0) (counts : S → HostCounts) (m : Module)
-    (workers rows : ℕ) (call : Call) (steps : ℕ) (before after : S) (tally : Tally) : Type 0 where
+    (workers rows : ℕ) (call : Call) (steps : ℕ) (hosts : List S) (before after : S) (tally : Tally) : Type 0 where
   pub closes : List HostCall
   pub first : View
   pub last : View
   pub leaves : HasLeft closes first last
   pub host : HasAnswered answers counts before closes after
-  pub counted : IsTallyOf answers counts m workers rows call steps (raised (close_faults closes) 0) tally
+  pub counted : IsTallyOf answers counts m workers rows call steps hosts (raised (close_faults closes) 0)
+      tally
 
--- The same over hosts of the system. Main's host reached just these paths and these peers, and hadn't been called; what
--- becomes of it isn't seen any more.
+-- The same over hosts of the system. Each worker's host, and main's, reached just these paths and these peers, and
+-- hadn't been called; what becomes of them isn't seen any more.
 abbrev pub IsTallyOfRun : List (List ℕ) → List (List ℕ) → Module → ℕ → ℕ → Call → ℕ → Tally → Type 0
-IsTallyOfRun paths peers m workers rows call steps tally = (after : HostState)
-    × CountsMain AnswersForSystem (λ (host : HostState). host.counts) m workers rows call steps (new_host paths peers)
-    after tally
+IsTallyOfRun paths peers m workers rows call steps tally = (hosts : List HostState) × (after : HostState)
+    × (length hosts ≡ workers) × All (λ host. host ≡ new_host paths peers) hosts
+    × CountsMain AnswersForSystem (λ (host : HostState). host.counts) m workers rows call steps hosts
+    (new_host paths peers) after tally
 
 -- Main has left, and the heap of a run of the module with this number of workers, and of rows for each, has ended: each
 -- thread is gone. Main has left with these closes of its host, and no other call.

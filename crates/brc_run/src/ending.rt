@@ -36,11 +36,11 @@ pub(crate) fn left<R: Wait, T: Drop, H: Host<Res = T>>(
 pub(crate) fn finished<R: Wait, T: Drop>(rt: &R, heap: Heap<T>, main: Hand<T>) -> Final<T>
     requires of { IsOf heap main }
     requires main { main.view.thread ≡ 0 }
-    ensures table { result.table ≡ heap.table }
-    ensures layout { result.layout ≡ heap.layout }
-    ensures ended { HasEnded result }
-    ensures joined { All (RowsAreUsed result.layout result.words) main.view.joined }
-    ensures lines { result.lines ≡ heap.lines }
+    ensures table { result.state.table ≡ heap.table }
+    ensures layout { result.state.layout ≡ heap.layout }
+    ensures ended { HasEnded result.state }
+    ensures joined { All (RowsAreUsed result.state.layout result.state.words) main.view.joined }
+    ensures lines { result.state.lines ≡ heap.lines }
 {
     let mut heap = heap;
     let mut main = main;

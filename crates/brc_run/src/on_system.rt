@@ -68,7 +68,7 @@ fn run_alike<'r, R: System, G: Gate + Sync>(
     requires one_each { length hosts.old ≡ plan.threads }
     requires alike { All (λ host. host ≡ main_host.old) hosts.old }
     ensures { IfOk result (CountsMain AnswersForSystem (λ host. host.counts) checked.now.module plan.threads plan.rows
-        plan.call plan.steps main_host.old main_host.new) }
+        plan.call plan.steps hosts.old main_host.old main_host.new) }
 {
     run(rt, alloc, checked, plan, hosts, main_host, gate)
 }

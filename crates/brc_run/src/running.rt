@@ -45,7 +45,7 @@ pub fn run<R: Threads + Wait + Sync, T: Send + Drop, H: Host<Res = T> + Send, G:
     requires parameters { (function_at checked.now.module.functions plan.call.function).parameters ≡ [] }
     requires one_each { length hosts.old ≡ plan.threads }
     ensures tally { IfOk result (CountsMain H.answers H.counts checked.now.module plan.threads plan.rows plan.call
-        plan.steps main_host.old main_host.new) }
+        plan.steps hosts.old main_host.old main_host.new) }
     ensures no_thread { IfErr result (λ fault. fault ≡ RunFault.NoThread
         → MainHasLeft H.answers H.counts checked.now.module plan.threads plan.rows main_host.old main_host.new) }
 {
@@ -84,7 +84,7 @@ fn joined<T: Drop>(
 ) -> Result<Vec<Totals>, RunFault>
     requires of { IsOf heap.now main.old }
     requires gone { (k : ℕ) (w : _) → k < vec_len gone → let hand = (slice_index_or gone.items k w).0 in
-        IsOf heap.now hand × (hand.view.actor.status ≡ Gone) × (hand.slots ≡ []) }
+        IsOf heap.now hand × (hand.view.actor.status ≡ Gone) × (hand.fields ≡ []) }
     ensures of { IsOf heap.now main.new }
     ensures main { main.new.view.thread ≡ main.old.view.thread }
     ensures totals { IfOk result (λ totals. totals.items ≡ totals_in gone.items) }

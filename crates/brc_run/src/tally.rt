@@ -24,8 +24,8 @@ pub fn tally_of<T: Drop>(
     totals: &[Totals],
     close_faults: u64,
 ) -> Result<Tally, AllocError>
-    requires layout { layout ≡ end.now.layout }
-    ensures { IfOk result (λ tally. tally ≡ tally_at_end end.now threads totals.now close_faults) }
+    requires layout { layout ≡ end.now.state.layout }
+    ensures { IfOk result (λ tally. tally ≡ tally_at_end end.now.state threads totals.now close_faults) }
 {
     let created = created_in(end, layout);
     let closed = closed_in(end, layout);
@@ -45,8 +45,8 @@ pub fn tally_of<T: Drop>(
 ///
 /// So no row is asked whether it is a static list's. Without static lists the rows are gone over as they lie.
 fn created_in<T: Drop>(end: &Final<T>, layout: Layout) -> u32
-    requires layout { layout ≡ end.now.layout }
-    ensures { result ≡ count_by (is_created end.now) (rows_behind_none end.now) }
+    requires layout { layout ≡ end.now.state.layout }
+    ensures { result ≡ count_by (is_created end.now.state) (rows_behind_none end.now.state) }
 {
     let front = born_in(end, ROOT, first_immortal_list(layout));
     let rear = born_in(end, first_number(layout), end.rows());
@@ -56,8 +56,8 @@ fn created_in<T: Drop>(end: &Final<T>, layout: Layout) -> u32
 /// Returns in how many of the rows from `first` on, and below `last`, an object was born or was there from the start.
 fn born_in<T: Drop>(end: &Final<T>, first: u32, last: u32) -> u32
     requires rising { first ≤ last }
-    requires there { last ≤ row_count end.now.layout }
-    ensures { result ≡ count_by (was_born end.now) (rows_between first last) }
+    requires there { last ≤ row_count end.now.state.layout }
+    ensures { result ≡ count_by (was_born end.now.state) (rows_between first last) }
 {
     let mut born = 0;
     for row in first..last {
@@ -70,8 +70,8 @@ fn born_in<T: Drop>(end: &Final<T>, first: u32, last: u32) -> u32
 
 /// Returns how many counted objects are closed: of the rows in front of the static lists, and of those behind.
 fn closed_in<T: Drop>(end: &Final<T>, layout: Layout) -> u32
-    requires layout { layout ≡ end.now.layout }
-    ensures { result ≡ count_by (has_closed end.now) (rows_behind_none end.now) }
+    requires layout { layout ≡ end.now.state.layout }
+    ensures { result ≡ count_by (has_closed end.now.state) (rows_behind_none end.now.state) }
 {
     let front = gone_in(end, ROOT, first_immortal_list(layout));
     let rear = gone_in(end, first_number(layout), end.rows());
@@ -81,8 +81,8 @@ fn closed_in<T: Drop>(end: &Final<T>, layout: Layout) -> u32
 /// Returns of how many of the rows from `first` on, and below `last`, the object is closed.
 fn gone_in<T: Drop>(end: &Final<T>, first: u32, last: u32) -> u32
     requires rising { first ≤ last }
-    requires there { last ≤ row_count end.now.layout }
-    ensures { result ≡ count_by (is_closed end.now) (rows_between first last) }
+    requires there { last ≤ row_count end.now.state.layout }
+    ensures { result ≡ count_by (is_closed end.now.state) (rows_between first last) }
 {
     let mut closed = 0;
     for row in first..last {
@@ -100,8 +100,9 @@ fn left_in<T: Drop>(
     end: &Final<T>,
     layout: Layout,
 ) -> Result<Sequence<Left>, AllocError>
-    requires layout { layout ≡ end.now.layout }
-    ensures { IfOk result (λ left. left ≡ map (left_at end.now) (filter (is_left end.now) (rows_behind_none end.now))) }
+    requires layout { layout ≡ end.now.state.layout }
+    ensures { IfOk result (λ left. left
+        ≡ map (left_at end.now.state) (filter (is_left end.now.state) (rows_behind_none end.now.state))) }
 {
     let mut left = Sequence::new(alloc);
     add_open(end, ROOT, first_immortal_list(layout), &mut left)?;
@@ -111,8 +112,8 @@ fn left_in<T: Drop>(
 
 /// Returns whether an object was born in the row, or was there from the start, and isn't closed.
 fn is_open<T: Drop>(end: &Final<T>, row: u32) -> bool
-    requires there { row < row_count end.now.layout }
-    ensures { result ≡ is_open end.now row }
+    requires there { row < row_count end.now.state.layout }
+    ensures { result ≡ is_open end.now.state row }
 {
     end.born(row) && !end.closed(row)
 }
@@ -125,9 +126,9 @@ fn add_open<T: Drop>(
     left: &mut Sequence<Left>,
 ) -> Result<(), AllocError>
     requires rising { first ≤ last }
-    requires there { last ≤ row_count end.now.layout }
+    requires there { last ≤ row_count end.now.state.layout }
     ensures { OnOk result (left.new
-        ≡ left.old ++ map (left_at end.now) (filter (is_open end.now) (rows_between first last))) }
+        ≡ left.old ++ map (left_at end.now.state) (filter (is_open end.now.state) (rows_between first last))) }
 {
     for row in first..last {
         if is_open(end, row) {

@@ -62,24 +62,24 @@ fn stepped_from(alloc: Global, checked: &Checked, seed: u64) -> Option<Counts> {
         times: TIMES,
     };
     match World::new(alloc, checked, usize::from(THREADS), ROWS, &[call; 3]) {
-        Ok(mut world) => stepped_to_the_end(alloc, &mut world, seed),
+        Ok(mut world) => stepped_to_the_end(&mut world, seed),
         Err(_) => None,
     }
 }
 
-fn stepped_to_the_end(alloc: Global, world: &mut World<'_>, seed: u64) -> Option<Counts> {
+fn stepped_to_the_end(world: &mut World<'_>, seed: u64) -> Option<Counts> {
     let mut number = seed;
     for _ in 0..MOST_ROUNDS {
         number = steps(world, number)?;
         if are_gone(world) {
-            return tallied(alloc, world);
+            return tallied(world);
         }
     }
     None
 }
 
-fn tallied(alloc: Global, world: &World<'_>) -> Option<Counts> {
-    match world.tally(alloc) {
+fn tallied(world: &World<'_>) -> Option<Counts> {
+    match world.tally() {
         Ok(tally) => Some(counts_of(&tally)),
         Err(_) => None,
     }

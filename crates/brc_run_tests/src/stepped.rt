@@ -127,7 +127,7 @@ fn is_reported(alloc: Global, world: &World<'_>, refused: &mut Refusals) -> bool
 
 /// Writes the report of the world. Returns whether it is the wanted one, or where memory was refused.
 fn is_written(alloc: Global, world: &World<'_>) -> Result<bool, &'static str> {
-    match world.tally(alloc) {
+    match world.tally() {
         Ok(tally) => is_text(alloc, &tally),
         Err(_) => Err("tally"),
     }

@@ -8,10 +8,7 @@ use crate::schedule::{PlannedCall, Steps};
 use brc_lang::{
     FaultCode, Name, four_words, is_name, is_word, number_between, three_words, two_words,
 };
-use brc_model::Choice;
-
-/// The greatest number of calls or steps of one line.
-const MOST_TIMES: u32 = 1_000_000;
+use brc_model::{Choice, MOST_TIMES};
 
 /// The last row of the largest world: row 0 is none, row 1 the root, each of 32 workers has 1024 rows, and behind these
 /// are the rows of 16 immortal lists and of the 64 numbers in each of them.
@@ -88,7 +85,7 @@ fn claim(workers: u8, word: &[u8], thread: &[u8], row: &[u8]) -> Result<Steps, F
     let row = number_between(0, LAST_ROW, row)?;
     Ok(Steps {
         thread,
-        choice: Choice::Claim { row },
+        choice: Choice::Claim(row),
         times: 1,
     })
 }

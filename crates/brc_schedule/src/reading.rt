@@ -13,13 +13,10 @@ use crate::beginning::Beginning;
 use crate::line::{planned_call, size, steps};
 use crate::schedule::Schedule;
 use brc_lang::{Cursor, FaultCode, ReadFault, Sequence, split_line, texts_round_trip};
+use brc_model::{MOST_ROWS, MOST_WORKERS};
 use std::alloc::Global;
 
 const FIRST_LINE: &[u8] = b"schedule 1\n";
-
-const MOST_WORKERS: u32 = 32;
-
-const MOST_ROWS: u32 = 1024;
 
 /// Reads the schedule that the bytes spell.
 ///
@@ -86,13 +83,13 @@ fn next(alloc: Global, above: Beginning, text: &[u8]) -> Result<Beginning, Fault
 {
     match above {
         Beginning::Opened => {
-            let workers = size(b"workers", MOST_WORKERS, text)?;
+            let workers = size(b"workers", u32::from(MOST_WORKERS), text)?;
             Ok(Beginning::Staffed {
                 workers: workers as u8,
             })
         }
         Beginning::Staffed { workers } => {
-            let rows = size(b"rows", MOST_ROWS, text)?;
+            let rows = size(b"rows", u32::from(MOST_ROWS), text)?;
             Ok(Beginning::Planned(Schedule {
                 workers,
                 rows: rows as u16,

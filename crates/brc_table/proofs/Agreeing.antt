@@ -1,8 +1,8 @@
 -- The words and all hands of a table agree about each counted object's references.
-use Rattle.std.proofs.Common.{◌≡◌, ◌⊎◌, ℕ, zero, suc, ◌+◌, ◌<◌, ◌≤◌, List, [], ◌∷◌, length, Bool, Some, inl, inr, refl, sym, ap, ◌∙◌, subst, arith}
-use Rattle.std.specs.Prelude.{◌||◌, slice_get, slice_index, sum_by}
+use Rattle.std.proofs.Common.{◌≡◌, ◌≢◌, ◌⊎◌, ℕ, ◌+◌, ◌<◌, ◌≤◌, List, Bool, inl, inr, refl, sym, ap, ◌∙◌, subst, arith}
+use Rattle.std.specs.Prelude.{◌||◌, slice_index, sum_by}
 use Rattle.std.specs.List.{list_any}
-use Rattle.std.proofs.lemmas.Bool.{false≢true}
+use Rattle.std.proofs.lemmas.Bool.{cases_Bool, false≢true}
 use Rattle.std.proofs.lemmas.List.Folds.{list_any-append}
 use Rattle.std.proofs.lemmas.Option.{slice_get_within}
 use Rattle.std.proofs.lemmas.List.Sums.{sum_by-append}
@@ -11,7 +11,7 @@ use lib.ListN.{get_elem?}
 use Rattle.brc_word.specs.Words.{owner_part, local_part, biased_part, phase_part, bias}
 use Rattle.brc_model.specs.declared.duty.Duty.{Duty}
 use Rattle.brc_model.specs.declared.duty.Holding.TheVariants.{AsCaller}
-use Rattle.brc_model.specs.declared.address.Address.TheVariants.{Local, Shared, Gate, Cell}
+use Rattle.brc_model.specs.declared.address.Address.TheVariants.{Local, Shared, Gate, KindOf, Cell}
 use Rattle.brc_model.specs.declared.layout.Layout.{Layout}
 use Rattle.brc_model.specs.Layout.{row_count, block_of, IsCounted}
 use Rattle.brc_model.specs.AbstractState.{references_to}
@@ -33,8 +33,10 @@ use Rattle.brc_table.specs.Plan.{Plan}
 use Rattle.brc_table.specs.declared.view.View.{View}
 use Rattle.brc_table.specs.Views.{holds, open_work}
 use Rattle.brc_table.specs.Rule.{Stands}
-use Rattle.brc_table.specs.Agreeing.{local_at, shared_at, row_mark, gives_up, makes, over_work, listed, in_cells, pending, IsInUse, IsCountedLocally, SomeHandHas, OwnersHandHas, IsDeadGate, IsFreeOf, AgreesInTable}
-use Rattle.brc_table.specs.Ending.{gate_at}
+use Rattle.brc_table.specs.Agreeing.{local_at, shared_at, row_mark, gives_up, makes, over_work, listed, in_cells, pending, Lives, IsBornAndOpen, is_birth_or_death, IsCountedLocally, SomeHandHas, OwnersHandHas, IsDeadGate, IsFreeOf, AgreesInTable}
+use Rattle.brc_table.specs.Ending.{kind_at, gate_at}
+use Rattle.brc_table.proofs.Lists.{there_is}
+use Rattle.brc_table.proofs.Living.{lives}
 use Rattle.brc_table.proofs.Dead.{IsDeadRow, dead_row, makes_none}
 use Rattle.brc_table.proofs.ThreadHands.{thread_is}
 use Rattle.brc_table.proofs.Summing.{over_each, over_sum, over_none, weight_at, weight_there, over_list, over_hands}
@@ -57,19 +59,23 @@ mode_one owner n (InMerged o) = o.awaits
 abbrev uses : Machine → ℕ → ℕ
 uses m x = references_to x m.abstract.references + awaiting m x
 
+-- The row has references or pending decrements, or lives.
+abbrev IsUsed : Machine → ℕ → Type 0
+IsUsed m x = (1 ≤ uses m x) ⊎ (m.life x ≡ Live)
+
 -- What a row's counts say, whether it lives or not.
 record RowSays (m : Machine) (x : ℕ) : Type 0 where
   total : biased_total m x ≡ references_to x m.abstract.references + awaiting m x + bias
   one_pending : awaiting m x ≤ 1
   default_none : phase_part (m.memory (Shared x)) ≡ 0 → awaiting m x ≡ 0
   default_counts : phase_part (m.memory (Shared x)) ≡ 0 → bias ≤ biased_part (m.memory (Shared x))
-  queued_one : 1 ≤ uses m x → phase_part (m.memory (Shared x)) ≡ 2 → awaiting m x ≡ 1
-  merged_free : 1 ≤ uses m x → phase_part (m.memory (Shared x)) ≡ 3 → m.memory (Local x) ≡ 0
-  merged_counts : 1 ≤ uses m x → phase_part (m.memory (Shared x)) ≡ 3 → bias < biased_part (m.memory (Shared x))
-  phase : 1 ≤ uses m x → IsPhase (phase_part (m.memory (Shared x)))
-  default_local : 1 ≤ uses m x → phase_part (m.memory (Shared x)) ≡ 0
+  queued_one : IsUsed m x → phase_part (m.memory (Shared x)) ≡ 2 → awaiting m x ≡ 1
+  merged_free : IsUsed m x → phase_part (m.memory (Shared x)) ≡ 3 → m.memory (Local x) ≡ 0
+  merged_counts : IsUsed m x → phase_part (m.memory (Shared x)) ≡ 3 → bias < biased_part (m.memory (Shared x))
+  phase : IsUsed m x → IsPhase (phase_part (m.memory (Shared x)))
+  default_local : IsUsed m x → phase_part (m.memory (Shared x)) ≡ 0
       → model.IsCountedLocally m x ⊎ SomeThreadHas m (decides_or_merges x)
-  queued_local : 1 ≤ uses m x → phase_part (m.memory (Shared x)) ≡ 2
+  queued_local : IsUsed m x → phase_part (m.memory (Shared x)) ≡ 2
       → model.IsCountedLocally m x ⊎ OwnerHas m x (decides_or_merges x) ⊎ SomeThreadHas m (has_swapped x)
 
 -- An unborn row has the numbers of a dead one.
@@ -86,50 +92,52 @@ unborn_dead n row = record {
 }
 
 -- A dead row's counts are zero, and it isn't in use.
-dead_says : (m : Machine) (x : ℕ) → IsDead (numbers_of m x) → RowSays m x
-dead_says m x row =
+dead_says : (m : Machine) (x : ℕ) → IsDead (numbers_of m x) → m.life x ≢ Live → RowSays m x
+dead_says m x row dead =
     let none : uses m x ≡ 0 = omega (arith, row.references, row.mark, row.waiting) in
+    let unused : IsUsed m x → ⊥ = λ used. elim used [
+      | inl more ↦ absurd (omega (arith, none, more))
+      | inr live ↦ dead live
+    ] in
     record {
       total = omega (arith, row.local, row.shared, row.mark, row.references, row.waiting, row.carried);
       one_pending = omega (arith, none);
       default_none = λ e. omega (arith, none);
       default_counts = λ e. omega (arith, row.shared);
-      queued_one = λ used. absurd (omega (arith, none, used));
-      merged_free = λ used. absurd (omega (arith, none, used));
-      merged_counts = λ used. absurd (omega (arith, none, used));
-      phase = λ used. absurd (omega (arith, none, used));
-      default_local = λ used. absurd (omega (arith, none, used));
-      queued_local = λ used. absurd (omega (arith, none, used));
+      queued_one = λ used. absurd (unused used);
+      merged_free = λ used. absurd (unused used);
+      merged_counts = λ used. absurd (unused used);
+      phase = λ used. absurd (unused used);
+      default_local = λ used. absurd (unused used);
+      queued_local = λ used. absurd (unused used);
     }
 
 -- Each row says so, whatever its life.
 row_says : CountsAgree → (p : Accounts) (n : ℕ) (m : Machine) (x : ℕ) → Counts p n m → IsCounted m.layout x
     → (l : Life) → m.life x ≡ l → RowInvariant (block_of m.layout x) l (numbers_of m x) → RowSays m x
-row_says law p n m x counts is Unborn life row = dead_says m x (unborn_dead (numbers_of m x) row)
+row_says law p n m x counts is Unborn life row =
+    dead_says m x (unborn_dead (numbers_of m x) row)
+    (λ e. let wrong : Unborn ≡ Live = sym life ∙ e in absurd cc)
 row_says law p n m x counts is Live life row =
     let says = law p n m x counts is (λ e. let wrong : Live ≡ Unborn = sym life ∙ e in absurd cc) in
     record {
       total = says.total;
       one_pending = mode_one (block_of m.layout x) (numbers_of m x) row.mode;
-      default_none = says.default_none life;
-      default_counts = says.default_counts life;
-      queued_one = λ used. says.queued_one life;
-      merged_free = λ used. says.merged_free life;
-      merged_counts = λ used. says.merged_counts life;
+      default_none = λ e. (says.in_default life e).awaiting_none;
+      default_counts = λ e. (says.in_default life e).counts;
+      queued_one = λ used e. (says.in_queued life e).awaiting_one;
+      merged_free = λ used e. (says.in_merged life e).unowned;
+      merged_counts = λ used e. (says.in_merged life e).counts;
       phase = λ used. says.phase life;
-      default_local = λ used. says.default_local life;
-      queued_local = λ used. says.queued_local life;
+      default_local = λ used e. (says.in_default life e).local;
+      queued_local = λ used e. (says.in_queued life e).local;
     }
-row_says law p n m x counts is (Dying t) life row = dead_says m x row
-row_says law p n m x counts is Closed life row = dead_says m x row
+row_says law p n m x counts is (Dying t) life row =
+    dead_says m x row (λ e. let wrong : Dying t ≡ Live = sym life ∙ e in absurd cc)
+row_says law p n m x counts is Closed life row =
+    dead_says m x row (λ e. let wrong : Closed ≡ Live = sym life ∙ e in absurd cc)
 
 -- ---- the machine's sums over its hands
-
--- A number below a list's length has an element.
-pub there_is : {A : Type 0} (xs : List A) (t : ℕ) → t < length xs → (a : A) × (slice_get xs t ≡ Some a)
-there_is [] t low = absurd (omega (arith, low))
-there_is (a ∷ rest) zero low = (a, refl)
-there_is (a ∷ rest) (suc t) low = there_is rest t (omega (arith, low))
 
 -- the weight of an actor's open work
 abbrev work_of : (Duty → ℕ) → Actor → ℕ
@@ -145,7 +153,7 @@ module _ (plan : Plan) (words : List ℕ) (views : List View) (s : Stands plan w
   -- A hand's thread is one of the machine's.
   low : (id : ℕ) (v : View) → get_elem? views id ≡ some v → v.thread < threads
   low id v here =
-      omega (arith, slice_get_within m.actors v.thread v.actor (s.acts id v here), s.counts.kept.core.threads)
+      omega (arith, slice_get_within m.actors v.thread v.actor (s.same_actor id v here), s.counts.kept.core.threads)
 
   -- The open work of all actors, thread by thread.
   over_actors : (f : Duty → ℕ) → weighed f m ≡ over_threads (weight_at (work_of f) m.actors) threads
@@ -160,9 +168,9 @@ module _ (plan : Plan) (words : List ℕ) (views : List View) (s : Stands plan w
       ∙ over_hands threads (weight_at (work_of f) m.actors) (λ v. sum_by f (open_work v)) views (record {
         low = low;
         each = λ id v here.
-            weight_there (work_of f) m.actors v.thread v.actor (s.acts id v here)
+            weight_there (work_of f) m.actors v.thread v.actor (s.same_actor id v here)
             ∙ sym (sum_by-append f v.actor.agenda v.actor.aside);
-        apart = s.apart;
+        apart = s.one_hand;
         idle = λ t under none. weight_there (work_of f) m.actors t (idle_actor 0) (s.idle t under none).0;
       })
 
@@ -172,7 +180,7 @@ module _ (plan : Plan) (words : List ℕ) (views : List View) (s : Stands plan w
       over_hands threads (λ t. s.accounts t AsCaller x) (λ v. holds v x) views (record {
         low = low;
         each = λ id v here. s.holding id v x here is;
-        apart = s.apart;
+        apart = s.one_hand;
         idle = λ t under none. (s.idle t under none).1 AsCaller x;
       })
 
@@ -286,6 +294,26 @@ module _ (plan : Plan) (words : List ℕ) (views : List View) (s : Stands plan w
   queued_so x local (inr (inl owner)) = inr (inl (owner_so x (decides_or_merges x) local owner))
   queued_so x local (inr (inr duty)) = inr (inr (hand_has duty.0 (has_swapped x) duty.1).0)
 
+  -- ---- live objects
+
+  -- An object lives of which words and hands say so.
+  lives_so : (x : ℕ) → x < row_count m.layout → IsBornAndOpen words views x → m.life x ≡ Live
+  lives_so x there open_row =
+      let kind : m.memory (KindOf x) ≡ kind_at words x = s.reads (KindOf x) there in
+      let gate : m.memory (Gate x) ≡ gate_at words x = s.reads (Gate x) there in
+      lives s.accounts threads m s.counts.kept.core x
+      (λ t a found. elim (cases_Bool (list_any (is_birth_or_death x) a.agenda)) [
+        | inl has ↦
+            let hand = (hand_has t (is_birth_or_death x) (record {
+              actor = a;
+              found = found;
+              listed = ap (λ (b : Bool). b || list_any (is_birth_or_death x) a.aside) has;
+            })).0 in
+            absurd (false≢true (sym (open_row.settled hand.id hand.view hand.here) ∙ hand.listed))
+        | inr none ↦ none
+      ])
+      (omega (arith, open_row.born, kind)) (λ dead. open_row.open_gate (subst IsDeadGate gate dead))
+
   -- ---- dying and closed objects
 
   -- Nobody makes a reference to a dead object.
@@ -342,20 +370,22 @@ agrees_in_table law hold plan words views x s is there =
     let cells : in_cells m.layout words x ≡ in_cells plan.layout words x =
     ap (λ (l : Layout). in_cells l words x) s.layout_is in
     let awaits_is : awaiting m x ≡ pending plan.layout words views x = omega (arith, mark, awaited) in
-    let in_use : IsInUse plan.layout words views x → 1 ≤ uses m x = λ used. omega (arith, used, refs, cells, awaits_is)
-    in
+    let used_or_live : Lives plan.layout words views x → IsUsed m x = λ is_so. elim is_so [
+      | inl used ↦ inl (omega (arith, used, refs, cells, awaits_is))
+      | inr open_row ↦ inr (lives_so plan words views s x there' open_row)
+    ] in
     record {
       total = omega (arith, says.total, ap local_part local, biased, carried, refs, cells, awaits_is);
       one_pending = omega (arith, says.one_pending, awaits_is);
       default_none = λ e. omega (arith, says.default_none (phase ∙ e), awaits_is);
       default_counts = λ e. omega (arith, says.default_counts (phase ∙ e), biased);
-      queued_one = λ used e. omega (arith, says.queued_one (in_use used) (phase ∙ e), awaits_is);
-      merged_free = λ used e. sym local ∙ says.merged_free (in_use used) (phase ∙ e);
-      merged_counts = λ used e. omega (arith, says.merged_counts (in_use used) (phase ∙ e), biased);
-      phase = λ used. subst IsPhase phase (says.phase (in_use used));
+      queued_one = λ used e. omega (arith, says.queued_one (used_or_live used) (phase ∙ e), awaits_is);
+      merged_free = λ used e. sym local ∙ says.merged_free (used_or_live used) (phase ∙ e);
+      merged_counts = λ used e. omega (arith, says.merged_counts (used_or_live used) (phase ∙ e), biased);
+      phase = λ used. subst IsPhase phase (says.phase (used_or_live used));
       default_local = λ used e.
-          default_so plan words views s x local (says.default_local (in_use used) (phase ∙ e));
+          default_so plan words views s x local (says.default_local (used_or_live used) (phase ∙ e));
       queued_local = λ used e.
-          queued_so plan words views s x local (says.queued_local (in_use used) (phase ∙ e));
+          queued_so plan words views s x local (says.queued_local (used_or_live used) (phase ∙ e));
       dead_free = dead_so plan words views s hold x is' there';
     }

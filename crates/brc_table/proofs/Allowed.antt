@@ -10,35 +10,36 @@ use Rattle.brc_model.specs.declared.duty.Duty.{Duty}
 use Rattle.brc_model.specs.declared.duty.Duty.TheVariants.{MergeExchange, KindLoad, CellLoad}
 use Rattle.brc_model.specs.declared.duty.Reason.TheVariants.{Handed}
 use Rattle.brc_model.specs.declared.actor.Status.TheVariants.{Gone}
-use Rattle.brc_model.specs.declared.address.Address.TheVariants.{KindOf, Slot}
+use Rattle.brc_model.specs.declared.address.Address.TheVariants.{KindOf, Field}
 use Rattle.brc_model.specs.declared.layout.Layout.{Layout}
 use Rattle.brc_model.specs.FirstRows.{first_kind_word}
 use Rattle.brc_model.specs.Layout.{row_count}
 use Rattle.brc_model.specs.Duties.{address_of, new_word, resources_of}
 use Rattle.brc_model.specs.Machine.{is_running}
 use Rattle.brc_model.specs.Within.{Suits, FindsOwner}
-use Rattle.brc_model.specs.SlotLaws.{Stays, Gives, use_of}
+use Rattle.brc_model.specs.FieldLaws.{Stays, Gives, use_of}
 use Rattle.brc_model.specs.Stores.{Overwrites}
 use Rattle.brc_table.specs.Plan.{Plan}
 use Rattle.brc_table.specs.ModelLaws.{ModelLaws}
 use Rattle.brc_table.specs.declared.view.View.{View}
 use Rattle.brc_table.specs.Views.{event_of, view_by, taken_after, holds, RowsAreThere}
 use Rattle.brc_table.specs.Rule.{Stands}
-use Rattle.brc_table.specs.Homes.{SlotsStand, TableStands}
+use Rattle.brc_table.specs.Homes.{FieldsStand, TableStands}
 use Rattle.brc_table.specs.Plays.{FindsKnown, FindsFirst}
 use Rattle.brc_table.specs.Hands.{TableState, HandState, plan_of}
 use Rattle.brc_table.specs.Begins.{Passes, Becomes}
 use Rattle.brc_table.specs.Places.{HasWord, place, IsObjectWord, IsTableWord}
+use Rattle.brc_table.proofs.FirstHand.{with_duty}
 use Rattle.brc_table.proofs.Changing.{taken_same, locked_same}
 use Rattle.brc_table.proofs.CellGuards.{change_guards}
 use Rattle.brc_table.proofs.FewRows.{few_first}
 use Rattle.brc_table.proofs.Lists.{set_view}
 use Rattle.brc_table.proofs.ThreadsKept.{KeepsThreads, object_step}
 use Rattle.brc_table.proofs.Stepping.{Does, place_of, read_of, finds, has, relies, passes_after, object_in_table, object_reads}
-use Rattle.brc_table.proofs.LockedSlots.{slot_full}
+use Rattle.brc_table.proofs.LockedFields.{field_full}
 use Rattle.brc_table.proofs.RowsThere.{rows_there}
-use Rattle.brc_table.proofs.SlotsKept.{slots_kept}
-use Rattle.brc_table.proofs.SlotsUsed.{lock_stays, used_left}
+use Rattle.brc_table.proofs.FieldsKept.{fields_kept}
+use Rattle.brc_table.proofs.FieldsUsed.{lock_stays, used_left}
 
 -- ---- a step
 
@@ -50,29 +51,29 @@ pub record Knows (lines : List (List ℕ)) (v : View) (d : Duty) (found : ℕ) :
   pub finds : FindsKnown v (d ∷ []) found
   pub first : FindsFirst lines v (d ∷ []) found
 
--- If the hand has locked the object whose kind word it loads, the object's slot holds a resource exactly if the kind
+-- If the hand has locked the object whose kind word it loads, the object's field holds a resource exactly if the kind
 -- has one.
-abbrev SlotTells : View → Duty → ℕ → Type 0
-SlotTells v (KindLoad x) found = v.actor.locked ≡ Some x → v.in_slot ≡ resources_of found
-SlotTells v _ found = Unit {0}
+abbrev FieldTells : View → Duty → ℕ → Type 0
+FieldTells v (KindLoad x) found = v.actor.locked ≡ Some x → v.in_field ≡ resources_of found
+FieldTells v _ found = Unit {0}
 
-slot_tells : ModelLaws → {T : Type 0} (plan : Plan) (s : State (Option T) View)
+field_tells : ModelLaws → {T : Type 0} (plan : Plan) (s : State (Option T) View)
     (table : TableStands plan s.words s.homes s.views) (id : ℕ) (v u : View) → get_elem? s.views id ≡ some v
     → Becomes plan v u → (d : Duty) → HasWord table.stands.machine.layout
     (address_of u.layout u.thread u.actor.head d)
-    → SlotTells u d (read_of u d (slice_index s.words (place_of u d)))
-slot_tells laws plan s table id v u here becomes (KindLoad x) there = λ locked.
+    → FieldTells u d (read_of u d (slice_index s.words (place_of u d)))
+field_tells laws plan s table id v u here becomes (KindLoad x) there = λ locked.
     let mine : v.actor.locked ≡ Some x = sym (locked_same becomes) ∙ locked in
-    becomes.in_slot x mine
-    ∙ (slot_full laws.full plan s.words s.homes s.views table id x v here mine
+    becomes.in_field x mine
+    ∙ (field_full laws.full plan s.words s.homes s.views table id x v here mine
     ∙ ap resources_of (table.stands.reads (KindOf x) there))
-slot_tells laws plan s table id v u here becomes _ there = tt
+field_tells laws plan s table id v u here becomes _ there = tt
 
 -- The hand's first duty finds what the hand knows of it.
 finds_known : ModelLaws → (plan : Plan) (words : List ℕ) (views : List View) (id : ℕ) (v : View) (d : Duty)
     (found : ℕ) (stands : Stands plan words views) → get_elem? views id ≡ some v → (rest : List Duty)
     → v.actor.agenda ≡ d ∷ rest → v.actor.status ≢ Gone
-    → stands.machine.memory (address_of v.layout v.thread v.actor.head d) ≡ found → SlotTells v d found
+    → stands.machine.memory (address_of v.layout v.thread v.actor.head d) ≡ found → FieldTells v d found
     → FindsKnown v (d ∷ []) found
 finds_known laws plan words views id v (KindLoad x) found stands here rest agenda alive is tells = (
   λ word some seen. sym is ∙ stands.kinds_seen id x word v here some seen,
@@ -87,7 +88,7 @@ finds_known laws plan words views id v (MergeExchange x c w Handed) found stands
     λ same.
     laws.handed stands.accounts (1 + stands.machine.layout.workers) stands.machine v.thread v.actor x c w rest
     stands.counts
-    (record { found = stands.acts id v here; agenda = agenda; alive = alive }) (is ∙ same)
+    (record { found = stands.same_actor id v here; agenda = agenda; alive = alive }) (is ∙ same)
 finds_known laws plan words views id v _ found stands here rest agenda alive is tells = tt
 
 -- A kind word of a row that was there from the start is the row's first one.
@@ -98,7 +99,7 @@ finds_first : (plan : Plan) (words : List ℕ) (views : List View) (id : ℕ) (v
 finds_first plan words views id v (KindLoad x) found stands here is =
     subst
     (λ (l : Layout). 0 < first_kind_word plan.lines l x → found ≡ first_kind_word plan.lines l x)
-    (sym (stands.told id v here ∙ stands.layout_is)) (λ some. sym is ∙ stands.named x some)
+    (sym (stands.same_layout id v here ∙ stands.layout_is)) (λ some. sym is ∙ stands.first_kinds x some)
 finds_first plan words views id v _ found stands here is = tt
 
 -- The hand's first duty is about the word at this place.
@@ -111,11 +112,11 @@ pub record IsNextAt (v : View) (d : Duty) (rest : List Duty) (index : ℕ) : Typ
 module _ (laws : ModelLaws) (plan : Plan) (v u : View)
     (d : Duty) (rest : List Duty) (index : ℕ) (becomes : Becomes plan v u) (next : IsNextAt u d rest index) where
   knows : (words : List ℕ) (views : List View) (id : ℕ) → Does plan words views id u d rest
-      → SlotTells u d (read_of u d (slice_index words (place_of u d)))
+      → FieldTells u d (read_of u d (slice_index words (place_of u d)))
       → Knows plan.lines u d (read_of u d (slice_index words (place_of u d)))
   knows words views id does tells =
       let m = does.stands.machine in
-      let told = does.stands.told id u does.here in
+      let told = does.stands.same_layout id u does.here in
       let relied = relies laws.kept laws.within laws.guarded plan words views id u d rest does in
       let found = read_of u d (slice_index words (place_of u d)) in
       let seen : m.memory (address_of m.layout u.thread u.actor.head d) ≡ found =
@@ -178,7 +179,7 @@ module _ (laws : ModelLaws) (plan : Plan) (v u : View)
         let machine = first.stands.layout_is ∙ sym holds.stands.layout_is in
         subst (λ (k : ℕ). Knows plan.lines u d (read_of u d k)) same
         (knows s.words (set s.views id u) id does
-        (slot_tells laws plan s holds id v u here becomes d
+        (field_tells laws plan s holds id v u here becomes d
         (subst (λ (l : Layout). HasWord l (address_of u.layout u.thread u.actor.head d)) machine
         (has laws.kept laws.within laws.guarded plan s.words (set s.views id u) id u d rest does))))
 
@@ -187,7 +188,7 @@ module _ (laws : ModelLaws) (plan : Plan) (v u : View)
         ≡ read_of u d word
     finds_word =
         subst (λ (l : Layout). first.stands.machine.memory (address_of l u.thread u.actor.head d) ≡ read_of u d word)
-        (first.stands.told id u (set_view s.views id v u here))
+        (first.stands.same_layout id u (set_view s.views id v u here))
         (finds laws.kept laws.within laws.guarded plan s.words (set s.views id u) id u d rest does
         ∙ ap (read_of u d) same)
 
@@ -216,54 +217,57 @@ module _ (laws : ModelLaws) (plan : Plan) (v u : View)
       pub now : Passes plan (set s.words index (f word)) (set s.views id w) v.taken v.actor.locked
           holds.stands.machine
       now =
-          record { stands = moved.stands; slots = λ x which. moved.slots x (inl refl) ∙ first.slots x which }
+          record { stands = moved.stands; fields = λ x which. moved.fields x (inl refl) ∙ first.fields x which }
 
       pub rows_now : RowsAreThere w
       rows_now =
           rows_there laws.accounts laws.chains plan (set s.words index (f word)) (set s.views id w) id w now.stands
           (set_view s.views id v w here)
 
-      -- The step itself changes no slot.
-      pub slots_stay : (x : ℕ) → now.stands.machine.memory (Slot x) ≡ first.stands.machine.memory (Slot x)
+      -- The step itself changes no field.
+      pub fields_stay : (x : ℕ) → now.stands.machine.memory (Field x) ≡ first.stands.machine.memory (Field x)
       unfolding now moved
-      slots_stay x = moved.slots x (inl refl)
+      fields_stay x = moved.fields x (inl refl)
 
       -- The machine's size stays.
       pub layout_stays : now.stands.machine.layout ≡ holds.stands.machine.layout
       layout_stays = now.stands.layout_is ∙ sym holds.stands.layout_is
 
-      -- A duty that takes no slot and gives none back leaves slots as they are.
-      pub slots_now : use_of d (read_of u d word) ≡ Stays
-          → SlotsStand now.stands.machine s.homes (set s.views id w)
-      slots_now stays =
-          slots_kept holds.stands.machine now.stands.machine s.homes s.views id v w holds.slots here layout_stays
+      -- A duty that takes no field and gives none back leaves fields as they are.
+      pub fields_now : use_of d (read_of u d word) ≡ Stays
+          → FieldsStand now.stands.machine s.homes (set s.views id w)
+      fields_now stays =
+          fields_kept holds.stands.machine now.stands.machine s.homes s.views id v w holds.fields here layout_stays
           (record {
             taken = ap (taken_after u.taken) stays ∙ taken_same becomes;
-            in_slot = becomes.in_slot;
+            in_field = becomes.in_field;
             locked = lock_stays u.actor.locked d (read_of u d word) stays ∙ locked_same becomes;
             used = λ x uses.
                 used_left u d rest (read_of u d word) x next.agenda
                 (λ gives. let wrong : Stays ≡ Gives x = sym stays ∙ gives in absurd cc)
                 (λ locks. lock_stays u.actor.locked d (read_of u d word) stays ∙ locks) (becomes.uses x uses);
-          }) now.slots
+          }) now.fields
 
-  -- The step is allowed if it leaves the duty's new word, and slots as they are, and the hand learns no more than what
+  -- The step is allowed if it leaves the duty's new word, and fields as they are, and the hand learns no more than what
   -- it knows.
-  pub allows : {T : Type 0} (slots id : ℕ) (me : Me (Option T) View) (f : ℕ → ℕ)
+  pub allows : {T : Type 0} (fields id : ℕ) (me : Me (Option T) View) (f : ℕ → ℕ)
       (then : ℕ → Me (Option T) View → Type 0)
       → me.0 ≡ v → ((found : ℕ) → use_of d found ≡ Stays) → LeavesWord f
       → ((found : ℕ) → Knows plan.lines u d (read_of u d found)
       → RowsAreThere (view_by u (d ∷ rest) (read_of u d found))
       → then found (view_by u (d ∷ rest) (read_of u d found), me.1))
-      → Allows (λ (s : State (Option T) View). TableStands plan s.words s.homes s.views) slots id me index f then
-  allows slots id me f then is_me stays leaves goes s holds homes here below =
+      → Allows (λ (s : State (Option T) View). TableStands plan s.words s.homes s.views) fields id me index f then
+  allows fields id me f then is_me stays leaves goes s holds homes here below =
       let mine = here ∙ ap some is_me in (
         w s holds id mine,
         keeps,
         tt,
         record {
           stands = (now s holds id mine f leaves below).stands;
-          slots = slots_now s holds id mine f leaves below (stays (read_of u d (slice_index s.words index)));
+          fields = fields_now s holds id mine f leaves below (stays (read_of u d (slice_index s.words index)));
+          first =
+              with_duty plan.layout (set s.views id (w s holds id mine)) id u d rest
+              (read_of u d (slice_index s.words index)) (set_view s.views id v (w s holds id mine) mine);
         },
         goes (slice_index s.words index) (known s holds id mine) (rows_now s holds id mine f leaves below),
       )
@@ -305,12 +309,12 @@ module _ (laws : ModelLaws) (plan : Plan) (v u : View)
         let raw = slice_index words (place_of u d) in
         let at = address_of u.layout u.thread u.actor.head d in
         subst (λ (l : Layout). KeepsThreads m.layout words (set words (place l at) (f raw)) u
-        (view_by u (d ∷ rest) (read_of u d raw))) (sym (does.stands.told i u does.here))
+        (view_by u (d ∷ rest) (read_of u d raw))) (sym (does.stands.same_layout i u does.here))
         (object_step m.layout words u (view_by u (d ∷ rest) (read_of u d raw)) (event_of u d (read_of u d raw)) (f raw)
         does.stands.plain (few_first does.stands.accounts (1 + m.layout.workers) m does.stands.counts)
         (omega (
           arith,
-          slice_get_within m.actors u.thread u.actor (does.stands.acts i u does.here),
+          slice_get_within m.actors u.thread u.actor (does.stands.same_actor i u does.here),
           does.stands.counts.kept.core.threads,
         ))
         (record { thread = refl; given = refl; trace = refl }) is_at.object
@@ -325,7 +329,7 @@ pub record Seen {S : Type 0} (words : TableState) (hand : HandState) (plan : Pla
   pub view_is : me.0 ≡ hand.view
 
 module _ (laws : ModelLaws) (words : TableState)
-    (hand : HandState) (begins : View → View) {T : Type 0} (plan : Plan) (slots id index : ℕ)
+    (hand : HandState) (begins : View → View) {T : Type 0} (plan : Plan) (fields id index : ℕ)
     (me : Me (Option T) View) (seen : Seen words hand plan me)
     (becomes : Becomes (plan_of words) hand.view (begins hand.view)) where
   pub becomes_here : Becomes plan me.0 (begins me.0)

@@ -14,7 +14,7 @@ use Rattle.brc_model.specs.Moves.{gain}
 use Rattle.brc_model.specs.Machine.{Machine, with_moves}
 use Rattle.brc_model.specs.Accounts.{Account, HoldsNone}
 use Rattle.brc_model.specs.OpenWork.{is_about}
-use Rattle.brc_model.specs.declared.address.Address.TheVariants.{Slot}
+use Rattle.brc_model.specs.declared.address.Address.TheVariants.{Field}
 use Rattle.brc_model.specs.Counting.{with_account, with_one_more, IsReady, HasNoneAbout, MayGiveUp, IsAtHand}
 use Rattle.brc_model.specs.CountingLaws.{ImmortalsAreFree}
 use Rattle.brc_table.specs.Plan.{Plan}
@@ -38,7 +38,7 @@ pub is_ready : (plan : Plan) (words : List ℕ) (views : List View) (id : ℕ) (
     → (stands : Stands plan words views) → get_elem? views id ≡ some (rested v) → v.actor.status ≡ Running
     → IsReady stands.machine v.thread (rested v).actor
 is_ready plan words views id v stands here running =
-    record { found = stands.acts id (rested v) here; running = running; agenda = refl }
+    record { found = stands.same_actor id (rested v) here; running = running; agenda = refl }
 
 -- None of the thread's work is about the row.
 pub alone : (v : View) (x : ℕ) → HasNoWork v x → HasNoneAbout (rested v).actor x
@@ -49,7 +49,7 @@ alone v x free = omega (arith, ap length free, length-filter (is_about x) (open_
 -- The rule holds with accounts in which the thread has this many references to the object, or more.
 pub record HasSome (plan : Plan) (words : List ℕ) (views : List View) (t x least : ℕ) (before : Machine) : Type 0 where
   pub stands : Stands plan words views
-  pub slots : (y : ℕ) → stands.machine.memory (Slot y) ≡ before.memory (Slot y)
+  pub fields : (y : ℕ) → stands.machine.memory (Field y) ≡ before.memory (Field y)
   pub more : least ≤ stands.accounts t AsCaller x
 
 -- In these it has one.
@@ -69,7 +69,7 @@ gains_one law plan words views id v x least rests immortal enough =
     let t = v.thread in
     let more = with_one_more (p t) AsCaller x in
     let immortal' : is_immortal_row m.layout x ≡ true =
-    subst (λ (l : Layout). is_immortal_row l x ≡ true) (old.told id (rested v) rests.here) immortal in
+    subst (λ (l : Layout). is_immortal_row l x ≡ true) (old.same_layout id (rested v) rests.here) immortal in
     record {
       stands = record {
         accounts = with_account p t more;
@@ -82,27 +82,27 @@ gains_one law plan words views id v x least rests immortal enough =
         lines = old.lines;
         length_is = old.length_is;
         reads = old.reads;
-        acts = old.acts;
+        same_actor = old.same_actor;
         lends_none = old.lends_none;
-        told = old.told;
-        named = old.named;
+        same_layout = old.same_layout;
+        first_kinds = old.first_kinds;
         kinds_seen = old.kinds_seen;
         cells_seen = old.cells_seen;
         holding = λ other w y is counted.
             one_more_else p t x w.thread AsCaller y (immortal_apart m.layout x y immortal' counted)
             ∙ old.holding other w y is counted;
         no_variables = λ u depth i y. one_more_else p t x u (ByVariable depth i) y refl ∙ old.no_variables u depth i y;
-        apart = old.apart;
+        one_hand = old.one_hand;
         idle = λ u low none.
             let rest = old.idle u low none in (
               rest.0,
               subst HoldsNone (sym (with_account_other p t more u (λ e. none id (rested v) rests.here (sym e)))) rest.1,
             );
-        given = old.given;
+        given_out = old.given_out;
         joined = old.joined;
         threads = old.threads;
       };
-      slots = λ y. refl;
+      fields = λ y. refl;
       more =
           subst (λ (a : Account). suc least ≤ a AsCaller x) (sym (with_account_same p t more))
           (let one : one_if (x == x) ≡ 1 = ap one_if (eq-eqb x x refl) in omega (arith, one, enough));
@@ -120,10 +120,10 @@ has_one law plan words views id v x rests (inr one) =
       | inr counted ↦
           let old = rests.stands in
           let counted' : IsCounted old.machine.layout x =
-          subst (λ (l : Layout). IsCounted l x) (old.told id (rested v) rests.here) counted in
+          subst (λ (l : Layout). IsCounted l x) (old.same_layout id (rested v) rests.here) counted in
           record {
             stands = old;
-            slots = λ y. refl;
+            fields = λ y. refl;
             more = omega (arith, one, old.holding id (rested v) x rests.here counted');
           }
     ]
@@ -132,7 +132,7 @@ has_one law plan words views id v x rests (inr one) =
 pub record CanGiveUp (plan : Plan) (words : List ℕ) (views : List View) (v : View) (x : ℕ) (before : Machine)
     : Type 0 where
   pub stands : Stands plan words views
-  pub slots : (y : ℕ) → stands.machine.memory (Slot y) ≡ before.memory (Slot y)
+  pub fields : (y : ℕ) → stands.machine.memory (Field y) ≡ before.memory (Field y)
   pub more : 1 ≤ stands.accounts v.thread AsCaller x
   pub keeps : MayGiveUp (stands.accounts v.thread) (rested v).actor x
 
@@ -150,7 +150,7 @@ can_give_up law plan words views id v x rests holding keeps =
           let two = gains_one law plan words views id v x 1 again immortal one.more in
           record {
             stands = two.stands;
-            slots = λ y. two.slots y ∙ one.slots y;
+            fields = λ y. two.fields y ∙ one.fields y;
             more = omega (arith, two.more);
             keeps = λ e. two.more;
           }
@@ -158,10 +158,10 @@ can_give_up law plan words views id v x rests holding keeps =
           let one = has_one law plan words views id v x rests holding in
           let s = one.stands in
           let counted' : IsCounted s.machine.layout x =
-          subst (λ (l : Layout). IsCounted l x) (s.told id (rested v) rests.here) counted in
+          subst (λ (l : Layout). IsCounted l x) (s.same_layout id (rested v) rests.here) counted in
           record {
             stands = s;
-            slots = one.slots;
+            fields = one.fields;
             more = one.more;
             keeps = λ e.
                 elim (keeps e) [
@@ -175,13 +175,13 @@ can_give_up law plan words views id v x rests holding keeps =
 pub with_spare : {plan : Plan} {words : List ℕ} {views after : List View} {v : View} {x : ℕ} {before : Machine}
     {taken : List ℕ} {locked : Option ℕ} (spare : CanGiveUp plan words views v x before)
     → Passes plan words after taken locked spare.stands.machine → Passes plan words after taken locked before
-with_spare {before = before} spare next = passes_on before spare.stands.machine (λ y which. spare.slots y) next
+with_spare {before = before} spare next = passes_on before spare.stands.machine (λ y which. spare.fields y) next
 
 -- What is passed on from there is passed on.
 pub with_one : {plan : Plan} {words : List ℕ} {views after : List View} {t x : ℕ} {before : Machine}
     {taken : List ℕ} {locked : Option ℕ} (one : HasOne plan words views t x before)
     → Passes plan words after taken locked one.stands.machine → Passes plan words after taken locked before
-with_one {before = before} one next = passes_on before one.stands.machine (λ y which. one.slots y) next
+with_one {before = before} one next = passes_on before one.stands.machine (λ y which. one.fields y) next
 
 -- ---- borrowed items
 
@@ -190,7 +190,7 @@ with_one {before = before} one next = passes_on before one.stands.machine (λ y 
 pub record HasAtHand (plan : Plan) (words : List ℕ) (views : List View) (v : View) (x : ℕ) (before : Machine)
     : Type 0 where
   pub stands : Stands plan words views
-  pub slots : (y : ℕ) → stands.machine.memory (Slot y) ≡ before.memory (Slot y)
+  pub fields : (y : ℕ) → stands.machine.memory (Field y) ≡ before.memory (Field y)
   pub at_hand : IsAtHand (stands.accounts v.thread) stands.machine (rested v).actor x
 
 -- If the hand may use the object, the rule holds so. What the hand has seen in a cell of its locked list is still
@@ -200,7 +200,7 @@ pub has_at_hand : ImmortalsAreFree → (plan : Plan) (words : List ℕ) (views :
     → HasAtHand plan words views v x rests.stands.machine
 has_at_hand law plan words views id v x rests (inl holding) =
     let one = has_one law plan words views id v x rests holding in
-    record { stands = one.stands; slots = one.slots; at_hand = inl one.more }
+    record { stands = one.stands; fields = one.fields; at_hand = inl one.more }
 has_at_hand law plan words views id v x rests (inr borrowed) =
     let old = rests.stands in
     let list = borrowed.list in
@@ -208,7 +208,7 @@ has_at_hand law plan words views id v x rests (inr borrowed) =
     let word = old.cells_seen id list cell (suc x) (rested v) rests.here (inl borrowed.locked) borrowed.seen in
     record {
       stands = old;
-      slots = λ y. refl;
+      fields = λ y. refl;
       at_hand =
           inr (record { list = list; cell = cell; locked = borrowed.locked; word = omega (arith, word) });
     }
@@ -218,4 +218,4 @@ pub with_at_hand : {plan : Plan} {words : List ℕ} {views after : List View} {v
     {taken : List ℕ} {locked : Option ℕ} (usable : HasAtHand plan words views v x before)
     → Passes plan words after taken locked usable.stands.machine → Passes plan words after taken locked before
 with_at_hand {before = before} usable next =
-    passes_on before usable.stands.machine (λ y which. usable.slots y) next
+    passes_on before usable.stands.machine (λ y which. usable.fields y) next

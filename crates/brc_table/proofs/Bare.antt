@@ -10,7 +10,7 @@ use Rattle.brc_model.specs.Machine.{status_by, used_by}
 use Rattle.brc_model.specs.Within.{Suits}
 use Rattle.brc_model.specs.Stores.{Overwrites}
 use Rattle.brc_model.specs.OpenWork.{is_about}
-use Rattle.brc_model.specs.SlotLaws.{use_of}
+use Rattle.brc_model.specs.FieldLaws.{use_of}
 use Rattle.brc_table.specs.Plays.{overwritten_by}
 use Rattle.brc_table.specs.Uses.{first_due}
 use Rattle.brc_table.specs.Accesses.{HasAccess, bare, row_of}
@@ -22,7 +22,7 @@ pub record IsLike (d e : Duty) : Type 0 where
   pub head : (head found : ℕ) → new_head head d found ≡ new_head head e found
   pub used : (used : ℕ) → used_by used d ≡ used_by used e
   pub status : (s : Status) → status_by s d ≡ status_by s e
-  pub slots : (found : ℕ) → use_of d found ≡ use_of e found
+  pub fields : (found : ℕ) → use_of d found ≡ use_of e found
   pub due : (rest others : List Duty) (found : ℕ) → first_due (d ∷ rest) found ≡ first_due (e ∷ others) found
   pub before : (t : ℕ) (rest others : List Duty) → overwritten_by t (d ∷ rest) ≡ overwritten_by t (e ∷ others)
   pub suits : (t : ℕ) (running : Bool) (n found : ℕ) → Suits t running n d found → Suits t running n e found
@@ -38,7 +38,7 @@ like_bare (RetainLoad x h) = record {
   head = λ head found. refl;
   used = λ used. refl;
   status = λ s. refl;
-  slots = λ found. refl;
+  fields = λ found. refl;
   due = λ rest others found. refl;
   before = λ t rest others. refl;
   suits = λ t running n found is. is;
@@ -53,7 +53,7 @@ like_bare _ = record {
   head = λ head found. refl;
   used = λ used. refl;
   status = λ s. refl;
-  slots = λ found. refl;
+  fields = λ found. refl;
   due = λ rest others found. refl;
   before = λ t rest others. refl;
   suits = λ t running n found is. is;
@@ -70,7 +70,7 @@ bare_like (RetainLoad x h) = record {
   head = λ head found. refl;
   used = λ used. refl;
   status = λ s. refl;
-  slots = λ found. refl;
+  fields = λ found. refl;
   due = λ rest others found. refl;
   before = λ t rest others. refl;
   suits = λ t running n found is. is;
@@ -85,7 +85,7 @@ bare_like _ = record {
   head = λ head found. refl;
   used = λ used. refl;
   status = λ s. refl;
-  slots = λ found. refl;
+  fields = λ found. refl;
   due = λ rest others found. refl;
   before = λ t rest others. refl;
   suits = λ t running n found is. is;
@@ -102,7 +102,7 @@ like_by a b c one other = record {
   head = λ head found. one.head head found ∙ other.head head found;
   used = λ used. one.used used ∙ other.used used;
   status = λ s. one.status s ∙ other.status s;
-  slots = λ found. one.slots found ∙ other.slots found;
+  fields = λ found. one.fields found ∙ other.fields found;
   due = λ rest others found. one.due rest others found ∙ other.due others others found;
   before = λ t rest others. one.before t rest others ∙ other.before t others others;
   suits = λ t running n found is. other.suits t running n found (one.suits t running n found is);

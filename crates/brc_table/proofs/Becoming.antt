@@ -40,18 +40,18 @@ module _ (plan : Plan) (words : List ℕ) (views : List View) (id : ℕ) (v : Vi
     (here : get_elem? views id ≡ some v) where
   -- The rule holds again if the machine with the hand's new work has the invariant, and the new account has the
   -- references that the hand lists.
-  pub begun : (agenda aside : List Duty) (references : List ℕ) (in_slot : ℕ) (account : Account)
+  pub begun : (agenda aside : List Duty) (references : List ℕ) (in_field : ℕ) (account : Account)
       → Counts (with_account old.accounts v.thread account) (1 + old.machine.layout.workers)
       (with_actor old.machine v.thread (working v.actor agenda aside))
       → ((y : ℕ) → IsCounted v.layout y → account AsCaller y ≡ count_by (λ z. z == y) references)
       → ((depth i y : ℕ) → account (ByVariable depth i) y ≡ 0)
       → Passes plan words
-      (set views id (record (with_work v agenda aside) { references = references; in_slot = in_slot })) v.taken
+      (set views id (record (with_work v agenda aside) { references = references; in_field = in_field })) v.taken
       v.actor.locked old.machine
-  begun agenda aside references in_slot account counts holding none =
+  begun agenda aside references in_field account counts holding none =
       let p = old.accounts in
       let t = v.thread in
-      let u : View = record (with_work v agenda aside) { references = references; in_slot = in_slot } in
+      let u : View = record (with_work v agenda aside) { references = references; in_field = in_field } in
       let own = with_account_same p t account in
       passes plan words views id v u old here words (record {
         accounts = with_account p t account;
@@ -69,7 +69,7 @@ module _ (plan : Plan) (words : List ℕ) (views : List View) (id : ℕ) (v : Vi
         joined_here = old.joined id v here;
         holding = λ y counted.
             ap (λ (a : Account). a AsCaller y) own
-            ∙ holding y (subst (λ (l : Layout). IsCounted l y) (sym (old.told id v here)) counted);
+            ∙ holding y (subst (λ (l : Layout). IsCounted l y) (sym (old.same_layout id v here)) counted);
         others = with_account_other p t account;
         no_variables = λ k depth i y. elim (eqb_tells k t) [
           | inl this ↦
@@ -86,18 +86,18 @@ module _ (plan : Plan) (words : List ℕ) (views : List View) (id : ℕ) (v : Vi
         threads = λ i there. threads_same plan words views i v u old there refl refl refl;
       }) v.taken v.actor.locked (λ x which. refl)
 
-  -- The same of a hand that keeps its references, and hears what a slot holds.
-  pub rearranged_with : (agenda aside : List Duty) (in_slot : ℕ)
+  -- The same of a hand that keeps its references, and hears what a field holds.
+  pub rearranged_with : (agenda aside : List Duty) (in_field : ℕ)
       → Counts old.accounts (1 + old.machine.layout.workers)
       (with_actor old.machine v.thread (working v.actor agenda aside))
-      → Passes plan words (set views id (record (with_work v agenda aside) { in_slot = in_slot })) v.taken
+      → Passes plan words (set views id (record (with_work v agenda aside) { in_field = in_field })) v.taken
       v.actor.locked old.machine
-  rearranged_with agenda aside in_slot counts =
-      begun agenda aside v.references in_slot (old.accounts v.thread)
+  rearranged_with agenda aside in_field counts =
+      begun agenda aside v.references in_field (old.accounts v.thread)
       (subst (λ (p : Accounts). Counts p (1 + old.machine.layout.workers)
       (with_actor old.machine v.thread (working v.actor agenda aside)))
       (sym (with_account_itself old.accounts v.thread)) counts)
-      (λ y counted. old.holding id v y here (subst (λ (l : Layout). IsCounted l y) (old.told id v here) counted))
+      (λ y counted. old.holding id v y here (subst (λ (l : Layout). IsCounted l y) (old.same_layout id v here) counted))
       (old.no_variables v.thread)
 
   -- The same of a hand that keeps its references.
@@ -105,7 +105,7 @@ module _ (plan : Plan) (words : List ℕ) (views : List View) (id : ℕ) (v : Vi
       → Counts old.accounts (1 + old.machine.layout.workers)
       (with_actor old.machine v.thread (working v.actor agenda aside))
       → Passes plan words (set views id (with_work v agenda aside)) v.taken v.actor.locked old.machine
-  rearranged agenda aside counts = rearranged_with agenda aside v.in_slot counts
+  rearranged agenda aside counts = rearranged_with agenda aside v.in_field counts
 
 -- ---- all work put aside
 
@@ -118,9 +118,9 @@ rested_from law plan v (d ∷ []) is may =
       passes = λ words views id stands here.
           rearranged plan words views id v stands here [] (d ∷ v.actor.aside)
           (law stands.accounts (1 + stands.machine.layout.workers) stands.machine v.thread v.actor d stands.counts
-          (stands.acts id v here) is may);
+          (stands.same_actor id v here) is may);
       same = refl;
-      in_slot = λ y locks. refl;
+      in_field = λ y locks. refl;
       uses = waiting_uses v (with_work v [] (d ∷ v.actor.aside)) (subst MayWait (sym is) may) refl;
     }
 rested_from law plan v (d ∷ e ∷ ds) is may = absurd may
@@ -132,20 +132,20 @@ rested_becomes law plan v may = rested_from law plan v v.actor.agenda refl may
 
 -- A hand that has put all its work aside may go on to other work.
 pub then_begins : WorkIsPutAside → (plan : Plan) (v u : View) → MayWait v.actor.agenda → KeepsButWork v u
-    → ((x : ℕ) → v.actor.locked ≡ Some x → u.in_slot ≡ v.in_slot)
+    → ((x : ℕ) → v.actor.locked ≡ Some x → u.in_field ≡ v.in_field)
     → ((words : List ℕ) (views : List View) (id : ℕ) (stands : Stands plan words views)
     → get_elem? views id ≡ some (rested v)
     → Passes plan words (set views id u) v.taken v.actor.locked stands.machine)
     → Becomes plan v u
-then_begins law plan v u may same in_slot next = record {
+then_begins law plan v u may same in_field next = record {
   passes = λ words views id stands here.
       let rest = (rested_becomes law plan v may).passes words views id stands here in
-      passes_on stands.machine rest.stands.machine rest.slots
+      passes_on stands.machine rest.stands.machine rest.fields
       (subst (λ (l : List View). Passes plan words l v.taken v.actor.locked rest.stands.machine)
       (set-set views id (rested v) u)
       (next words (set views id (rested v)) id rest.stands (set_view views id v (rested v) here)));
   same = same;
-  in_slot = in_slot;
+  in_field = in_field;
   uses = waiting_uses v u may (ap (λ (w : View). w.actor.locked) same);
 }
 
@@ -164,7 +164,7 @@ turned_at law plan v x words views id stands here (inr one) =
     let taken =
     rearranged plan words views id (rested v) stands here (one.found ∷ []) (one.before ++ one.after)
     (law stands.accounts (1 + stands.machine.layout.workers) stands.machine v.thread (rested v).actor one.before
-    one.after one.found stands.counts (stands.acts id (rested v) here) refl one.whole) in
+    one.after one.found stands.counts (stands.same_actor id (rested v) here) refl one.whole) in
     subst (λ (ds : List Duty). Passes plan words
     (set views id (with_work v ds (filter (λ d. not (is_about x d)) (open_work v)))) v.taken v.actor.locked
     stands.machine)
@@ -179,7 +179,7 @@ pub turned_becomes : WorkIsPutAside → WorkIsTakenBack → (plan : Plan) (v : V
 turned_becomes put take plan v x may =
     then_begins put plan v (turned v x) may refl (λ y locks. refl) (λ words views id stands here.
     let fits =
-    (stands.counts.kept.core.each v.thread (rested v).actor (stands.acts id (rested v) here)).2 in
+    (stands.counts.kept.core.each v.thread (rested v).actor (stands.same_actor id (rested v) here)).2 in
     let few : count_by (is_about x) (open_work v) ≤ 1 = omega (arith, fits.apart x) in
     turned_at take plan v x words views id stands here (passes_one (is_about x) (open_work v) few))
 
@@ -197,10 +197,10 @@ retaining_becomes put law free plan v x running none may few =
     (record { stands = stands; here = here; running = running.0; free = none }) may in
     let s = usable.stands in
     let t = v.thread in
-    let told = s.told id (rested v) here in
+    let told = s.same_layout id (rested v) here in
     with_at_hand usable
     (begun plan words views id (rested v) s here (RetainLoad x AsCaller ∷ []) (open_work v)
-    (with_reference v.layout x v.references) v.in_slot (with_one_more (s.accounts t) AsCaller x)
+    (with_reference v.layout x v.references) v.in_field (with_one_more (s.accounts t) AsCaller x)
     (law s.accounts (1 + s.machine.layout.workers) s.machine t (rested v).actor x s.counts
     (is_ready plan words views id v s here running.0) (alone v x none) usable.at_hand
     (λ counted. omega (
@@ -227,10 +227,10 @@ releasing_becomes put law free plan v x running none holding keeps =
     (record { stands = stands; here = here; running = running.0; free = none }) holding keeps in
     let s = spare.stands in
     let t = v.thread in
-    let told = s.told id (rested v) here in
+    let told = s.same_layout id (rested v) here in
     with_spare spare
     (begun plan words views id (rested v) s here (ReleaseLoad x AsCaller ∷ []) (open_work v)
-    (without_reference v.layout x v.references) v.in_slot (with_one_less (s.accounts t) AsCaller x)
+    (without_reference v.layout x v.references) v.in_field (with_one_less (s.accounts t) AsCaller x)
     (law s.accounts (1 + s.machine.layout.workers) s.machine t (rested v).actor x s.counts
     (is_ready plan words views id v s here running.0) (alone v x none) spare.more spare.keeps)
     (λ y counted. omega (
@@ -250,9 +250,9 @@ bearing_becomes put law plan v word running worker room kind few =
     let s = stands in
     let m = s.machine in
     let t = v.thread in
-    let told = s.told id (rested v) here in
+    let told = s.same_layout id (rested v) here in
     begun plan words views id (rested v) s here (BirthKind (next_row v) AsCaller word ∷ []) (open_work v)
-    (next_row v ∷ v.references) v.in_slot (with_one_more (s.accounts t) AsCaller (next_row v))
+    (next_row v ∷ v.references) v.in_field (with_one_more (s.accounts t) AsCaller (next_row v))
     (subst (λ (l : Layout).
     Counts (with_account s.accounts t (with_one_more (s.accounts t) AsCaller (row_at l t v.actor.used)))
     (1 + m.layout.workers)

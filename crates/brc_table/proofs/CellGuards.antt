@@ -36,7 +36,7 @@ pub change_guards : ChainsAreThere → (plan : Plan) (words : List ℕ) (views :
 change_guards chains plan words views id v x stands here (inl locked) = inl locked
 change_guards chains plan words views id v x stands here (inr first) =
     inr ((chains stands.accounts (1 + stands.machine.layout.workers) stands.machine v.thread v.actor stands.counts
-    (stands.acts id v here)).first x (omega (arith, first)))
+    (stands.same_actor id v here)).first x (omega (arith, first)))
 
 -- ---- one guard
 
@@ -45,28 +45,28 @@ pub guards_apart : (plan : Plan) (words : List ℕ) (views : List View) (id othe
     (s : Stands plan words views) → get_elem? views id ≡ some v → get_elem? views other ≡ some w
     → v.thread ≢ w.thread → Guards s.machine v x → Guards s.machine w x → ⊥
 guards_apart plan words views id other v w x s here there apart (inl locked) (inl theirs) =
-    let one = (s.counts.kept.core.each v.thread v.actor (s.acts id v here)).0.locks x locked in
-    let two = (s.counts.kept.core.each w.thread w.actor (s.acts other w there)).0.locks x theirs in
+    let one = (s.counts.kept.core.each v.thread v.actor (s.same_actor id v here)).0.locks x locked in
+    let two = (s.counts.kept.core.each w.thread w.actor (s.same_actor other w there)).0.locks x theirs in
     apart (omega (arith, one.gate, two.gate))
 guards_apart plan words views id other v w x s here there apart (inl locked) (inr (dies, (next, word, low))) =
     let core = s.counts.kept.core in
-    let one = (core.each v.thread v.actor (s.acts id v here)).0.locks x locked in
+    let one = (core.each v.thread v.actor (s.same_actor id v here)).0.locks x locked in
     absurd (omega (
       arith,
       one.gate,
       word,
-      slice_get_within s.machine.actors v.thread v.actor (s.acts id v here),
+      slice_get_within s.machine.actors v.thread v.actor (s.same_actor id v here),
       core.threads,
       core.few_threads,
     ))
 guards_apart plan words views id other v w x s here there apart (inr (dies, (next, word, low))) (inl theirs) =
     let core = s.counts.kept.core in
-    let two = (core.each w.thread w.actor (s.acts other w there)).0.locks x theirs in
+    let two = (core.each w.thread w.actor (s.same_actor other w there)).0.locks x theirs in
     absurd (omega (
       arith,
       two.gate,
       word,
-      slice_get_within s.machine.actors w.thread w.actor (s.acts other w there),
+      slice_get_within s.machine.actors w.thread w.actor (s.same_actor other w there),
       core.threads,
       core.few_threads,
     ))

@@ -9,7 +9,7 @@ use Rattle.atomic_table.proofs.Lists.{at_set, set_else, set_again}
 use Rattle.brc_model.specs.declared.duty.Holding.TheVariants.{ByVariable, AsCaller}
 use Rattle.brc_model.specs.declared.actor.Status.TheVariants.{Gone}
 use Rattle.brc_model.specs.declared.address.Address.{Address}
-use Rattle.brc_model.specs.declared.address.Address.TheVariants.{Gate, KindOf, Cell, Slot}
+use Rattle.brc_model.specs.declared.address.Address.TheVariants.{Gate, KindOf, Cell, Field}
 use Rattle.brc_model.specs.declared.layout.Layout.{Layout}
 use Rattle.brc_model.specs.FirstRows.{first_kind_word}
 use Rattle.brc_model.specs.Layout.{IsCounted}
@@ -78,7 +78,7 @@ module _ (plan : Plan) (words : List ℕ) (views : List View) (id : ℕ) (v u : 
     (here : get_elem? views id ≡ some v) (after : List ℕ) (new : Changes plan words views v u old after) where
   -- Another hand's thread is another thread.
   elsewhere : (other : ℕ) (w : View) → other ≢ id → get_elem? views other ≡ some w → w.thread ≢ v.thread
-  elsewhere other w apart is e = apart (old.apart other id w v is here e)
+  elsewhere other w apart is e = apart (old.one_hand other id w v is here e)
 
   acts_after : (other : ℕ) (w : View) → get_elem? (set views id u) other ≡ some w
       → slice_get new.machine.actors w.thread ≡ Some w.actor
@@ -90,9 +90,9 @@ module _ (plan : Plan) (words : List ℕ) (views : List View) (id : ℕ) (v u : 
       (subst (λ (k : ℕ). slice_get (set old.machine.actors v.thread u.actor) k ≡ Some u.actor)
       (sym new.thread_same)
       (slice_get-set_same old.machine.actors v.thread u.actor
-      (slice_get_within old.machine.actors v.thread v.actor (old.acts id v here)))))
+      (slice_get_within old.machine.actors v.thread v.actor (old.same_actor id v here)))))
       (λ t. slice_get-set_other old.machine.actors v.thread w.thread u.actor (elsewhere other w t.0 t.1)
-      ∙ old.acts other w t.1)
+      ∙ old.same_actor other w t.1)
       (at_set views id other u w is) in
       subst (λ (l : List Actor). slice_get l w.thread ≡ Some w.actor) (sym new.actors) found
 
@@ -100,8 +100,8 @@ module _ (plan : Plan) (words : List ℕ) (views : List View) (id : ℕ) (v u : 
   told_after other w is =
       ⊎_elim
       (λ t. subst (λ (x : View). x.layout ≡ new.machine.layout) t.1
-      (new.told_same ∙ (old.told id v here ∙ sym new.layout_same)))
-      (λ t. old.told other w t.1 ∙ sym new.layout_same)
+      (new.told_same ∙ (old.same_layout id v here ∙ sym new.layout_same)))
+      (λ t. old.same_layout other w t.1 ∙ sym new.layout_same)
       (at_set views id other u w is)
 
   lends_after : (other : ℕ) (w : View) → get_elem? (set views id u) other ≡ some w → w.actor.lent ≡ None
@@ -160,7 +160,7 @@ module _ (plan : Plan) (words : List ℕ) (views : List View) (id : ℕ) (v u : 
       → get_elem? (set views id u) other ≡ some z → w.thread ≡ z.thread → one ≡ other
   apart_after one other w z is that same =
       let a = was one w is in let b = was other z that in
-      old.apart one other a.view b.view a.found b.found (sym a.thread ∙ (same ∙ b.thread))
+      old.one_hand one other a.view b.view a.found b.found (sym a.thread ∙ (same ∙ b.thread))
 
   idle_after : (t : ℕ) → t < 1 + new.machine.layout.workers
       → ((other : ℕ) (w : View) → get_elem? (set views id u) other ≡ some w → w.thread ≡ t → ⊥)
@@ -186,9 +186,10 @@ module _ (plan : Plan) (words : List ℕ) (views : List View) (id : ℕ) (v u : 
       ⊎_elim
       (λ t. let old_main : v.thread ≡ 0 = sym new.thread_same ∙ (ap (λ (x : View). x.thread) t.1 ∙ first) in
       subst (λ (x : View). is_given w.thread x ≡ true) t.1 (new.given_more w.thread
-      (subst (λ (k : ℕ). is_given k v ≡ true) (sym b.thread) (old.given id other v b.view here old_main b.found more))))
+      (subst (λ (k : ℕ). is_given k v ≡ true) (sym b.thread)
+      (old.given_out id other v b.view here old_main b.found more))))
       (λ t. subst (λ (k : ℕ). is_given k main ≡ true) (sym b.thread)
-      (old.given one other main b.view t.1 first b.found more))
+      (old.given_out one other main b.view t.1 first b.found more))
       (at_set views id one u main is)
 
   -- A joined hand is still gone: the thread that has changed is another one, or it stays gone.
@@ -197,7 +198,7 @@ module _ (plan : Plan) (words : List ℕ) (views : List View) (id : ℕ) (v u : 
     | inl same ↦
         let own : v.actor ≡ is.actor =
         let e : Some v.actor ≡ Some is.actor =
-        sym (old.acts id v here) ∙ (ap (slice_get old.machine.actors) (sym same.1) ∙ is.found) in cc in
+        sym (old.same_actor id v here) ∙ (ap (slice_get old.machine.actors) (sym same.1) ∙ is.found) in cc in
         let stays = new.gone_stays (ap (λ (a : Actor). a.status) own ∙ is.gone) in
         record {
           actor = u.actor;
@@ -205,7 +206,7 @@ module _ (plan : Plan) (words : List ℕ) (views : List View) (id : ℕ) (v u : 
               ap (λ (l : List Actor). slice_get l hand.thread) new.actors
               ∙ (ap (slice_get (set old.machine.actors v.thread u.actor)) same.1
               ∙ slice_get-set_same old.machine.actors v.thread u.actor
-              (slice_get_within old.machine.actors v.thread v.actor (old.acts id v here)));
+              (slice_get_within old.machine.actors v.thread v.actor (old.same_actor id v here)));
           gone = stays.0;
           used = stays.1 ∙ (ap (λ (a : Actor). a.used) own ∙ is.used);
         }
@@ -237,17 +238,17 @@ module _ (plan : Plan) (words : List ℕ) (views : List View) (id : ℕ) (v u : 
     lines = old.lines;
     length_is = new.length_is ∙ (old.length_is ∙ ap word_count (sym new.layout_same));
     reads = new.reads;
-    acts = acts_after;
-    told = told_after;
+    same_actor = acts_after;
+    same_layout = told_after;
     lends_none = lends_after;
-    named = λ x some. new.kinds_stay x (first_kind_word plan.lines plan.layout x) some (old.named x some);
+    first_kinds = λ x some. new.kinds_stay x (first_kind_word plan.lines plan.layout x) some (old.first_kinds x some);
     kinds_seen = kinds_after;
     cells_seen = cells_after;
     holding = holding_after;
     no_variables = new.no_variables;
-    apart = apart_after;
+    one_hand = apart_after;
     idle = idle_after;
-    given = given_after;
+    given_out = given_after;
     joined = joined_after;
     threads = subst (λ (l : Layout). ThreadsStand l after (set views id u)) (sym new.layout_same) (new.threads id here);
   }
@@ -262,17 +263,17 @@ module _ (plan : Plan) (words : List ℕ) (views : List View) (id : ℕ) (v u : 
   unfolding changed
   changed_machine = refl
 
-  -- No slot changes but those that the hand has taken.
+  -- No field changes but those that the hand has taken.
   pub passes : (taken : List ℕ) (locked : Option ℕ)
       → ((x : ℕ) → (times_in x taken ≡ 0) ⊎ (locked ≡ Some x)
-      → new.machine.memory (Slot x) ≡ old.machine.memory (Slot x))
+      → new.machine.memory (Field x) ≡ old.machine.memory (Field x))
       → Passes plan after (set views id u) taken locked old.machine
   passes taken locked same = record {
     stands = changed;
-    slots = λ x which. ap (λ (m : Machine). m.memory (Slot x)) changed_machine ∙ same x which;
+    fields = λ x which. ap (λ (m : Machine). m.memory (Field x)) changed_machine ∙ same x which;
   }
 
--- The hand has taken the slots that it had taken, and has locked what it had locked.
+-- The hand has taken the fields that it had taken, and has locked what it had locked.
 pub taken_same : {plan : Plan} {v u : View} → Becomes plan v u → u.taken ≡ v.taken
 taken_same becomes = ap (λ (w : View). w.taken) becomes.same
 
@@ -285,8 +286,8 @@ itself_becomes plan v = record {
   passes = λ words views id stands here.
       subst (λ (l : List View). Passes plan words l v.taken v.actor.locked stands.machine)
       (sym (set_again views id v here))
-      (record { stands = stands; slots = λ x which. refl });
+      (record { stands = stands; fields = λ x which. refl });
   same = refl;
-  in_slot = λ x locks. refl;
+  in_field = λ x locks. refl;
   uses = λ x uses. uses;
 }

@@ -8,7 +8,7 @@ use Rattle.brc_model.specs.declared.duty.Holding.{Holding}
 use Rattle.brc_model.specs.declared.duty.Holding.TheVariants.{InFlight}
 use Rattle.brc_model.specs.declared.duty.Reason.TheVariants.{Own}
 use Rattle.brc_model.specs.declared.duty.Duty.{Duty}
-use Rattle.brc_model.specs.declared.duty.Duty.TheVariants.{RetainLoad, RetainStore, RetainAdd, ReleaseLoad, ReleaseStore, SharedLoad, SharedExchange, Settle, SettleCell, SettleEnd, Leave, Scan, TakeFound, Finish, BirthKind, BirthSlot, BirthLocal, CellSwap}
+use Rattle.brc_model.specs.declared.duty.Duty.TheVariants.{RetainLoad, RetainStore, RetainAdd, ReleaseLoad, ReleaseStore, SharedLoad, SharedExchange, Settle, SettleCell, SettleEnd, Leave, Scan, TakeFound, Finish, BirthKind, BirthField, BirthLocal, CellSwap}
 use Rattle.brc_model.specs.declared.actor.Status.{Status}
 use Rattle.brc_model.specs.declared.actor.Status.TheVariants.{Running, Leaving, Gone}
 use Rattle.brc_model.specs.AbstractState.{same_holding}
@@ -104,7 +104,7 @@ makes_holdings x (RetainLoad y h) = held_if (y == x) h
 makes_holdings x (RetainStore y h w) = held_if (y == x) h
 makes_holdings x (RetainAdd y h) = held_if (y == x) h
 makes_holdings x (BirthKind y h w) = held_if (y == x) h
-makes_holdings x (BirthSlot y h) = held_if (y == x) h
+makes_holdings x (BirthField y h) = held_if (y == x) h
 makes_holdings x (BirthLocal y h) = held_if (y == x) h
 makes_holdings x _ = []
 
@@ -113,7 +113,7 @@ makes_tallied x (RetainLoad y h) k = held_if_tally (y == x) h k
 makes_tallied x (RetainStore y h w) k = held_if_tally (y == x) h k
 makes_tallied x (RetainAdd y h) k = held_if_tally (y == x) h k
 makes_tallied x (BirthKind y h w) k = held_if_tally (y == x) h k
-makes_tallied x (BirthSlot y h) k = held_if_tally (y == x) h k
+makes_tallied x (BirthField y h) k = held_if_tally (y == x) h k
 makes_tallied x (BirthLocal y h) k = held_if_tally (y == x) h k
 makes_tallied x _ k = refl
 
@@ -122,7 +122,7 @@ makes_long x (RetainLoad y h) = held_if_long (y == x) h
 makes_long x (RetainStore y h w) = held_if_long (y == x) h
 makes_long x (RetainAdd y h) = held_if_long (y == x) h
 makes_long x (BirthKind y h w) = held_if_long (y == x) h
-makes_long x (BirthSlot y h) = held_if_long (y == x) h
+makes_long x (BirthField y h) = held_if_long (y == x) h
 makes_long x (BirthLocal y h) = held_if_long (y == x) h
 makes_long x _ = refl
 
@@ -132,7 +132,7 @@ makes_later x used status (RetainLoad y h) rest later = absurd later
 makes_later x used status (RetainStore y h w) rest later = absurd later
 makes_later x used status (RetainAdd y h) rest later = absurd later
 makes_later x used status (BirthKind y h w) rest later = absurd later
-makes_later x used status (BirthSlot y h) rest later = absurd later
+makes_later x used status (BirthField y h) rest later = absurd later
 makes_later x used status (BirthLocal y h) rest later = absurd later
 makes_later x used status _ rest later = refl
 

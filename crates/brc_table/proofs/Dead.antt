@@ -5,7 +5,7 @@ use Rattle.std.proofs.lemmas.Bool.{ne_eqb}
 use Rattle.std.proofs.lemmas.List.Sums.{sum_by-cons}
 use Rattle.std.proofs.lemmas.Option.{slice_get_within}
 use Rattle.brc_model.specs.declared.duty.Duty.{Duty}
-use Rattle.brc_model.specs.declared.duty.Duty.TheVariants.{RetainLoad, RetainStore, RetainAdd, BirthKind, BirthSlot, BirthLocal}
+use Rattle.brc_model.specs.declared.duty.Duty.TheVariants.{RetainLoad, RetainStore, RetainAdd, BirthKind, BirthField, BirthLocal}
 use Rattle.brc_model.specs.declared.address.Address.TheVariants.{Gate}
 use Rattle.brc_model.specs.AbstractState.{references_to}
 use Rattle.brc_model.specs.Agreement.{at_row}
@@ -87,7 +87,7 @@ module _ (p : Accounts) (n : ℕ) (m : Machine) (core : CoreInvariant p n m) (x 
   duty_makes_none t a (RetainStore y h w) rest found fits = elsewhere y (unbacked t a y fits.1)
   duty_makes_none t a (RetainAdd y h) rest found fits = elsewhere y (unbacked t a y fits.1)
   duty_makes_none t a (BirthKind y h w) rest found fits = elsewhere y (not_next t a y found fits.0)
-  duty_makes_none t a (BirthSlot y h) rest found fits = elsewhere y (not_next t a y found fits.0)
+  duty_makes_none t a (BirthField y h) rest found fits = elsewhere y (not_next t a y found fits.0)
   duty_makes_none t a (BirthLocal y h) rest found fits = elsewhere y (not_next t a y found fits.0)
   duty_makes_none t a _ rest found fits = refl
 

@@ -5,7 +5,7 @@ use Rattle.std.specs.List.{list_any}
 use Rattle.std.proofs.lemmas.Bool.{cases_Bool, eq-eqb}
 use prog.Atomic.{either}
 use Rattle.brc_model.specs.declared.duty.Duty.{Duty}
-use Rattle.brc_model.specs.declared.duty.Duty.TheVariants.{BirthSlot, BirthLocal}
+use Rattle.brc_model.specs.declared.duty.Duty.TheVariants.{BirthField, BirthLocal}
 use Rattle.brc_model.specs.declared.duty.Holding.TheVariants.{AsCaller}
 use Rattle.brc_model.specs.declared.actor.Status.TheVariants.{Running, Gone}
 use Rattle.brc_model.specs.declared.layout.Layout.{Layout}
@@ -20,7 +20,7 @@ use Rattle.brc_table.specs.KnownWords.{knows_kind}
 use Rattle.brc_table.specs.Accesses.{IsNext}
 use Rattle.brc_table.specs.Uses.{IsDue}
 use Rattle.brc_table.specs.Places.{FewFirstRows}
-use Rattle.brc_table.specs.Views.{RowsAreThere, slot_filled_by}
+use Rattle.brc_table.specs.Views.{RowsAreThere, field_filled_by}
 use Rattle.brc_table.specs.Hands.{HoldsOne, MayUse, MayRead}
 use Rattle.brc_table.specs.Calls.{OwnsFirst}
 use Rattle.brc_table.proofs.RowsThere.{immortal_there}
@@ -74,17 +74,17 @@ rows_few layout plain few =
     omega (arith, most, few)
 
 pub own_next : (v : View) (x : ℕ) (ds : List Duty) → v.actor.agenda ≡ ds → OwnsFirst x ds
-    → IsNext (BirthLocal x AsCaller) (slot_filled_by ds v).actor.agenda
-own_next v x (BirthSlot y h ∷ []) is same = ap (λ (z : ℕ). BirthLocal z AsCaller) same
+    → IsNext (BirthLocal x AsCaller) (field_filled_by ds v).actor.agenda
+own_next v x (BirthField y h ∷ []) is same = ap (λ (z : ℕ). BirthLocal z AsCaller) same
 own_next v x (BirthLocal y h ∷ []) is same =
     subst (IsNext (BirthLocal x AsCaller)) (sym is) (ap (λ (z : ℕ). BirthLocal z AsCaller) same)
 own_next v x _ is same = absurd same
 
--- What is due in the slot.
+-- What is due in the field.
 pub own_due : (v : View) (x word : ℕ) (ds : List Duty) → v.actor.agenda ≡ ds → OwnsFirst x ds → 0 < word
     → knows_kind x word v ≡ true
-    → IsDue (slot_filled_by ds v) (slot_filled_by ds v).actor.agenda (resources_of word)
-own_due v x word (BirthSlot y h ∷ []) is same some seen =
+    → IsDue (field_filled_by ds v) (field_filled_by ds v).actor.agenda (resources_of word)
+own_due v x word (BirthField y h ∷ []) is same some seen =
     (word, some, subst (λ (z : ℕ). knows_kind z word v ≡ true) (sym same) seen, refl)
 own_due v x word (BirthLocal y h ∷ []) is same some seen =
     subst (λ (ds : List Duty). IsDue v ds (resources_of word)) (sym is)
@@ -93,6 +93,6 @@ own_due v x word _ is same some seen = absurd same
 
 pub owns_first_there : (v : View) (x : ℕ) (ds : List Duty) → RowsAreThere v → v.actor.agenda ≡ ds → OwnsFirst x ds
     → x < row_count v.layout
-owns_first_there v x (BirthSlot y h ∷ []) rows is same = next_there v x (BirthSlot y h) rows is (eq-eqb y x same)
+owns_first_there v x (BirthField y h ∷ []) rows is same = next_there v x (BirthField y h) rows is (eq-eqb y x same)
 owns_first_there v x (BirthLocal y h ∷ []) rows is same = next_there v x (BirthLocal y h) rows is (eq-eqb y x same)
 owns_first_there v x _ rows is same = absurd same

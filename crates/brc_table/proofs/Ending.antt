@@ -1,4 +1,4 @@
--- What the last words and slots of a table say, by the model's laws of the end.
+-- What the last words and fields of a table say, by the model's laws of the end.
 use Rattle.std.proofs.Common.{◌≡◌, ℕ, zero, suc, ◌+◌, ◌<◌, ◌≤◌, Bool, true, false, cond, Option, List, [], ◌∷◌, inl, inr, None, Some, refl, sym, ap, ◌∙◌, subst, arith}
 use Rattle.std.specs.Prelude.{slice_get, ◌==◌, if◌then◌else◌}
 use Rattle.std.specs.List.{list_any}
@@ -22,15 +22,15 @@ use Rattle.brc_model.specs.Counting.{Counts}
 use Rattle.brc_model.specs.CellLaws.{ItemsAreThere}
 use Rattle.brc_model.specs.Duties.{resources_of}
 use Rattle.brc_model.specs.GuardLaws.{GoneThreadsHoldNothing}
-use Rattle.brc_model.specs.SlotLaws as slot_laws
-use Rattle.brc_model.specs.SlotLaws.{UsesSlot, needs_slot}
+use Rattle.brc_model.specs.FieldLaws as field_laws
+use Rattle.brc_model.specs.FieldLaws.{UsesField, needs_field}
 use Rattle.brc_model.specs.Ending as model
 use Rattle.brc_table.specs.Plan.{Plan}
 use Rattle.brc_table.specs.declared.view.View.{View}
 use Rattle.brc_table.specs.Rule.{thread_reading, Stands}
 use Rattle.brc_table.specs.Threads.{thread_word}
 use Rattle.brc_table.specs.Homes.{resources, times_taken, IsHome, TableStands}
-use Rattle.brc_table.specs.Ending.{EndState, EndsWith, plan_at, HaveEnded, FirstKindsStay, SeenEndsAreSo, CellsNameRows, RowsEnd, SlotsEnd, kind_at, gate_at, cell_at, slot_at, resources_in}
+use Rattle.brc_table.specs.Ending.{EndState, EndsWith, plan_at, HaveEnded, FirstKindsStay, SeenEndsAreSo, CellsNameRows, RowsEnd, FieldsEnd, kind_at, gate_at, cell_at, field_at, resources_in}
 
 -- ---- threads
 
@@ -121,7 +121,7 @@ seen_ends v end ends first all t below =
 pub first_kinds : FirstKindsStay
 first_kinds v end x ends first there =
     let s = ends.stands in
-    sym (s.reads (KindOf x) (subst (λ (l : Layout). x < row_count l) (sym s.layout_is) there)) ∙ s.named x first
+    sym (s.reads (KindOf x) (subst (λ (l : Layout). x < row_count l) (sym s.layout_is) there)) ∙ s.first_kinds x first
 
 -- ---- cells
 
@@ -141,16 +141,16 @@ cells_name_rows law plan words views s y i there low =
     (named_there (row_count m.layout) (cell_at m.layout words y i)
     (λ z is. law s.accounts (1 + m.layout.workers) m y i z s.counts (cell ∙ is)))
 
--- ---- slots
+-- ---- fields
 
--- The same gate and kind leave the same in a slot.
+-- The same gate and kind leave the same in a field.
 same_left : (gate gate' kind kind' : ℕ) → gate ≡ gate' → kind ≡ kind'
     → (if gate == closed_word then 0 else resources_of kind) ≡ (if gate' == closed_word then 0 else resources_of kind')
 same_left gate gate' kind kind' e f = cc
 
--- A thread that is gone, or was never started, uses no slot.
+-- A thread that is gone, or was never started, uses no field.
 unused_at_end : GoneThreadsHoldNothing → (p : Accounts) (n : ℕ) (m : Machine) (t : ℕ) (a : Actor) (x : ℕ)
-    → Counts p n m → model.HaveEnded p m → slice_get m.actors t ≡ Some a → UsesSlot a x → ⊥
+    → Counts p n m → model.HaveEnded p m → slice_get m.actors t ≡ Some a → UsesField a x → ⊥
 unused_at_end law p n m t a x counts ended found uses =
     let none : (a.agenda ≡ []) × (a.locked ≡ None) = elim (ended t a found) [
       | inl gone ↦ let held = law p n m t a counts found gone in (held.agenda, held.unlocked)
@@ -158,24 +158,24 @@ unused_at_end law p n m t a x counts ended found uses =
     ] in
     elim uses [
       | inl locked ↦ let wrong : None ≡ Some x = sym none.1 ∙ locked in absurd cc
-      | inr some_duty ↦ let wrong : false ≡ true = sym (ap (list_any (needs_slot x)) none.0) ∙ some_duty in absurd cc
+      | inr some_duty ↦ let wrong : false ≡ true = sym (ap (list_any (needs_field x)) none.0) ∙ some_duty in absurd cc
     ]
 
--- At the end each slot is at home.
+-- At the end each field is at home.
 all_home : GoneThreadsHoldNothing → (v : View) (end : EndState) (ends : EndsWith v end) (x : ℕ)
     → HaveEnded end.layout end.words → IsHome ends.views x
 all_home law v end ends x ended other w there = elim (cases_lt 0 (times_taken x w)) [
   | inl some_times ↦
       let s = ends.stands in
       absurd (unused_at_end law s.accounts (1 + s.machine.layout.workers) s.machine w.thread w.actor x s.counts
-      (machine_ended (plan_at end) end.words ends.views s ended) (s.acts other w there)
+      (machine_ended (plan_at end) end.words ends.views s ended) (s.same_actor other w there)
       (ends.used other x w there (omega (arith, some_times))))
   | inr not ↦ omega (arith, not)
 ]
 
 -- So it holds what the model's law says.
-pub slots_ended : slot_laws.SlotsEnd → GoneThreadsHoldNothing → SlotsEnd
-slots_ended law gone v end x ends ended counted there =
+pub fields_ended : field_laws.FieldsEnd → GoneThreadsHoldNothing → FieldsEnd
+fields_ended law gone v end x ends ended counted there =
     let s = ends.stands in
     let m = s.machine in
     let there' : x < row_count m.layout = subst (λ (k : Layout). x < row_count k) (sym s.layout_is) there in
@@ -186,26 +186,26 @@ slots_ended law gone v end x ends ended counted there =
     ∙ same_left (m.memory (Gate x)) (gate_at end.words x) (m.memory (KindOf x)) (kind_at end.words x)
     (s.reads (Gate x) there') (s.reads (KindOf x) there'))
 
--- The last slots hold what the homes held.
-slot_found : {T : Type 0} (slots : List (Option T)) (x : ℕ) (slot : Option T) → get_elem? slots x ≡ some slot
-    → slot_at (resources_in slots) x ≡ resources slot
-slot_found [] x slot is = absurd (some-ne-none slot (sym is))
-slot_found (s ∷ ss) zero slot is = ap resources (some-injective s slot is)
-slot_found (s ∷ ss) (suc x) slot is = slot_found ss x slot is
+-- The last fields hold what the homes held.
+field_found : {T : Type 0} (fields : List (Option T)) (x : ℕ) (field : Option T) → get_elem? fields x ≡ some field
+    → field_at (resources_in fields) x ≡ resources field
+field_found [] x field is = absurd (some-ne-none field (sym is))
+field_found (s ∷ ss) zero field is = ap resources (some-injective s field is)
+field_found (s ∷ ss) (suc x) field is = field_found ss x field is
 
 -- A table whose last words and views meet the rule was closed with each of its hands.
 pub ends_with : {T : Type 0} (plan : Plan) (words : List ℕ) (homes : List (home.Option (Option T)))
-    (views : List View) (slots : List (Option T)) (table : TableId) (v : View) (id : ℕ)
+    (views : List View) (fields : List (Option T)) (table : TableId) (v : View) (id : ℕ)
     → TableStands plan words homes views → get_elem? views id ≡ some v
-    → ((k : ℕ) (slot : Option T) → get_elem? homes k ≡ some (some slot) → get_elem? slots k ≡ some slot)
+    → ((k : ℕ) (field : Option T) → get_elem? homes k ≡ some (some field) → get_elem? fields k ≡ some field)
     → EndsWith v (record {
       table = table;
       layout = plan.layout;
       lines = plan.lines;
       words = words;
-      slots = resources_in slots;
+      fields = resources_in fields;
     })
-ends_with plan words homes views slots table v id holds here same =
+ends_with plan words homes views fields table v id holds here same =
     let s = holds.stands in
     record {
       views = views;
@@ -214,7 +214,7 @@ ends_with plan words homes views slots table v id holds here same =
       stands = s;
       homes = λ x there at_home.
           let it =
-          holds.slots.at_home x (subst (λ (k : Layout). x < row_count k) (sym s.layout_is) there) at_home in
-          slot_found slots x it.slot (same x it.slot it.there) ∙ it.holds;
-      used = holds.slots.used;
+          holds.fields.at_home x (subst (λ (k : Layout). x < row_count k) (sym s.layout_is) there) at_home in
+          field_found fields x it.field (same x it.field it.there) ∙ it.holds;
+      used = holds.fields.used;
     }

@@ -29,14 +29,14 @@ pub claiming_becomes : ClaimsBegin → (plan : Plan) (v : View) (x : ℕ) → Is
     → x < row_count v.layout → Becomes plan v (claiming v x)
 claiming_becomes law plan v x free own there = record {
   passes = λ words views id stands here.
-      let told = stands.told id v here in
+      let told = stands.same_layout id v here in
       rearranged plan words views id v stands here (ClaimMark x ∷ []) v.actor.aside
       (law stands.accounts (1 + stands.machine.layout.workers) stands.machine v.thread v.actor x stands.counts
-      (record { found = stands.acts id v here; running = free.running; agenda = free.agenda }) free.aside
+      (record { found = stands.same_actor id v here; running = free.running; agenda = free.agenda }) free.aside
       (subst (λ (l : Layout). block_of l x ≡ v.thread) told own)
       (subst (λ (l : Layout). x < row_count l) told there));
   same = refl;
-  in_slot = λ y locks. refl;
+  in_field = λ y locks. refl;
   uses = waiting_uses v (claiming v x) (subst MayWait (sym free.agenda) tt) refl;
 }
 
@@ -47,10 +47,10 @@ loading_becomes law plan v w free there = record {
   passes = λ words views id stands here.
       rearranged plan words views id v stands here (MarksLoad w ∷ []) v.actor.aside
       (law stands.accounts (1 + stands.machine.layout.workers) stands.machine v.thread v.actor w stands.counts
-      (record { found = stands.acts id v here; running = free.running; agenda = free.agenda }) free.aside
-      (subst (λ (l : Layout). w < mark_words_of l v.thread) (stands.told id v here) there));
+      (record { found = stands.same_actor id v here; running = free.running; agenda = free.agenda }) free.aside
+      (subst (λ (l : Layout). w < mark_words_of l v.thread) (stands.same_layout id v here) there));
   same = refl;
-  in_slot = λ y locks. refl;
+  in_field = λ y locks. refl;
   uses = waiting_uses v (loading_marks v w) (subst MayWait (sym free.agenda) tt) refl;
 }
 
@@ -71,7 +71,7 @@ module _ (kept : DutiesAreKept) (release : ReleasesBegin) (plan : Plan) (words :
             ap (has.stands.accounts v.thread AsCaller) it.is ∙ has.none it.number it.low
         | inr counted ↦
             has.stands.holding id v object here
-            (subst (λ (l : Layout). IsCounted l object) (has.stands.told id v here) counted)
+            (subst (λ (l : Layout). IsCounted l object) (has.stands.same_layout id v here) counted)
             ∙ ap (count_by (λ y. y == object)) may.holds_none
       ]
 
@@ -79,10 +79,10 @@ module _ (kept : DutiesAreKept) (release : ReleasesBegin) (plan : Plan) (words :
       → Passes plan words (set views id (leaving v)) v.taken v.actor.locked before
   leaves_from law has =
       let s = has.stands in
-      passes_on before s.machine (λ x which. has.slots x)
+      passes_on before s.machine (λ x which. has.fields x)
       (rearranged plan words views id v s here (Leave 0 v.actor.used ∷ []) v.actor.aside
       (law s.accounts (1 + s.machine.layout.workers) s.machine v.thread v.actor s.counts
-      (record { found = s.acts id v here; running = may.free.running; agenda = may.free.agenda }) may.free.aside
+      (record { found = s.same_actor id v here; running = may.free.running; agenda = may.free.agenda }) may.free.aside
       may.settled (holds_none has)))
 
 -- A hand begins to leave.
@@ -93,9 +93,9 @@ leaving_becomes kept release law plan v may = record {
       leaves_from kept release plan words views id v may here stands.machine law
       (drops_first kept release plan words id v may.free may.unlocked stands.machine views here
       (1 + v.layout.immortal_lists) (omega arith)
-      (record { stands = stands; slots = λ x. refl; none = λ j under. absurd (omega (arith, under)) }));
+      (record { stands = stands; fields = λ x. refl; none = λ j under. absurd (omega (arith, under)) }));
   same = refl;
-  in_slot = λ y locks. refl;
+  in_field = λ y locks. refl;
   uses = waiting_uses v (leaving v) (subst MayWait (sym may.free.agenda) tt) refl;
 }
 

@@ -3,7 +3,7 @@ use Rattle.std.proofs.Common.{◌≡◌, ℕ, zero, suc, Bool, cond, List, lengt
 use Rattle.std.specs.Prelude.{◌==◌, if◌then◌else◌}
 use Rattle.std.proofs.lemmas.Bool.{ne_eqb, le-leb}
 use Rattle.brc_model.specs.declared.address.Address.{Address}
-use Rattle.brc_model.specs.declared.address.Address.TheVariants.{Local, Shared, Gate, KindOf, Marks, Cell, Slot, Resource, ThreadWord}
+use Rattle.brc_model.specs.declared.address.Address.TheVariants.{Local, Shared, Gate, KindOf, Marks, Cell, Field, Resource, ThreadWord}
 use Rattle.brc_model.specs.declared.layout.Layout.{Layout}
 use Rattle.brc_model.specs.FirstRows.{HasLines}
 use Rattle.brc_model.specs.StepMachine.{rooted_memory}
@@ -30,7 +30,7 @@ module _ (lines : List (List ℕ)) (layout : Layout) (has : HasLines lines layou
   all_words (KindOf x) here = kinds_are lines layout has plain_memory 1 plain_is x
   all_words (Marks t w) here = other (Marks t w) (marks_other t w)
   all_words (Cell x i) here = cells_are lines layout has plain_memory 1 plain_is x i
-  all_words (Slot x) here = absurd here
+  all_words (Field x) here = absurd here
   all_words (Resource x) here = absurd here
   all_words (ThreadWord zero) here =
       ap (reading (ThreadWord zero)) (other (ThreadWord zero) (thread_other zero))

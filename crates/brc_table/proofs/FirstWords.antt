@@ -9,7 +9,7 @@ use Rattle.std.proofs.Math.Seq.{get_or-append_right}
 use Rattle.std.proofs.lemmas.Bool.{cases_lt, ne_eqb, le-ltb, lt-ltb}
 use Rattle.std.proofs.lemmas.List.{get_or-drop, get_or-replicate, get_or-take, get_or_append_left, length-append, length-drop, length-replicate, length-take-le}
 use Rattle.brc_model.specs.declared.address.Address.{Address}
-use Rattle.brc_model.specs.declared.address.Address.TheVariants.{Local, Shared, Gate, KindOf, Marks, Cell, Slot, Resource, ThreadWord}
+use Rattle.brc_model.specs.declared.address.Address.TheVariants.{Local, Shared, Gate, KindOf, Marks, Cell, Field, Resource, ThreadWord}
 use Rattle.brc_model.specs.declared.layout.Layout.{Layout}
 use Rattle.brc_model.specs.Layout.{row_count, none_row, root_row}
 use Rattle.brc_model.specs.Counting.{IsPlainLayout}
@@ -182,7 +182,7 @@ module _ (layout : Layout) (plain : IsPlainLayout layout) (few : FewFirstRows la
       ∙ (ap (λ (b : Bool). if b then (if at == 0 then 1 else 0) else blank_line ((at - front) % tile / line)) before
       ∙ ap (λ (b : Bool). if b then 1 else 0) behind))
   first_reads (Cell x i) has other = absurd cc
-  first_reads (Slot x) has other = absurd has
+  first_reads (Field x) has other = absurd has
   first_reads (Resource x) has other = absurd has
   first_reads (ThreadWord t) has other = sym (thread_first t has)
 

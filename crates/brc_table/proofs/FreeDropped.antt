@@ -13,7 +13,7 @@ use Rattle.brc_model.specs.declared.duty.Holding.TheVariants.{ByVariable, AsCall
 use Rattle.brc_model.specs.declared.duty.Duty.{Duty}
 use Rattle.brc_model.specs.declared.duty.Duty.TheVariants.{ReleaseLoad}
 use Rattle.brc_model.specs.declared.address.Address.{Address}
-use Rattle.brc_model.specs.declared.address.Address.TheVariants.{Local, Gate, KindOf, Cell, Slot}
+use Rattle.brc_model.specs.declared.address.Address.TheVariants.{Local, Gate, KindOf, Cell, Field}
 use Rattle.brc_model.specs.declared.layout.Layout.{Layout}
 use Rattle.brc_model.specs.Layout.{none_row, first_immortal_list, first_number, is_immortal_row}
 use Rattle.brc_model.specs.Duties.{continuation, ready}
@@ -85,11 +85,11 @@ unwritten memory a b =
     ]
 
 -- The rule holds with accounts in which the hand's thread has no reference to the immortal objects with the first n
--- numbers, and slots are as before.
+-- numbers, and fields are as before.
 pub record HasDropped (plan : Plan) (words : List ℕ) (views : List View) (v : View) (before : Machine) (n : ℕ) : Type 0
   where
     pub stands : Stands plan words views
-    pub slots : (y : ℕ) → stands.machine.memory (Slot y) ≡ before.memory (Slot y)
+    pub fields : (y : ℕ) → stands.machine.memory (Field y) ≡ before.memory (Field y)
     pub none : (j : ℕ) → j < n → stands.accounts v.thread AsCaller (immortal_at v.layout j) ≡ 0
 
 -- The thread has just k references to the next one.
@@ -130,7 +130,7 @@ module _ (kept : DutiesAreKept) (law : ReleasesBegin) (plan : Plan) (words : Lis
     p = with_account s.accounts t less
 
     immortal : is_immortal_row m.layout x ≡ true
-    immortal = subst (λ (l : Layout). is_immortal_row l x ≡ true) (s.told id v here) (at_immortal v.layout j low)
+    immortal = subst (λ (l : Layout). is_immortal_row l x ≡ true) (s.same_layout id v here) (at_immortal v.layout j low)
 
     immortal_word : m.memory (Local x) ≡ local_word 0 immortal_local
     immortal_word = s.counts.kept.core.immortal_words x immortal
@@ -146,14 +146,14 @@ module _ (kept : DutiesAreKept) (law : ReleasesBegin) (plan : Plan) (words : Lis
     begun : Counts p n (with_actor m t busy)
     begun =
         law s.accounts n m t a x s.counts
-        (record { found = s.acts id v here; running = free.running; agenda = free.agenda }) alone
+        (record { found = s.same_actor id v here; running = free.running; agenda = free.agenda }) alone
         (omega (arith, has.just))
         (λ e. let wrong : None ≡ Some x = sym unlocked ∙ e in absurd cc)
 
     after : Counts p n (machine_by_duty (with_actor m t busy) t busy (ReleaseLoad x AsCaller) [])
     after =
         (kept p n (with_actor m t busy) t busy (ReleaseLoad x AsCaller) [] begun (record {
-          found = slice_get-set_same m.actors t busy (slice_get_within m.actors t a (s.acts id v here));
+          found = slice_get-set_same m.actors t busy (slice_get_within m.actors t a (s.same_actor id v here));
           agenda = refl;
           alive = runs_on v free.running;
         })).1
@@ -239,9 +239,9 @@ module _ (kept : DutiesAreKept) (law : ReleasesBegin) (plan : Plan) (words : Lis
         subst (λ (l : List View). HasJust plan words l v before j k) (set_again views id v here) (record {
           done = record {
             stands = changed plan words views id v v s here words changes;
-            slots = λ y.
-                ap (λ (w : Machine). w.memory (Slot y)) (changed_machine plan words views id v v s here words changes)
-                ∙ (unwritten m.memory (Local x) (Slot y) ∙ has.done.slots y);
+            fields = λ y.
+                ap (λ (w : Machine). w.memory (Field y)) (changed_machine plan words views id v v s here words changes)
+                ∙ (unwritten m.memory (Local x) (Field y) ∙ has.done.fields y);
             none = λ i under. left_over i ∙ omega (arith, has.done.none i under);
           };
           just =
@@ -262,7 +262,7 @@ module _ (kept : DutiesAreKept) (law : ReleasesBegin) (plan : Plan) (words : Lis
       (record { done = has; just = refl }) in
       record {
         stands = all.done.stands;
-        slots = all.done.slots;
+        fields = all.done.fields;
         none = λ i under.
             elim (cases_lt i j) [
               | inl first ↦ all.done.none i first

@@ -27,7 +27,7 @@ use Rattle.brc_model.specs.Watched as machine
 use Rattle.brc_model.specs.CountingLaws.{ComesNext, AccountsAreThere}
 use Rattle.brc_model.specs.GuardLaws as guard
 use Rattle.brc_model.specs.References.{one_if}
-use Rattle.brc_model.specs.SlotLaws.{UsesSlot, needs_slot}
+use Rattle.brc_model.specs.FieldLaws.{UsesField, needs_field}
 use Rattle.brc_model.proofs.Basics.Blocks.{block_within}
 use Rattle.brc_model.proofs.Basics.Lists.{some_is}
 use Rattle.brc_model.proofs.Basics.Written.{written_here}
@@ -40,8 +40,8 @@ use Rattle.brc_table.specs.Views.{holds}
 use Rattle.brc_table.specs.Homes.{times_in, times_taken, IsHome}
 use Rattle.brc_table.specs.Rule.{thread_reading, reading, Stands}
 use Rattle.brc_table.specs.Threads.{thread_word}
-use Rattle.brc_table.specs.Guarding.{thread_says, IsWatched, ByRunning, ByExit, ByLook, SetMarksAreWatched, ChangesWord, OnlyHoldersChangeCells, OnlyHoldersSwapCells, OnlyRunningOwnersCount, GoneHandsHoldNothing, GoneWordsTell, ViewsKeepTheLayout, RootIsAList, TakenSlotsAreAlone}
-use Rattle.brc_table.proofs.Agreeing.{there_is}
+use Rattle.brc_table.specs.Guarding.{thread_says, IsWatched, ByRunning, ByExit, ByLook, SetMarksAreWatched, ChangesWord, OnlyHoldersChangeCells, OnlyHoldersSwapCells, OnlyRunningOwnersCount, GoneHandsHoldNothing, GoneWordsTell, ViewsKeepTheLayout, RootIsAList, TakenFieldsAreAlone}
+use Rattle.brc_table.proofs.Lists.{there_is}
 use Rattle.brc_table.proofs.ThreadHands.{thread_is}
 use Rattle.brc_table.proofs.Picked.{count_more}
 use Rattle.brc_table.proofs.Ending.{status_gone}
@@ -111,7 +111,7 @@ module _ (plan : Plan) (words : List ℕ) (views : List View) (v : View) (d : Du
   now = it.stands.machine
 
   next : ComesNext now v.thread v.actor d it.rest
-  next = record { found = it.stands.acts it.id v it.here; agenda = it.agenda; alive = it.alive }
+  next = record { found = it.stands.same_actor it.id v it.here; agenda = it.agenda; alive = it.alive }
 
   has : HasWord now.layout a
   has = subst (λ (l : Layout). HasWord l a) (sym it.stands.layout_is) it.there
@@ -154,7 +154,7 @@ holders_change law plan words views v d x i it =
       | inl holds ↦
           let there = has plan words views v d (Cell x i) it in
           let mine : holds.actor ≡ v.actor = some_is holds.actor v.actor (sym holds.found
-          ∙ s.acts it.id v it.here) in
+          ∙ s.same_actor it.id v it.here) in
           inl (
             ap (λ (b : Actor). b.locked) (sym mine) ∙ holds.locked,
             sym (s.reads (Gate x) there.0) ∙ holds.gate,
@@ -166,7 +166,7 @@ holders_change law plan words views v d x i it =
 pub holders_swap : AccountsAreThere → OnlyHoldersSwapCells
 holders_swap law plan words views id v x i word s here may = elim may.changes [
   | inl locked ↦
-      let found = s.acts id v here in
+      let found = s.same_actor id v here in
       let fits = (s.counts.kept.core.each v.thread v.actor found).0.locks x locked in
       let there = law s.accounts (1 + s.machine.layout.workers) s.machine v.thread v.actor fits.by x s.counts found
       (omega (arith, fits.held_so)) in
@@ -187,10 +187,10 @@ owners_count law plan words views v d x it says =
     (law s.accounts (1 + s.machine.layout.workers) s.machine v.thread v.actor d it.rest x s.counts
     (next plan words views v d (Local x) it) runs (changed plan words views v d (Local x) it (λ word. refl)))
 
--- A thread with nothing to do and no lock uses no slot.
-uses_none : (a : Actor) (x : ℕ) → a.agenda ≡ [] → a.locked ≡ None → UsesSlot a x → ⊥
+-- A thread with nothing to do and no lock uses no field.
+uses_none : (a : Actor) (x : ℕ) → a.agenda ≡ [] → a.locked ≡ None → UsesField a x → ⊥
 uses_none a x agenda unlocked (inl locked) = let wrong : None ≡ Some x = sym unlocked ∙ locked in absurd cc
-uses_none a x agenda unlocked (inr needs) = absurd (false≢true (sym (ap (list_any (needs_slot x)) agenda) ∙ needs))
+uses_none a x agenda unlocked (inr needs) = absurd (false≢true (sym (ap (list_any (needs_field x)) agenda) ∙ needs))
 
 -- A list that has no number is empty.
 none_listed : (rows : List ℕ) → ((x : ℕ) → 1 ≤ times_in x rows → ⊥) → rows ≡ []
@@ -199,11 +199,11 @@ none_listed (x ∷ rows) none =
     let one : one_if (x == x) ≡ 1 = ap one_if (eq-eqb x x refl) in
     absurd (none x (omega (arith, count_more x x rows, one)))
 
--- A hand whose thread is gone holds nothing, and uses no slot, so it has taken none.
+-- A hand whose thread is gone holds nothing, and uses no field, so it has taken none.
 pub gone_hold : {T : Type 0} → guard.GoneThreadsHoldNothing → GoneHandsHoldNothing T
 gone_hold law plan words homes views id v table here gone =
     let s = table.stands in
-    let it = law s.accounts (1 + s.machine.layout.workers) s.machine v.thread v.actor s.counts (s.acts id v here)
+    let it = law s.accounts (1 + s.machine.layout.workers) s.machine v.thread v.actor s.counts (s.same_actor id v here)
     gone in
     record {
       none = λ x counted.
@@ -214,7 +214,7 @@ gone_hold law plan words homes views id v table here gone =
       settled = it.settled;
       unlocked = it.unlocked;
       none_taken = none_listed v.taken (λ x taken. uses_none v.actor x it.agenda it.unlocked
-          (table.slots.used id x v here taken));
+          (table.fields.used id x v here taken));
     }
 
 -- ---- gone threads
@@ -229,7 +229,7 @@ reading_three (suc k) e =
 pub gone_words : GoneWordsTell
 gone_words = record {
   told = λ plan words views id v s here gone.
-      let found = s.acts id v here in
+      let found = s.same_actor id v here in
       let low = slice_get_within s.machine.actors v.thread v.actor found in
       reading_three (thread_word words v.thread)
       (sym (s.reads (ThreadWord v.thread) (omega (arith, low, s.counts.kept.core.threads)))
@@ -254,29 +254,29 @@ gone_words = record {
       ];
 }
 
--- ---- sizes and slots
+-- ---- sizes and fields
 
 -- Each view has the table's layout.
 pub views_keep : ViewsKeepTheLayout
-views_keep plan words views id v s here = s.told id v here ∙ s.layout_is
+views_keep plan words views id v s here = s.same_layout id v here ∙ s.layout_is
 
 -- The root's kind word is the machine's.
 pub root_is : RootIsAList
-root_is plan words views s = sym (s.reads (KindOf root_row) (omega arith)) ∙ s.named root_row (omega arith)
+root_is plan words views s = sym (s.reads (KindOf root_row) (omega arith)) ∙ s.first_kinds root_row (omega arith)
 
--- Some hand has taken the row's slot.
+-- Some hand has taken the row's field.
 record IsTaken (views : List View) (x : ℕ) : Type 0 where
   id : ℕ
   view : View
   here : get_elem? views id ≡ some view
   taken : 1 ≤ times_taken x view
 
--- A slot that neither the first hand nor another one has taken is at home.
+-- A field that neither the first hand nor another one has taken is at home.
 home_in : (v : View) (views : List View) (x : ℕ) → times_taken x v ≡ 0 → IsHome views x → IsHome (v ∷ views) x
 home_in v views x none rest zero w is = ap (times_taken x) (sym (some-injective v w is)) ∙ none
 home_in v views x none rest (suc id) w is = rest id w is
 
--- Some hand has taken a slot, or the slot is at home.
+-- Some hand has taken a field, or the field is at home.
 taken_or_home : (views : List View) (x : ℕ) → IsTaken views x ⊎ IsHome views x
 taken_or_home [] x = inr (λ id v is. absurd (some-ne-none v (sym is)))
 taken_or_home (v ∷ views) x = elim (cases_lt 0 (times_taken x v)) [
@@ -287,18 +287,18 @@ taken_or_home (v ∷ views) x = elim (cases_lt 0 (times_taken x v)) [
   ]
 ]
 
--- A slot that isn't at home is with one hand.
-pub taken_alone : {T : Type 0} → TakenSlotsAreAlone T
+-- A field that isn't at home is with one hand.
+pub taken_alone : {T : Type 0} → TakenFieldsAreAlone T
 taken_alone plan words homes views x table there out = elim (taken_or_home views x) [
   | inl found ↦ record {
     id = found.id;
     view = found.view;
     here = found.here;
-    once = omega (arith, found.taken, table.slots.once found.id x found.view found.here);
-    used = table.slots.used found.id x found.view found.here found.taken;
+    once = omega (arith, found.taken, table.fields.once found.id x found.view found.here);
+    used = table.fields.used found.id x found.view found.here found.taken;
     others = λ other w is apart. elim (cases_lt 0 (times_taken x w)) [
       | inl taken ↦
-          absurd (apart (table.slots.alone other found.id x w found.view is found.here (omega (arith, taken))
+          absurd (apart (table.fields.alone other found.id x w found.view is found.here (omega (arith, taken))
           found.taken))
       | inr none ↦ omega (arith, none)
     ];
@@ -306,6 +306,6 @@ taken_alone plan words homes views x table there out = elim (taken_or_home views
   | inr at_home ↦
       let there' : x < row_count table.stands.machine.layout =
       subst (λ (l : Layout). x < row_count l) (sym table.stands.layout_is) there in
-      let held = table.slots.at_home x there' at_home in
-      absurd (some-ne-none held.slot (some-injective (some held.slot) home.none (sym held.there ∙ out)))
+      let held = table.fields.at_home x there' at_home in
+      absurd (some-ne-none held.field (some-injective (some held.field) home.none (sym held.there ∙ out)))
 ]

@@ -23,10 +23,11 @@ use Rattle.brc_table.specs.Homes.{TableStands, held_in}
 use Rattle.brc_table.specs.Rule.{IsGone, Stands}
 use Rattle.brc_table.specs.Threads.{thread_word}
 use Rattle.brc_table.specs.Joining.{joining, RowsAreUsed, JoinedHandsAreGone}
+use Rattle.brc_table.proofs.FirstHand.{is_first}
 use Rattle.brc_table.proofs.Changing.{passes}
 use Rattle.brc_table.proofs.Guarding.{reading_three}
-use Rattle.brc_table.proofs.Lists.{set_itself}
-use Rattle.brc_table.proofs.SlotsKept.{slots_kept}
+use Rattle.brc_table.proofs.Lists.{set_itself, set_view}
+use Rattle.brc_table.proofs.FieldsKept.{fields_kept}
 use Rattle.brc_table.proofs.ThreadsKept.{threads_same}
 
 -- ---- the step
@@ -39,7 +40,7 @@ module _ (plan : Plan) (words : List ℕ) (views : List View) (id : ℕ) (v w : 
     hand = record { thread = w.thread; used = w.actor.used }
 
     joined_all : All (IsGone s.machine.actors) (hand ∷ v.joined)
-    joined_all zero d low = record { actor = w.actor; found = s.acts other w there; gone = gone; used = refl }
+    joined_all zero d low = record { actor = w.actor; found = s.same_actor other w there; gone = gone; used = refl }
     joined_all (suc k) d low = s.joined id v here k d (omega (arith, low))
 
     pub passes_joined : Passes plan words (set views id (joining v w)) v.taken v.actor.locked s.machine
@@ -51,7 +52,7 @@ module _ (plan : Plan) (words : List ℕ) (views : List View) (id : ℕ) (v w : 
           layout_same = refl;
           length_is = refl;
           reads = s.reads;
-          actors = sym (set_itself s.machine.actors v.thread v.actor (s.acts id v here));
+          actors = sym (set_itself s.machine.actors v.thread v.actor (s.same_actor id v here));
           thread_same = refl;
           told_same = refl;
           given_more = λ k is. is;
@@ -79,10 +80,15 @@ joins plan id other v w spent gone same = λ s holds here apart there.
     ∙ set_again (set s.views id (joining v w)) other w there))
     (record {
       stands = now.stands;
-      slots =
-          slots_kept holds.stands.machine now.stands.machine s.homes s.views id v (joining v w) holds.slots here
+      fields =
+          fields_kept holds.stands.machine now.stands.machine s.homes s.views id v (joining v w) holds.fields here
           (now.stands.layout_is ∙ sym holds.stands.layout_is)
-          (record { taken = refl; in_slot = λ x locks. refl; locked = refl; used = λ x uses. uses }) now.slots;
+          (record { taken = refl; in_field = λ x locks. refl; locked = refl; used = λ x uses. uses }) now.fields;
+      first = λ only.
+          let hand : Joined = record { thread = w.thread; used = w.actor.used } in
+          let none : hand ∷ v.joined ≡ [] =
+          ap (λ (z : View). z.joined) (is_first plan.layout (set s.views id (joining v w)) id (joining v w)
+          (set_view s.views id v (joining v w) here) only) in absurd cc;
     })
 
 -- The rows of a hand's duties and references are there as before.
@@ -103,8 +109,8 @@ joins_there v w old = record {
   kinds = old.kinds;
 }
 
--- A hand that has taken no slot has none.
-pub none_held : {T : Type 0} (slots : List (ℕ × Option T)) → held_in slots ≡ [] → slots ≡ []
+-- A hand that has taken no field has none.
+pub none_held : {T : Type 0} (fields : List (ℕ × Option T)) → held_in fields ≡ [] → fields ≡ []
 none_held [] is = refl
 none_held (s ∷ ss) is = absurd cc
 

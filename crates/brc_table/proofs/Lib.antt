@@ -1,8 +1,9 @@
 mod Lists
+mod FirstHand
 mod Places
 mod Changing
-mod SlotsKept
-mod SlotsUsed
+mod FieldsKept
+mod FieldsUsed
 mod ThreadsKept
 mod KnownKept
 mod Stepping
@@ -10,12 +11,12 @@ mod CellGuards
 mod RowMarks
 mod FewRows
 mod RowsThere
-mod LockedSlots
+mod LockedFields
 mod Allowed
 mod ThreadsAllowed
-mod SlotLists
-mod SlotsTaken
-mod SlotsGiven
+mod FieldLists
+mod FieldsTaken
+mod FieldsGiven
 pub mod Picked
 pub mod Accounts
 mod Passing
@@ -25,7 +26,7 @@ mod Silent
 mod Duties
 mod Asking
 mod Locking
-mod SlotSteps
+mod FieldSteps
 mod Bare
 mod NextDuty
 mod GoingOn
@@ -50,6 +51,7 @@ mod Claims
 mod Sharing
 mod ThreadHands
 mod Dead
+mod Living
 mod Agreeing
 mod Guarding
 mod Spares

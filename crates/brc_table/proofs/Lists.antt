@@ -65,3 +65,16 @@ and_first false b e = absurd cc
 pub and_second : (a b : Bool) → (a && b) ≡ true → b ≡ true
 and_second true b e = e
 and_second false b e = absurd cc
+
+-- A number below a list's length has an element.
+pub there_is : {A : Type 0} (xs : List A) (t : ℕ) → t < length xs → (a : A) × (slice_get xs t ≡ Some a)
+there_is [] t low = absurd (omega (arith, low))
+there_is (a ∷ rest) zero low = (a, refl)
+there_is (a ∷ rest) (suc t) low = there_is rest t (omega (arith, low))
+
+-- What an index within a list reads is the element there.
+pub element_read : {A : Type 0} (xs : List A) (i : ℕ) (x : A) → i < length xs → x ≡ slice_index_or xs i x
+    → slice_get xs i ≡ Some x
+element_read [] i x low is = absurd (omega (arith, low))
+element_read (y ∷ ys) zero x low is = ap Some (sym is)
+element_read (y ∷ ys) (suc i) x low is = element_read ys i x (omega (arith, low)) is

@@ -2,7 +2,7 @@
 use Rattle.std.proofs.Common.{◌≡◌, ℕ, zero, suc, ◌+◌, ◌*◌, ◌<◌, ◌≤◌, ◌^◌, ◌⊎◌, Bool, true, List, [], ◌∷◌, inl, inr, refl, sym, ap, ◌∙◌, subst, arith, cond}
 use Rattle.std.proofs.lemmas.Bool.{eq-eqb, ne_eqb}
 use Rattle.brc_model.specs.declared.duty.Duty.{Duty}
-use Rattle.brc_model.specs.declared.duty.Duty.TheVariants.{SetMark, Look, TakeMark, Die, Settle, SettleCell, TakeSlot, CloseResource, Leave, Scan, TakeFound, Finish, ClaimMark, MarksLoad, BirthSlot, LockGate, CellLoad, CellSwap, LendSlot, ReturnSlot}
+use Rattle.brc_model.specs.declared.duty.Duty.TheVariants.{SetMark, Look, TakeMark, Die, Settle, SettleCell, TakeField, CloseResource, Leave, Scan, TakeFound, Finish, ClaimMark, MarksLoad, BirthField, LockGate, CellLoad, CellSwap, LendField, ReturnField}
 use Rattle.brc_model.specs.declared.layout.Layout.{Layout}
 use Rattle.brc_model.specs.Counting.{IsPlainLayout}
 use Rattle.brc_word.specs.Words.{marks_of_word, lowest_mark}
@@ -13,7 +13,7 @@ use Rattle.brc_model.specs.declared.address.Address.{Address}
 use Rattle.brc_model.specs.declared.address.Address.TheVariants.{Marks, ThreadWord}
 use Rattle.brc_model.specs.Machine.{status_by, used_by}
 use Rattle.brc_model.specs.OpenWork.{is_about}
-use Rattle.brc_model.specs.SlotLaws.{SlotUse, use_of}
+use Rattle.brc_model.specs.FieldLaws.{FieldUse, use_of}
 use Rattle.brc_model.specs.Stores.{Overwrites}
 use Rattle.brc_effect.specs.declared.access.Access.{Access}
 use Rattle.brc_effect.specs.declared.access.Access.TheVariants.{Store}
@@ -52,20 +52,20 @@ word_of layout t head Finish has = inr (
   record { thread = t; address = refl; says = λ found. refl; kind = inr (refl, λ found. omega arith) },
   λ running n found. tt,
 )
-word_of layout t head (TakeSlot x) has = absurd has
+word_of layout t head (TakeField x) has = absurd has
 word_of layout t head (CloseResource x) has = absurd has
-word_of layout t head (BirthSlot x h) has = absurd has
-word_of layout t head (LendSlot x) has = absurd has
-word_of layout t head (ReturnSlot x) has = absurd has
+word_of layout t head (BirthField x h) has = absurd has
+word_of layout t head (LendField x) has = absurd has
+word_of layout t head (ReturnField x) has = absurd has
 word_of layout t head _ has = inl tt
 
 pub table_word_of : (layout : Layout) (t head : ℕ) (d : Duty) → HasAccess d
     → IsTableWord (address_of layout t head d)
-table_word_of layout t head (TakeSlot x) has = absurd has
+table_word_of layout t head (TakeField x) has = absurd has
 table_word_of layout t head (CloseResource x) has = absurd has
-table_word_of layout t head (BirthSlot x h) has = absurd has
-table_word_of layout t head (LendSlot x) has = absurd has
-table_word_of layout t head (ReturnSlot x) has = absurd has
+table_word_of layout t head (BirthField x h) has = absurd has
+table_word_of layout t head (LendField x) has = absurd has
+table_word_of layout t head (ReturnField x) has = absurd has
 table_word_of layout t head _ has = tt
 
 -- A mark word of a hand's block is there, if the hand has used a row of it.
@@ -94,16 +94,16 @@ word_there v (TakeMark x) plain rows has cell chain used row = mark_has v.layout
 word_there v (ClaimMark x) plain rows has cell chain used row = mark_has v.layout x plain (row (eq-eqb x x refl))
 word_there v (SettleCell x i n) plain rows has cell chain used row = (row (eq-eqb x x refl), cell)
 word_there v (CellLoad x i) plain rows has cell chain used row = (row (eq-eqb x x refl), cell)
-word_there v (TakeSlot x) plain rows has cell chain used row = absurd has
+word_there v (TakeField x) plain rows has cell chain used row = absurd has
 word_there v (CloseResource x) plain rows has cell chain used row = absurd has
-word_there v (BirthSlot x h) plain rows has cell chain used row = absurd has
+word_there v (BirthField x h) plain rows has cell chain used row = absurd has
 word_there v (LockGate x) plain rows has cell chain used row = absurd has
 word_there v (CellSwap x i y h) plain rows has cell chain used row = absurd has
-word_there v (LendSlot x) plain rows has cell chain used row = absurd has
-word_there v (ReturnSlot x) plain rows has cell chain used row = absurd has
+word_there v (LendField x) plain rows has cell chain used row = absurd has
+word_there v (ReturnField x) plain rows has cell chain used row = absurd has
 word_there v d plain rows has cell chain used row = row (eq-eqb (row_of d) (row_of d) refl)
 
--- What they do with slots doesn't depend on what they find.
+-- What they do with fields doesn't depend on what they find.
 pub use_same : (d : Duty) → HasAccess d → (found : ℕ) → use_of d found ≡ use_of d 0
 use_same (LockGate x) has found = absurd has
 use_same _ has found = refl
@@ -172,14 +172,14 @@ module _ (u : View) (d : Duty) (next : IsNext d u.actor.agenda) (has : HasAccess
   knows_next (Store word b) knows = λ found first. knows found (overwrites_next found first)
   knows_next _ knows = tt
 
-  pub slots_next : (slots : List (ℕ × ℕ)) (found : ℕ)
-      → held_after slots (first_use u.actor.agenda found) (first_due u.actor.agenda found)
-      ≡ held_after slots (use_of d 0) (first_due (d ∷ []) found)
-  slots_next slots found =
-      ap (λ (ds : List Duty). held_after slots (first_use ds found) (first_due ds found)) c.is
-      ∙ (ap (λ (s : SlotUse). held_after slots s (first_due (c.first ∷ c.rest) found))
-      (c.like.slots found ∙ use_same d has found)
-      ∙ ap (held_after slots (use_of d 0)) (c.like.due c.rest [] found))
+  pub fields_next : (fields : List (ℕ × ℕ)) (found : ℕ)
+      → held_after fields (first_use u.actor.agenda found) (first_due u.actor.agenda found)
+      ≡ held_after fields (use_of d 0) (first_due (d ∷ []) found)
+  fields_next fields found =
+      ap (λ (ds : List Duty). held_after fields (first_use ds found) (first_due ds found)) c.is
+      ∙ (ap (λ (s : FieldUse). held_after fields s (first_due (c.first ∷ c.rest) found))
+      (c.like.fields found ∙ use_same d has found)
+      ∙ ap (held_after fields (use_of d 0)) (c.like.due c.rest [] found))
 
   -- The hand after the step, and its thread.
   pub view_next : (found : ℕ) → view_after u found ≡ view_by u (c.first ∷ c.rest) found

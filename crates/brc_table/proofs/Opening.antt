@@ -45,7 +45,7 @@ worker_holds t k object =
     ap (λ (b : Bool). one_if (b && (same_holding AsCaller k && (root_row == object))))
     (ne_eqb (suc t) 0 (λ e. omega (arith, e)))
 
--- As many slots as rows are empty.
+-- As many fields as rows are empty.
 empty_count : (T : Type 0) (n : ℕ) → length (map home.some (replicate {A = Option T} n None)) ≡ n
 empty_count T zero = refl
 empty_count T (suc n) = ap suc (empty_count T n)
@@ -82,11 +82,11 @@ module _ (begin : HandsBegin) (plan : Plan) (plain : IsPlainLayout plan.layout)
     lines = has;
     length_is = first.length_is;
     reads = λ a there. sym (first.each a there);
-    acts = λ id v is.
+    same_actor = λ id v is.
         of_main (λ w. slice_get (hands_machine plan.lines plan.layout).actors w.thread ≡ Some w.actor) id v is refl;
     lends_none = λ id v is. of_main (λ w. w.actor.lent ≡ None) id v is refl;
-    told = λ id v is. of_main (λ w. w.layout ≡ plan.layout) id v is refl;
-    named = λ x some. refl;
+    same_layout = λ id v is. of_main (λ w. w.layout ≡ plan.layout) id v is refl;
+    first_kinds = λ x some. refl;
     kinds_seen = λ id x word v is more seen.
         absurd (false≢true (sym (of_main (λ w. knows_kind x word w ≡ false) id v is refl) ∙ seen));
     cells_seen = λ id x i word v is locked seen.
@@ -95,10 +95,10 @@ module _ (begin : HandsBegin) (plan : Plan) (plain : IsPlainLayout plan.layout)
     holding = λ id v x is counted.
         of_main (λ w. hands_accounts w.thread AsCaller x ≡ holds w x) id v is (main_holds plan.layout x);
     no_variables = λ t depth i x. by_none (t == 0);
-    apart = λ id other v w is that same.
+    one_hand = λ id other v w is that same.
         (only_one (main_view plan.layout) v id is).0 ∙ sym (only_one (main_view plan.layout) w other that).0;
     idle = idle_workers;
-    given = λ id other main v is first_thread that later.
+    given_out = λ id other main v is first_thread that later.
         let none = ap (λ (w : View). w.thread) (only_one (main_view plan.layout) v other that).1 in
         absurd (omega (arith, later, none));
     joined = λ id v is.
@@ -117,15 +117,15 @@ module _ (begin : HandsBegin) (plan : Plan) (plain : IsPlainLayout plan.layout)
     };
   }
 
-  -- Each slot is at home, and empty.
-  pub slots_open : {T : Type 0} → TableStands plan words
+  -- Each field is at home, and empty.
+  pub fields_open : {T : Type 0} → TableStands plan words
       (map home.some (replicate {A = Option T} (row_count plan.layout) None)) hands
   unfolding opening
-  slots_open {T} = record {
+  fields_open {T} = record {
     stands = opening;
-    slots = record {
+    fields = record {
       rows = empty_count T (row_count plan.layout);
-      at_home = λ x low is. record { slot = None; there = empty_there T (row_count plan.layout) x low; holds = refl };
+      at_home = λ x low is. record { field = None; there = empty_there T (row_count plan.layout) x low; holds = refl };
       once = λ id x v is. of_main (λ w. times_taken x w ≤ 1) id v is (omega arith);
       alone = λ id other x v w is that first second.
           (only_one (main_view plan.layout) v id is).0 ∙ sym (only_one (main_view plan.layout) w other that).0;
@@ -135,4 +135,5 @@ module _ (begin : HandsBegin) (plan : Plan) (plain : IsPlainLayout plan.layout)
           absurd (let none = of_main (λ w. w.actor.locked ≡ None) id v is refl in
           let wrong : None ≡ Some x = sym none ∙ locks in cc);
     };
+    first = λ only. first;
   }

@@ -29,10 +29,11 @@ use Rattle.brc_table.specs.Begins.{Passes}
 use Rattle.brc_table.specs.Rule.{thread_reading, Stands}
 use Rattle.brc_table.specs.Ending.{SeesEnd}
 use Rattle.brc_table.specs.Peeks.{peeked, NeverStarted, Peeks}
+use Rattle.brc_table.proofs.FirstHand.{with_event}
 use Rattle.brc_table.proofs.RowsThere.{rows_there}
 use Rattle.brc_table.proofs.Changing.{Changes, passes}
 use Rattle.brc_table.proofs.Joining.{joined_gone}
-use Rattle.brc_table.proofs.SlotsKept.{slots_kept}
+use Rattle.brc_table.proofs.FieldsKept.{fields_kept}
 use Rattle.brc_table.proofs.FewRows.{few_first}
 use Rattle.brc_table.proofs.Lists.{set_view, set_itself}
 use Rattle.brc_table.proofs.Starting.{unwritten}
@@ -82,7 +83,7 @@ module _ (accounts : AccountsAreThere) (chains : ChainsAreThere) (plan : Plan) (
     event = record { address = ThreadWord t; found = found; left = found }
 
     low : t ≤ m.layout.workers
-    low = subst (λ (l : Layout). t ≤ l.workers) (s.told id v here) known
+    low = subst (λ (l : Layout). t ≤ l.workers) (s.same_layout id v here) known
 
     has : HasWord m.layout (ThreadWord t)
     has = omega (arith, low)
@@ -113,7 +114,7 @@ module _ (accounts : AccountsAreThere) (chains : ChainsAreThere) (plan : Plan) (
           sym (unwritten m.memory (ThreadWord t) b (thread_reading found) (s.reads (ThreadWord t) has))
           ∙ written_reads m.layout words m.memory (ThreadWord t) found (thread_reading found) s.plain
           (few_first s.accounts (1 + m.layout.workers) m s.counts) s.length_is refl has s.reads b there_b;
-      actors = sym (set_itself m.actors v.thread v.actor (s.acts id v here));
+      actors = sym (set_itself m.actors v.thread v.actor (s.same_actor id v here));
       thread_same = refl;
       told_same = refl;
       given_more = λ k is. is;
@@ -180,11 +181,11 @@ module _ (accounts : AccountsAreThere) (chains : ChainsAreThere) (plan : Plan) (
         }
 
   -- The look is allowed.
-  pub peek_allowed : {T : Type 0} (slots id index : ℕ) (me : Me (Option T) View) → me.0 ≡ v → index ≡ t
-      → Allows (λ (s : State (Option T) View). TableStands plan s.words s.homes s.views) slots id me index
+  pub peek_allowed : {T : Type 0} (fields id index : ℕ) (me : Me (Option T) View) → me.0 ≡ v → index ≡ t
+      → Allows (λ (s : State (Option T) View). TableStands plan s.words s.homes s.views) fields id me index
       (λ found. found)
       (λ found after. Peeks t me found after)
-  peek_allowed slots id index me is_me at s holds homes here below =
+  peek_allowed fields id index me is_me at s holds homes here below =
       let mine : get_elem? s.views id ≡ some v = here ∙ ap some is_me in
       let found = slice_index s.words index in
       let same : thread_word s.words t ≡ found = ap (slice_index s.words) (sym at) in
@@ -203,10 +204,14 @@ module _ (accounts : AccountsAreThere) (chains : ChainsAreThere) (plan : Plan) (
         tt,
         record {
           stands = moved.stands;
-          slots =
-              slots_kept before moved.stands.machine s.homes s.views id v w holds.slots mine
+          fields =
+              fields_kept before moved.stands.machine s.homes s.views id v w holds.fields mine
               (moved.stands.layout_is ∙ sym holds.stands.layout_is)
-              (record { taken = refl; in_slot = λ x locks. refl; locked = refl; used = λ x uses. uses }) moved.slots;
+              (record { taken = refl; in_field = λ x locks. refl; locked = refl; used = λ x uses. uses }) moved.fields;
+          first =
+              with_event plan.layout (set s.views id w) id w v.trace
+              (record { address = ThreadWord t; found = found; left = found })
+              (set_view s.views id v w mine) refl;
         },
         subst (λ (u : View). Peeks t (u, me.1) found (w, me.1)) (sym is_me) (
           refl,

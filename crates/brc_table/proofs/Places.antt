@@ -3,7 +3,7 @@ use Rattle.std.proofs.Common.{◌≡◌, ◌≢◌, ◌==◌, ◌&&◌, ℕ, zer
 use Rattle.std.proofs.Math.Nat.{div-add-mod, mod-lt, mul-le-mul_left}
 use Rattle.std.proofs.lemmas.Bool.{eq-eqb, cases_lt}
 use Rattle.brc_model.specs.declared.address.Address.{Address}
-use Rattle.brc_model.specs.declared.address.Address.TheVariants.{Local, Shared, Gate, KindOf, Marks, Cell, Slot, Resource, ThreadWord}
+use Rattle.brc_model.specs.declared.address.Address.TheVariants.{Local, Shared, Gate, KindOf, Marks, Cell, Field, Resource, ThreadWord}
 use Rattle.brc_model.specs.declared.layout.Layout.{Layout}
 use Rattle.brc_model.specs.Layout.{row_count, mark_words_of}
 use Rattle.brc_model.specs.Counting.{IsPlainLayout}
@@ -217,9 +217,9 @@ place_apart layout (Marks t w) (ThreadWord u) plain few one other apart e = absu
 place_apart layout (ThreadWord u) (Marks t w) plain few one other apart e = absurd
     (omega (arith, plain.few_workers, one, e))
 place_apart layout (ThreadWord t) (ThreadWord u) plain few one other apart e = not_same t u apart e
-place_apart layout (Slot x) b plain few one other apart e = one
+place_apart layout (Field x) b plain few one other apart e = one
 place_apart layout (Resource x) b plain few one other apart e = one
-place_apart layout a (Slot y) plain few one other apart e = other
+place_apart layout a (Field y) plain few one other apart e = other
 place_apart layout a (Resource y) plain few one other apart e = other
 
 -- ---- places are within the table
@@ -246,7 +246,7 @@ place_front layout (KindOf x) plain few has other = header_front layout kind_lin
 place_front layout (Cell x i) plain few has other = absurd cc
 place_front layout (ThreadWord t) plain few has other = omega (arith, plain.few_workers, has)
 place_front layout (Marks t w) plain few has other = omega (arith, in_front layout t w plain few has)
-place_front layout (Slot x) plain few has other = absurd has
+place_front layout (Field x) plain few has other = absurd has
 place_front layout (Resource x) plain few has other = absurd has
 
 pub place_within : (layout : Layout) (a : Address) → IsPlainLayout layout → FewFirstRows layout → HasWord layout a

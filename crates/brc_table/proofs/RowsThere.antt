@@ -86,8 +86,8 @@ pub rows_there : AccountsAreThere → ChainsAreThere → (plan : Plan) (words : 
     (v : View) → Stands plan words views → get_elem? views id ≡ some v → RowsAreThere v
 rows_there law chains plan words views id v stands here =
     let m = stands.machine in
-    let told = stands.told id v here in
-    let found = stands.acts id v here in
+    let told = stands.same_layout id v here in
+    let found = stands.same_actor id v here in
     let chain = chains stands.accounts (1 + m.layout.workers) m v.thread v.actor stands.counts found in
     let rows : (x : ℕ) → x < row_count m.layout → x < row_count v.layout =
     λ x low. subst (λ (l : Layout). x < row_count l) (sym told) low in

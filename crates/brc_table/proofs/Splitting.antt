@@ -11,7 +11,7 @@ use Rattle.atomic_table.specs.Table.{State, Splits}
 use Rattle.atomic_table.proofs.Lists.{at_set, set_else, at_longer, at_last}
 use Rattle.brc_model.specs.declared.duty.Holding.TheVariants.{ByVariable, AsCaller}
 use Rattle.brc_model.specs.declared.duty.Duty.{Duty}
-use Rattle.brc_model.specs.declared.address.Address.TheVariants.{KindOf, Cell, Slot}
+use Rattle.brc_model.specs.declared.address.Address.TheVariants.{KindOf, Cell, Field}
 use Rattle.brc_model.specs.declared.layout.Layout.{Layout}
 use Rattle.brc_model.specs.Layout.{first_immortal_list, first_number, is_immortal_row, IsCounted, root_row}
 use Rattle.brc_model.specs.AbstractState.{PassOn, ByThread}
@@ -26,7 +26,8 @@ use Rattle.brc_table.specs.declared.view.View.{View}
 use Rattle.brc_table.specs.Views.{holds, is_given, giving, worker_view}
 use Rattle.brc_table.specs.Rule.{Guards, IsGone, Stands}
 use Rattle.brc_table.specs.Homes.{TableStands}
-use Rattle.brc_table.proofs.SlotsKept.{slots_kept, slots_longer}
+use Rattle.brc_table.proofs.FirstHand.{is_first}
+use Rattle.brc_table.proofs.FieldsKept.{fields_kept, fields_longer}
 use Rattle.brc_table.specs.KnownWords.{knows_kind, known_cell, has_started, started_word, knows_gone}
 use Rattle.brc_table.specs.Threads.{thread_word, ThreadsStand}
 use Rattle.brc_table.specs.Hands.{HasNoWork}
@@ -98,13 +99,13 @@ module _ (law : ReferencesAreHandedOver) (plan : Plan) (words : List ℕ) (views
 
   -- Another hand's thread isn't main,
   not_main : (other : ℕ) (z : View) → other ≢ id → get_elem? views other ≡ some z → z.thread ≢ v.thread
-  not_main other z apart is e = apart (old.apart other id z v is here e)
+  not_main other z apart is e = apart (old.one_hand other id z v is here e)
 
   -- nor the worker, whose hand wasn't given out.
   not_worker : (other : ℕ) (z : View) → get_elem? views other ≡ some z → z.thread ≢ t
   not_worker other z is e =
       let positive : 0 < z.thread = omega (arith, e, may.some_worker) in
-      let given = old.given id other v z here may.is_main is positive in
+      let given = old.given_out id other v z here may.is_main is positive in
       false≢true (sym may.not_given ∙ (ap (λ (k : ℕ). is_given k v) (sym e) ∙ given))
 
   -- ---- the machine and the accounts afterwards
@@ -142,7 +143,7 @@ module _ (law : ReferencesAreHandedOver) (plan : Plan) (words : List ℕ) (views
   worker_idle : (slice_get old.machine.actors t ≡ Some (idle_actor 0)) × HoldsNone (p t)
   worker_idle =
       let known : t ≤ old.machine.layout.workers =
-      subst (λ (l : Layout). t ≤ l.workers) (old.told id v here) may.known_worker in
+      subst (λ (l : Layout). t ≤ l.workers) (old.same_layout id v here) may.known_worker in
       old.idle t (omega (arith, known)) (λ other z is e. not_worker other z is e)
 
   root_counted : IsCounted old.machine.layout root_row
@@ -157,14 +158,15 @@ module _ (law : ReferencesAreHandedOver) (plan : Plan) (words : List ℕ) (views
       elim (may.keeps e) [
         | inl immortal ↦
             absurd (false≢true (sym root_counted
-            ∙ subst (λ (l : Layout). is_immortal_row l root_row ≡ true) (old.told id v here) immortal))
+            ∙ subst (λ (l : Layout). is_immortal_row l root_row ≡ true) (old.same_layout id v here) immortal))
         | inr two ↦ omega (arith, old.holding id v root_row here root_counted, two)
       ]
 
   counts : Counts after (1 + old.machine.layout.workers) machine
   counts =
       law p (1 + old.machine.layout.workers) old.machine v.thread t v.actor (idle_actor 0) root_row old.counts
-      (old.acts id v here) worker_idle.0 (λ e. t_apart (sym e)) (has_none v root_row may.no_work) refl refl root_counted
+      (old.same_actor id v here) worker_idle.0 (λ e. t_apart (sym e)) (has_none v root_row may.no_work) refl refl
+      root_counted
       (omega (arith, old.holding id v root_row here root_counted, may.holds_root))
       keeps_root
       (omega (arith, worker_idle.1 AsCaller root_row))
@@ -173,16 +175,16 @@ module _ (law : ReferencesAreHandedOver) (plan : Plan) (words : List ℕ) (views
 
   acts_after : (other : ℕ) (z : View) → Whose other z → slice_get machine.actors z.thread ≡ Some z.actor
   acts_after other z (Mains same is) =
-      subst (λ (w : View). slice_get machine.actors w.thread ≡ Some w.actor) is (old.acts id v here)
-  acts_after other z (Another apart is) = old.acts other z is
+      subst (λ (w : View). slice_get machine.actors w.thread ≡ Some w.actor) is (old.same_actor id v here)
+  acts_after other z (Another apart is) = old.same_actor other z is
   acts_after other z (New same is) =
       subst (λ (w : View). slice_get machine.actors w.thread ≡ Some w.actor) is worker_idle.0
 
   told_after : (other : ℕ) (z : View) → Whose other z → z.layout ≡ machine.layout
   told_after other z (Mains same is) =
-      subst (λ (w : View). w.layout ≡ machine.layout) is (old.told id v here)
-  told_after other z (Another apart is) = old.told other z is
-  told_after other z (New same is) = subst (λ (w : View). w.layout ≡ machine.layout) is (old.told id v here)
+      subst (λ (w : View). w.layout ≡ machine.layout) is (old.same_layout id v here)
+  told_after other z (Another apart is) = old.same_layout other z is
+  told_after other z (New same is) = subst (λ (w : View). w.layout ≡ machine.layout) is (old.same_layout id v here)
 
   lends_after : (other : ℕ) (z : View) → Whose other z → z.actor.lent ≡ None
   lends_after other z (Mains same is) = subst (λ (w : View). w.actor.lent ≡ None) is (old.lends_none id v here)
@@ -251,7 +253,7 @@ module _ (law : ReferencesAreHandedOver) (plan : Plan) (words : List ℕ) (views
       absurd (t_apart (sym (worker_thread z is') ∙ (sym e ∙ main_thread w is)))
   apart_after one other w z (Another apart is) (Mains same' is') e =
       absurd (not_main one w apart is (e ∙ main_thread z is'))
-  apart_after one other w z (Another apart is) (Another apart' is') e = old.apart one other w z is is' e
+  apart_after one other w z (Another apart is) (Another apart' is') e = old.one_hand one other w z is is' e
   apart_after one other w z (Another apart is) (New same' is') e =
       absurd (not_worker one w is (e ∙ worker_thread z is'))
   apart_after one other w z (New same is) (Mains same' is') e =
@@ -287,7 +289,7 @@ module _ (law : ReferencesAreHandedOver) (plan : Plan) (words : List ℕ) (views
       absurd (omega (arith, later, main_thread z is', may.is_main))
   given_after one other main z (Mains same is) first (Another apart is') later =
       subst (λ (w : View). is_given z.thread w ≡ true) is
-      (still_given z.thread (old.given id other v z here may.is_main is' later))
+      (still_given z.thread (old.given_out id other v z here may.is_main is' later))
   given_after one other main z (Mains same is) first (New same' is') later =
       subst (λ (w : View). is_given z.thread w ≡ true) is
       (subst (λ (k : ℕ). is_given k main_after ≡ true) (sym (worker_thread z is')) worker_given)
@@ -328,7 +330,7 @@ module _ (law : ReferencesAreHandedOver) (plan : Plan) (words : List ℕ) (views
           | New same this ↦
               subst (λ (w : View). 0 < thread_word words w.thread) this
               (threads.started_seen id t v here
-              (subst (λ (l : Layout). t ≤ l.workers) (old.told id v here) may.known_worker) may.started)
+              (subst (λ (l : Layout). t ≤ l.workers) (old.same_layout id v here) may.known_worker) may.started)
         ];
         started_seen = λ other k z is low seen. elim (whose other z is) [
           | Mains same this ↦
@@ -371,27 +373,27 @@ module _ (law : ReferencesAreHandedOver) (plan : Plan) (words : List ℕ) (views
     lines = old.lines;
     length_is = old.length_is;
     reads = old.reads;
-    acts = λ other z is. acts_after other z (whose other z is);
-    told = λ other z is. told_after other z (whose other z is);
+    same_actor = λ other z is. acts_after other z (whose other z is);
+    same_layout = λ other z is. told_after other z (whose other z is);
     lends_none = λ other z is. lends_after other z (whose other z is);
-    named = old.named;
+    first_kinds = old.first_kinds;
     kinds_seen = λ other x word z is high seen. kinds_after other x word z (whose other z is) high seen;
     cells_seen = λ other x i word z is guards seen.
         cells_after other x i word z (whose other z is) guards seen;
     holding = λ other z x is counted. holding_after other z x (whose other z is) counted;
     no_variables = none_after;
-    apart = λ one other w z is that same. apart_after one other w z (whose one w is) (whose other z that) same;
+    one_hand = λ one other w z is that same. apart_after one other w z (whose one w is) (whose other z that) same;
     idle = idle_after;
-    given = λ one other main z is first that later.
+    given_out = λ one other main z is first that later.
         given_after one other main z (whose one main is) first (whose other z that) later;
     joined = λ other z is. joined_after other z (whose other z is);
     threads = threads_after;
   }
 
-  -- Its machine has the slots of the old one.
-  pub same_slots : (x : ℕ) → given_out.machine.memory (Slot x) ≡ old.machine.memory (Slot x)
+  -- Its machine has the fields of the old one.
+  pub same_fields : (x : ℕ) → given_out.machine.memory (Field x) ≡ old.machine.memory (Field x)
   unfolding given_out
-  same_slots x = refl
+  same_fields x = refl
 
 -- What a table asks of main's seat that is cut in two.
 pub splits : {T : Type 0} → ReferencesAreHandedOver → (plan : Plan) (id : ℕ) (v : View) (t : ℕ) → MayGive v t
@@ -401,11 +403,15 @@ splits law plan id v t may = λ s holds here.
     let old = holds.stands in
     let now = given_out law plan s.words s.views id v t may old here in
     let mains =
-    slots_kept old.machine old.machine s.homes s.views id v (giving v t) holds.slots here refl
-    (record { taken = refl; in_slot = λ x locks. refl; locked = refl; used = λ x uses. uses }) (λ x which. refl) in
+    fields_kept old.machine old.machine s.homes s.views id v (giving v t) holds.fields here refl
+    (record { taken = refl; in_field = λ x locks. refl; locked = refl; used = λ x uses. uses }) (λ x which. refl) in
     record {
       stands = now;
-      slots =
-          slots_longer old.machine now.machine s.homes (set s.views id (giving v t)) (worker_view v.layout t) mains refl
-          refl (now.layout_is ∙ sym old.layout_is) (same_slots law plan s.words s.views id v t may old here);
+      fields =
+          fields_longer old.machine now.machine s.homes (set s.views id (giving v t)) (worker_view v.layout t) mains refl
+          refl (now.layout_is ∙ sym old.layout_is) (same_fields law plan s.words s.views id v t may old here);
+      first = λ only.
+          let none : t ∷ v.given ≡ [] =
+          ap (λ (z : View). z.given) (is_first plan.layout (hands law plan s.words s.views id v t may old here) id
+          (giving v t) (main_there law plan s.words s.views id v t may old here) only) in absurd cc;
     }

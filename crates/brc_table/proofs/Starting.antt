@@ -25,9 +25,10 @@ use Rattle.brc_table.specs.Homes.{TableStands}
 use Rattle.brc_table.specs.Begins.{Passes}
 use Rattle.brc_table.specs.Rule.{thread_reading, Stands}
 use Rattle.brc_table.specs.Giving.{MayStart, starting, StoresRunning}
+use Rattle.brc_table.proofs.FirstHand.{with_event}
 use Rattle.brc_table.proofs.RowsThere.{rows_there}
 use Rattle.brc_table.proofs.Changing.{Changes, passes}
-use Rattle.brc_table.proofs.SlotsKept.{slots_kept}
+use Rattle.brc_table.proofs.FieldsKept.{fields_kept}
 use Rattle.brc_table.proofs.FewRows.{few_first}
 use Rattle.brc_table.proofs.Lists.{set_view, set_itself}
 use Rattle.brc_table.proofs.Stepping.{same_is, written_reads}
@@ -83,7 +84,7 @@ module _ (accounts : AccountsAreThere) (chains : ChainsAreThere) (plan : Plan) (
     m = s.machine
 
     low : t ≤ m.layout.workers
-    low = subst (λ (l : Layout). t ≤ l.workers) (s.told id v here) may.known_worker
+    low = subst (λ (l : Layout). t ≤ l.workers) (s.same_layout id v here) may.known_worker
 
     word_is : thread_word words t ≡ started_word t v
     word_is = s.threads.unstarted id t v here may.is_main may.some_worker low may.not_given
@@ -141,7 +142,7 @@ module _ (accounts : AccountsAreThere) (chains : ChainsAreThere) (plan : Plan) (
           sym (unwritten m.memory (ThreadWord t) b 1 runs)
           ∙ written_reads m.layout words m.memory (ThreadWord t) 1 1 s.plain
           (few_first s.accounts (1 + m.layout.workers) m s.counts) s.length_is refl has s.reads b there_b;
-      actors = sym (set_itself m.actors v.thread v.actor (s.acts id v here));
+      actors = sym (set_itself m.actors v.thread v.actor (s.same_actor id v here));
       thread_same = refl;
       told_same = refl;
       given_more = λ k is. is;
@@ -169,11 +170,11 @@ module _ (accounts : AccountsAreThere) (chains : ChainsAreThere) (plan : Plan) (
         (λ x which. refl)
 
   -- The store is allowed.
-  pub start_allowed : {T : Type 0} (slots id index : ℕ) (me : Me (Option T) View) → me.0 ≡ v → index ≡ t
-      → Allows (λ (s : State (Option T) View). TableStands plan s.words s.homes s.views) slots id me index
+  pub start_allowed : {T : Type 0} (fields id index : ℕ) (me : Me (Option T) View) → me.0 ≡ v → index ≡ t
+      → Allows (λ (s : State (Option T) View). TableStands plan s.words s.homes s.views) fields id me index
       (λ found. 1)
       (λ found after. StoresRunning t me after)
-  start_allowed slots id index me is_me at s holds homes here below =
+  start_allowed fields id index me is_me at s holds homes here below =
       let mine : get_elem? s.views id ≡ some v = here ∙ ap some is_me in
       let w = starting v t in
       let before = holds.stands.machine in
@@ -188,10 +189,14 @@ module _ (accounts : AccountsAreThere) (chains : ChainsAreThere) (plan : Plan) (
         tt,
         record {
           stands = moved.stands;
-          slots =
-              slots_kept before moved.stands.machine s.homes s.views id v w holds.slots mine
+          fields =
+              fields_kept before moved.stands.machine s.homes s.views id v w holds.fields mine
               (moved.stands.layout_is ∙ sym holds.stands.layout_is)
-              (record { taken = refl; in_slot = λ x locks. refl; locked = refl; used = λ x uses. uses }) moved.slots;
+              (record { taken = refl; in_field = λ x locks. refl; locked = refl; used = λ x uses. uses }) moved.fields;
+          first =
+              with_event plan.layout (set s.views id w) id w v.trace
+              (record { address = ThreadWord t; found = started_word t v; left = 1 })
+              (set_view s.views id v w mine) refl;
         },
         subst (λ (u : View). StoresRunning t (u, me.1) (w, me.1)) (sym is_me) (refl, refl, rows),
       )

@@ -6,10 +6,10 @@ use Rattle.std.proofs.lemmas.Bool.{eqb-true, cases_Bool}
 use mathlib.Core.Option.{some}
 use lib.ListN.{get_elem?}
 use Rattle.brc_model.specs.declared.duty.Duty.{Duty}
-use Rattle.brc_model.specs.declared.duty.Duty.TheVariants.{LendSlot, ReturnSlot}
+use Rattle.brc_model.specs.declared.duty.Duty.TheVariants.{LendField, ReturnField}
 use Rattle.brc_model.specs.declared.actor.Status.TheVariants.{Gone}
 use Rattle.brc_model.specs.declared.address.Address.{Address}
-use Rattle.brc_model.specs.declared.address.Address.TheVariants.{Local, Shared, Gate, KindOf, Marks, Cell, Slot, Resource, ThreadWord}
+use Rattle.brc_model.specs.declared.address.Address.TheVariants.{Local, Shared, Gate, KindOf, Marks, Cell, Field, Resource, ThreadWord}
 use Rattle.brc_model.specs.declared.layout.Layout.{Layout}
 use Rattle.brc_model.specs.Counting.{IsPlainLayout}
 use Rattle.brc_model.specs.Duties.{address_of, new_word}
@@ -33,7 +33,7 @@ use Rattle.brc_table.proofs.KnownKept.{kind_stays, IsStep, kind_here, lock_befor
 -- ---- words and addresses
 
 table_has : (layout : Layout) (a : Address) → IsTableWord a → IsThere layout a → HasWord layout a
-table_has layout (Slot x) word there = absurd word
+table_has layout (Field x) word there = absurd word
 table_has layout (Resource x) word there = absurd word
 table_has layout (Local x) word there = there
 table_has layout (Shared x) word there = there
@@ -51,7 +51,7 @@ object_in_table (Gate x) object = tt
 object_in_table (KindOf x) object = tt
 object_in_table (Marks t w) object = tt
 object_in_table (Cell x i) object = tt
-object_in_table (Slot x) object = absurd object
+object_in_table (Field x) object = absurd object
 object_in_table (Resource x) object = absurd object
 object_in_table (ThreadWord t) object = absurd object
 
@@ -62,7 +62,7 @@ object_reads (Gate x) word object = refl
 object_reads (KindOf x) word object = refl
 object_reads (Marks t w) word object = refl
 object_reads (Cell x i) word object = refl
-object_reads (Slot x) word object = absurd object
+object_reads (Field x) word object = absurd object
 object_reads (Resource x) word object = absurd object
 object_reads (ThreadWord t) word object = absurd object
 
@@ -79,7 +79,7 @@ same_is (Cell x i) (Cell y j) e =
     let one = eqb-true x y (and_first (x == y) (i == j) e) in
     let other = eqb-true i j (and_second (x == y) (i == j) e) in
     ap (λ (z : ℕ). Cell z i) one ∙ ap (Cell y) other
-same_is (Slot x) (Slot y) e = ap Slot (eqb-true x y e)
+same_is (Field x) (Field y) e = ap Field (eqb-true x y e)
 same_is (Resource x) (Resource y) e = ap Resource (eqb-true x y e)
 same_is (ThreadWord t) (ThreadWord u) e = ap ThreadWord (eqb-true t u e)
 same_is _ _ e = absurd cc
@@ -87,8 +87,8 @@ same_is _ _ e = absurd cc
 -- A thread that has lent nothing lends nothing by a duty on a word of the table.
 lends_none : (layout : Layout) (t head : ℕ) (d : Duty) (lent : Option ℕ) (found : ℕ)
     → IsTableWord (address_of layout t head d) → lent ≡ None → lent_by lent d found ≡ None
-lends_none layout t head (LendSlot x) lent found table none = absurd table
-lends_none layout t head (ReturnSlot x) lent found table none = refl
+lends_none layout t head (LendField x) lent found table none = absurd table
+lends_none layout t head (ReturnField x) lent found table none = refl
 lends_none layout t head _ lent found table none = none
 
 -- Writing a word in the table is writing in the machine what it says.
@@ -145,10 +145,10 @@ module _ (kept : DutiesAreKept) (within : DutiesAreWithin) (stay : GuardedCellsS
   found = read_of v d (slice_index words (place_of v d))
 
   told : v.layout ≡ m.layout
-  told = does.stands.told id v does.here
+  told = does.stands.same_layout id v does.here
 
   comes : ComesNext m v.thread v.actor d rest
-  comes = record { found = does.stands.acts id v does.here; agenda = does.agenda; alive = does.alive }
+  comes = record { found = does.stands.same_actor id v does.here; agenda = does.agenda; alive = does.alive }
 
   pub relies : DutyWithin m v.thread v.actor d
   relies = within does.stands.accounts (1 + m.layout.workers) m v.thread v.actor d rest does.stands.counts comes
@@ -228,7 +228,7 @@ module _ (kept : DutiesAreKept) (within : DutiesAreWithin) (stay : GuardedCellsS
           kinds_stay = λ x word more is.
               kind_stays m.layout m.memory t v.actor.head d x word relies.overwrites more is;
           cells_stay = λ other x w apart is guards.
-              stays.others w.thread w.actor x (old.acts other w is) apart guards;
+              stays.others w.thread w.actor x (old.same_actor other w is) apart guards;
           kinds_here = λ x word more shown.
               kind_here m.layout m.memory t v.actor.head d (event_of v d found) is_step v.trace x word
               relies.overwrites more
@@ -243,19 +243,19 @@ module _ (kept : DutiesAreKept) (within : DutiesAreWithin) (stay : GuardedCellsS
               keeps;
         }
 
-    -- The word that the step changes is no slot.
-    no_slot : (a : Address) (word x : ℕ) → IsTableWord a → written m.memory a word (Slot x) ≡ m.memory (Slot x)
-    no_slot (Local y) word x table = refl
-    no_slot (Shared y) word x table = refl
-    no_slot (Gate y) word x table = refl
-    no_slot (KindOf y) word x table = refl
-    no_slot (Marks t w) word x table = refl
-    no_slot (Cell y i) word x table = refl
-    no_slot (Slot y) word x table = absurd table
-    no_slot (Resource y) word x table = absurd table
-    no_slot (ThreadWord t) word x table = refl
+    -- The word that the step changes is no field.
+    no_field : (a : Address) (word x : ℕ) → IsTableWord a → written m.memory a word (Field x) ≡ m.memory (Field x)
+    no_field (Local y) word x table = refl
+    no_field (Shared y) word x table = refl
+    no_field (Gate y) word x table = refl
+    no_field (KindOf y) word x table = refl
+    no_field (Marks t w) word x table = refl
+    no_field (Cell y i) word x table = refl
+    no_field (Field y) word x table = absurd table
+    no_field (Resource y) word x table = absurd table
+    no_field (ThreadWord t) word x table = refl
 
-    -- The rule holds after the step, which changes no slot.
+    -- The rule holds after the step, which changes no field.
     pub passes_after : Passes plan (set words (place_of v d) left) (set views id (view_by v (d ∷ rest) found)) []
         None m
     unfolding changes
@@ -265,5 +265,5 @@ module _ (kept : DutiesAreKept) (within : DutiesAreWithin) (stay : GuardedCellsS
         changes [] None (λ x which.
         let a = v.actor in
         let address = address_of m.layout v.thread a.head d in
-        no_slot address (new_word m.layout v.thread a.head d (m.memory address)) x
+        no_field address (new_word m.layout v.thread a.head d (m.memory address)) x
         (subst (λ (l : Layout). IsTableWord (address_of l v.thread v.actor.head d)) told does.word))

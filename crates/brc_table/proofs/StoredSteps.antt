@@ -8,18 +8,18 @@ use Rattle.brc_table.specs.Plays.{overwritten}
 use Rattle.brc_effect.specs.Accesses.{IfStored, left_by}
 use Rattle.brc_table.specs.DutySteps.{OverwritesFirst, Steps, StepsBy, StepsStored}
 
-pub stored_allowed : {T : Type 0} (holds : State (Option T) View → Type 0) (slots id index : ℕ)
+pub stored_allowed : {T : Type 0} (holds : State (Option T) View → Type 0) (fields id index : ℕ)
     (me : Me (Option T) View) (lines : List (List ℕ)) (begins : View → View) (access : Access) (word before : ℕ)
     → access ≡ Store word before
     → IfStored access (λ b. b ≡ overwritten (begins me.0))
     → IfStored access (λ b. (found : ℕ) → OverwritesFirst (begins me.0).thread (begins me.0).actor.agenda found
     → found ≡ b)
-    → Allows holds slots id me index (left_by access) (StepsBy lines begins me)
-    → Allows holds slots id me index (λ found. word) (λ found after. StepsStored lines begins me after)
-stored_allowed {T} holds slots id index me lines begins access word before is same knows allowed s stands homes here
+    → Allows holds fields id me index (left_by access) (StepsBy lines begins me)
+    → Allows holds fields id me index (λ found. word) (λ found after. StepsStored lines begins me after)
+stored_allowed {T} holds fields id index me lines begins access word before is same knows allowed s stands homes here
     below =
     let step =
-    subst (λ (a : Access). Allows holds slots id me index (left_by a) (StepsBy lines begins me)) is allowed s stands
+    subst (λ (a : Access). Allows holds fields id me index (left_by a) (StepsBy lines begins me)) is allowed s stands
     homes here below in
     let known =
     subst (λ (a : Access). IfStored a (λ b. (found : ℕ)

@@ -14,7 +14,7 @@ use Rattle.brc_model.specs.declared.duty.Holding.TheVariants.{ByVariable, AsCall
 use Rattle.brc_model.specs.declared.duty.Duty.{Duty}
 use Rattle.brc_model.specs.declared.duty.Duty.TheVariants.{SettleCell, CellSwap}
 use Rattle.brc_model.specs.declared.address.Address.{Address}
-use Rattle.brc_model.specs.declared.address.Address.TheVariants.{KindOf, Cell, Slot}
+use Rattle.brc_model.specs.declared.address.Address.TheVariants.{KindOf, Cell, Field}
 use Rattle.brc_model.specs.declared.layout.Layout.{Layout}
 use Rattle.brc_model.specs.Layout.{row_count, IsCounted}
 use Rattle.brc_model.specs.References.{one_if}
@@ -32,9 +32,10 @@ use Rattle.brc_table.specs.Places.{HasWord, cell_place}
 use Rattle.brc_table.specs.Views.{holds, RowsAreThere, without_reference, rested}
 use Rattle.brc_table.specs.KnownWords.{known_cell}
 use Rattle.brc_table.specs.Rule.{Guards, Stands}
-use Rattle.brc_table.specs.Homes.{SlotsStand, TableStands}
+use Rattle.brc_table.specs.Homes.{FieldsStand, TableStands}
 use Rattle.brc_table.specs.Begins.{Passes}
 use Rattle.brc_table.specs.Swaps.{with_item, without_item, swapped, MayPut, MaySwap, Swaps}
+use Rattle.brc_table.proofs.FirstHand.{with_event}
 use Rattle.brc_table.proofs.Accounts.{with_account_same, with_account_other, count_with_reference, count_without_reference}
 use Rattle.brc_table.proofs.CellGuards.{change_there, change_by, change_guards, guards_apart}
 use Rattle.brc_table.proofs.RowsThere.{rows_there}
@@ -42,7 +43,7 @@ use Rattle.brc_table.proofs.Passing.{waiting_uses}
 use Rattle.brc_table.proofs.AtHand.{is_ready, alone, can_give_up}
 use Rattle.brc_table.proofs.Becoming.{rested_becomes}
 use Rattle.brc_table.proofs.Changing.{Changes, passes}
-use Rattle.brc_table.proofs.SlotsKept.{slots_kept}
+use Rattle.brc_table.proofs.FieldsKept.{fields_kept}
 use Rattle.brc_table.proofs.FewRows.{few_first}
 use Rattle.brc_table.proofs.Lists.{set_view, set_itself}
 use Rattle.brc_table.proofs.Locking.{kind_some, known_low}
@@ -107,14 +108,14 @@ module _ (put : WorkIsPutAside) (free : ImmortalsAreFree) (there : AccountsAreTh
   -- The rule holds with accounts from which the thread may put the item.
   pub record Puts (words : List ℕ) (views : List View) (before : Machine) : Type 0 where
     pub stands : Stands plan words views
-    pub slots : (y : ℕ) → stands.machine.memory (Slot y) ≡ before.memory (Slot y)
+    pub fields : (y : ℕ) → stands.machine.memory (Field y) ≡ before.memory (Field y)
     pub may_put : law.MayPut (stands.accounts v.thread) (rested v).actor word
 
   has_item : (words : List ℕ) (views : List View) (id w : ℕ) → (stands : Stands plan words views)
       → get_elem? views id ≡ some (rested v) → word ≡ w → MayPut v w → Puts words views stands.machine
   has_item words views id zero stands here is puts = record {
     stands = stands;
-    slots = λ y. refl;
+    fields = λ y. refl;
     may_put = subst (law.MayPut (stands.accounts v.thread) (rested v).actor) (sym is) tt;
   }
   has_item words views id (suc y) stands here is puts =
@@ -124,7 +125,7 @@ module _ (put : WorkIsPutAside) (free : ImmortalsAreFree) (there : AccountsAreTh
       let s = spare.stands in
       record {
         stands = s;
-        slots = spare.slots;
+        fields = spare.fields;
         may_put =
             subst (law.MayPut (s.accounts v.thread) (rested v).actor) (sym is) (
               alone v y puts.1,
@@ -151,7 +152,7 @@ module _ (put : WorkIsPutAside) (free : ImmortalsAreFree) (there : AccountsAreTh
     account = law.without_item (law.with_item (s.accounts v.thread) (m.memory (Cell x i))) word
 
     told : v.layout ≡ m.layout
-    told = s.told id (rested v) here
+    told = s.same_layout id (rested v) here
 
     rows : RowsAreThere (rested v)
     rows = rows_there there chains plan words views id (rested v) s here
@@ -246,7 +247,7 @@ module _ (put : WorkIsPutAside) (free : ImmortalsAreFree) (there : AccountsAreTh
       reads =
           written_reads m.layout words m.memory (Cell x i) word word s.plain
           (few_first s.accounts (1 + m.layout.workers) m s.counts) s.length_is refl cell_has s.reads;
-      actors = sym (set_itself m.actors v.thread (rested v).actor (s.acts id (rested v) here));
+      actors = sym (set_itself m.actors v.thread (rested v).actor (s.same_actor id (rested v) here));
       thread_same = refl;
       told_same = refl;
       given_more = λ k is. is;
@@ -286,7 +287,7 @@ module _ (put : WorkIsPutAside) (free : ImmortalsAreFree) (there : AccountsAreTh
           s.plain (few_first s.accounts (1 + m.layout.workers) m s.counts)
           (omega (
             arith,
-            slice_get_within m.actors v.thread (rested v).actor (s.acts id (rested v) here),
+            slice_get_within m.actors v.thread (rested v).actor (s.same_actor id (rested v) here),
             s.counts.kept.core.threads,
           ))
           (record { thread = refl; given = refl; trace = refl }) tt cell_has);
@@ -317,12 +318,12 @@ module _ (put : WorkIsPutAside) (free : ImmortalsAreFree) (there : AccountsAreTh
     found_there = item_there found refl
 
   -- The swap is allowed.
-  pub swap_allowed : {T : Type 0} (slots id index : ℕ) (me : Me (Option T) View) → me.0 ≡ v
+  pub swap_allowed : {T : Type 0} (fields id index : ℕ) (me : Me (Option T) View) → me.0 ≡ v
       → index ≡ cell_place plan.layout x i
-      → Allows (λ (s : State (Option T) View). TableStands plan s.words s.homes s.views) slots id me index
+      → Allows (λ (s : State (Option T) View). TableStands plan s.words s.homes s.views) fields id me index
       (λ found. word)
       (λ found after. Swaps x i word me found after)
-  swap_allowed slots id index me is_me at s holds homes here below =
+  swap_allowed fields id index me is_me at s holds homes here below =
       let mine : get_elem? s.views id ≡ some v = here ∙ ap some is_me in
       let resting = set s.views id (rested v) in
       let rest = rested_becomes put plan v may.running.1 in
@@ -348,16 +349,16 @@ module _ (put : WorkIsPutAside) (free : ImmortalsAreFree) (there : AccountsAreTh
       v.actor.locked puts.stands.machine)
       (sym at_now) after)) in
       let now = moved.stands in
-      let held_slots : SlotsStand now.machine s.homes (set s.views id w) =
-      slots_kept holds.stands.machine now.machine s.homes s.views id v w holds.slots mine
+      let held_fields : FieldsStand now.machine s.homes (set s.views id w) =
+      fields_kept holds.stands.machine now.machine s.homes s.views id v w holds.fields mine
       (now.layout_is ∙ sym holds.stands.layout_is)
       (record {
         taken = refl;
-        in_slot = λ y locks. refl;
+        in_field = λ y locks. refl;
         locked = refl;
         used = waiting_uses v w may.running.1 refl;
       })
-      (λ y which. moved.slots y which ∙ (puts.slots y ∙ first.slots y which)) in
+      (λ y which. moved.fields y which ∙ (puts.fields y ∙ first.fields y which)) in
       let rows_now : RowsAreThere w =
       rows_there there chains plan (set s.words index word) (set s.views id w) id w now
       (set_view s.views id v w mine) in
@@ -368,6 +369,12 @@ module _ (put : WorkIsPutAside) (free : ImmortalsAreFree) (there : AccountsAreTh
         w,
         keeps,
         tt,
-        record { stands = now; slots = held_slots },
+        record {
+          stands = now;
+          fields = held_fields;
+          first =
+              with_event plan.layout (set s.views id w) id w v.trace
+              (record { address = Cell x i; found = found; left = word }) (set_view s.views id v w mine) refl;
+        },
         subst (λ (u : View). Swaps x i word (u, me.1) found (w, me.1)) (sym is_me) (refl, refl, low, rows_now, seen),
       )

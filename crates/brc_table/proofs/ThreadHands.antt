@@ -47,7 +47,7 @@ thread_is plan words views s t a found = elim (hand_of views t) [
       inl (
         h,
         some_is a h.view.actor (sym found ∙ (ap (slice_get s.machine.actors) (sym h.thread)
-            ∙ s.acts h.id h.view h.here)),
+            ∙ s.same_actor h.id h.view h.here)),
       )
   | inr none ↦
       let low = slice_get_within s.machine.actors t a found in

@@ -60,11 +60,11 @@ module _ (laws : ModelLaws) (plan : Plan) (v u : View)
       → thread_word words on.thread ≡ 3 → ⊥
   not_gone words views i does own is =
       let s = does.stands in
-      let word = (s.counts.kept.core.each u.thread u.actor (s.acts i u does.here)).0.word in
+      let word = (s.counts.kept.core.each u.thread u.actor (s.same_actor i u does.here)).0.word in
       let low : u.thread < 1 + s.machine.layout.workers =
       omega (
         arith,
-        slice_get_within s.machine.actors u.thread u.actor (s.acts i u does.here),
+        slice_get_within s.machine.actors u.thread u.actor (s.same_actor i u does.here),
         s.counts.kept.core.threads,
       ) in
       let says : status_word u.actor.status ≡ thread_reading (thread_word words u.thread) =
@@ -95,7 +95,8 @@ module _ (laws : ModelLaws) (plan : Plan) (v u : View)
             (few_first does.stands.accounts (1 + does.stands.machine.layout.workers) does.stands.machine
             does.stands.counts)
             (has laws.kept laws.within laws.guarded plan words views i u d rest does),
-        ap (λ (l : Layout). place l (address_of u.layout u.thread u.actor.head d)) (does.stands.told i u does.here),
+        ap (λ (l : Layout). place l (address_of u.layout u.thread u.actor.head d))
+            (does.stands.same_layout i u does.here),
         does.stands.length_is,
       )) in
       subst (λ (k : ℕ). KeepsThreads does.stands.machine.layout words (set words k (f raw)) u

@@ -11,7 +11,7 @@ use mathlib.Core.Option.{some}
 use lib.ListN.{get_elem?}
 use Rattle.atomic_table.proofs.Lists.{at_set}
 use Rattle.brc_model.specs.declared.address.Address.{Address}
-use Rattle.brc_model.specs.declared.address.Address.TheVariants.{Local, Shared, Gate, KindOf, Marks, Cell, Slot, Resource, ThreadWord}
+use Rattle.brc_model.specs.declared.address.Address.TheVariants.{Local, Shared, Gate, KindOf, Marks, Cell, Field, Resource, ThreadWord}
 use Rattle.brc_model.specs.declared.layout.Layout.{Layout}
 use Rattle.brc_model.specs.Machine.{same_address}
 use Rattle.brc_model.specs.Counting.{IsPlainLayout}
@@ -63,7 +63,7 @@ module _ (plan : Plan) (words after : List ℕ) (views : List View) (id : ℕ) (
   known other w is =
       omega (
         arith,
-        slice_get_within old.machine.actors w.thread w.actor (old.acts other w is),
+        slice_get_within old.machine.actors w.thread w.actor (old.same_actor other w is),
         old.counts.kept.core.threads,
       )
 
@@ -127,11 +127,11 @@ module _ (plan : Plan) (words after : List ℕ) (views : List View) (id : ℕ) (
   main_elsewhere other t main apart is first pos low none =
       let this : t ≢ v.thread =
       λ e.
-      let given = old.given other id main v is first here (omega (arith, e, pos)) in
+      let given = old.given_out other id main v is first here (omega (arith, e, pos)) in
       false≢true (sym none ∙ (ap (λ (k : ℕ). is_given k main) e ∙ given)) in
       elim (keeps.others t low this) [
         | inl leaves ↦ leaves.word ∙ old.threads.unstarted other t main is first pos low none
-        | inr starts ↦ absurd (apart (old.apart other id main v is here (first ∙ sym starts.main)))
+        | inr starts ↦ absurd (apart (old.one_hand other id main v is here (first ∙ sym starts.main)))
       ]
 
   pub threads_kept : ThreadsStand old.machine.layout after (set views id u)
@@ -213,7 +213,7 @@ object_apart (Gate x) t object = refl
 object_apart (KindOf x) t object = refl
 object_apart (Marks u w) t object = refl
 object_apart (Cell x i) t object = refl
-object_apart (Slot x) t object = absurd object
+object_apart (Field x) t object = absurd object
 object_apart (Resource x) t object = absurd object
 object_apart (ThreadWord u) t object = absurd object
 

@@ -2,7 +2,7 @@
 use Rattle.std.specs.Prelude.{◌≡◌, ℕ, ◌+◌, ◌*◌, ◌<◌, ◌^◌, List, [], ◌∷◌, unwrap_or}
 use Rattle.brc_word.specs.Words.{marks_of_word, lowest_mark}
 use Rattle.brc_model.specs.declared.duty.Duty.{Duty}
-use Rattle.brc_model.specs.declared.duty.Duty.TheVariants.{RetainLoad, RetainStore, RetainAdd, ReleaseLoad, SharedLoad, SharedExchange, MergeSwap, MergeLoad, MergeExchange, Die, Settle, SettleCell, TakeSlot, CloseResource, Leave, Scan, TakeFound, MarksLoad, BirthKind, BirthSlot, BirthLocal, LockGate, CellLoad, CellSwap, LendSlot, ReturnSlot}
+use Rattle.brc_model.specs.declared.duty.Duty.TheVariants.{RetainLoad, RetainStore, RetainAdd, ReleaseLoad, SharedLoad, SharedExchange, MergeSwap, MergeLoad, MergeExchange, Die, Settle, SettleCell, TakeField, CloseResource, Leave, Scan, TakeFound, MarksLoad, BirthKind, BirthField, BirthLocal, LockGate, CellLoad, CellSwap, LendField, ReturnField}
 use Rattle.brc_model.specs.declared.duty.Holding.TheVariants.{AsCaller}
 use Rattle.brc_model.specs.declared.duty.Reason.TheVariants.{Own}
 use Rattle.brc_model.specs.Duties.{duty_row}
@@ -12,13 +12,13 @@ use Rattle.brc_model.specs.declared.layout.Layout.{Layout}
 
 -- The duty is done by one such operation.
 abbrev pub HasAccess : Duty → Type 0
-HasAccess (TakeSlot x) = ⊥
+HasAccess (TakeField x) = ⊥
 HasAccess (CloseResource x) = ⊥
-HasAccess (BirthSlot x h) = ⊥
+HasAccess (BirthField x h) = ⊥
 HasAccess (LockGate x) = ⊥
 HasAccess (CellSwap x i y h) = ⊥
-HasAccess (LendSlot x) = ⊥
-HasAccess (ReturnSlot x) = ⊥
+HasAccess (LendField x) = ⊥
+HasAccess (ReturnField x) = ⊥
 HasAccess _ = Unit {0}
 
 -- If the duty is about a cell, a list may have the cell.

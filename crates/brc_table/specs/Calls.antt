@@ -1,7 +1,7 @@
 -- Which duties each kind of step does.
 use Rattle.std.specs.Prelude.{◌≡◌, ◌≢◌, ℕ, None, List, [], ◌∷◌}
 use Rattle.brc_model.specs.declared.duty.Duty.{Duty}
-use Rattle.brc_model.specs.declared.duty.Duty.TheVariants.{Settle, TakeSlot, SettleEnd, BirthSlot, BirthLocal}
+use Rattle.brc_model.specs.declared.duty.Duty.TheVariants.{Settle, TakeField, SettleEnd, BirthField, BirthLocal}
 use Rattle.brc_model.specs.declared.actor.Status.TheVariants.{Running, Gone}
 use Rattle.brc_table.specs.declared.view.View.{View}
 use Rattle.brc_table.specs.Hands.{MayWait}
@@ -10,13 +10,13 @@ use Rattle.brc_table.specs.Hands.{MayWait}
 abbrev pub CanAct : View → Type 0
 CanAct v = (v.actor.status ≢ Gone) × MayWait v.actor.agenda
 
--- The one duty is to store the new row's first local word, or to put its resource into its slot before that.
+-- The one duty is to store the new row's first local word, or to put its resource into its field before that.
 abbrev pub OwnsFirst : ℕ → List Duty → Type 0
-OwnsFirst x (BirthSlot y h ∷ []) = y ≡ x
+OwnsFirst x (BirthField y h ∷ []) = y ≡ x
 OwnsFirst x (BirthLocal y h ∷ []) = y ≡ x
 OwnsFirst x _ = ⊥
 
--- ---- settling: what else there is to do comes behind
+-- ---- settling: what else there is to do comes later
 
 -- The hand runs and has nothing to do, so that it may begin to settle; or to settle is what it does next.
 abbrev pub SettlesFrom : View → List Duty → Type 0
@@ -27,9 +27,9 @@ SettlesFrom v _ = ⊥
 abbrev pub MaySettle : View → Type 0
 MaySettle v = SettlesFrom v v.actor.agenda
 
--- The first duty is to close the dying row, or to take its resource out of its slot before that.
+-- The first duty is to close the dying row, or to take its resource out of its field before that.
 abbrev pub ClosesRow : ℕ → List Duty → Type 0
-ClosesRow x (TakeSlot y ∷ rest) = y ≡ x
+ClosesRow x (TakeField y ∷ rest) = y ≡ x
 ClosesRow x (SettleEnd y ∷ rest) = y ≡ x
 ClosesRow x _ = ⊥
 

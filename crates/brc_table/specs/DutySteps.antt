@@ -1,19 +1,21 @@
 -- What a step makes of its hand, and what the hand learns by it, whichever duty the step is of.
-use Rattle.std.specs.Prelude.{ℕ, List, [], ◌∷◌, Option}
+use Rattle.std.specs.Prelude.{◌≡◌, ℕ, List, [], ◌∷◌, Option}
 use Rattle.atomic_table.specs.Table.{Me}
 use Rattle.brc_model.specs.declared.duty.Duty.{Duty}
 use Rattle.brc_model.specs.Duties.{address_of}
-use Rattle.brc_model.specs.SlotLaws.{SlotUse, Gives}
+use Rattle.brc_model.specs.FieldLaws.{FieldUse, Gives, use_of}
 use Rattle.brc_model.specs.Stores.{Overwrites}
 use Rattle.brc_table.specs.declared.view.View.{View}
 use Rattle.brc_table.specs.Rule.{reading}
 use Rattle.brc_table.specs.Plays.{SuitsFirst, FirstFindsOwner, FindsKnown, FindsFirst, overwritten}
-use Rattle.brc_table.specs.Uses.{FirstSlot, IsDue, Uses}
+use Rattle.brc_table.specs.Views.{view_after}
+use Rattle.brc_table.specs.Hands.{HandState}
+use Rattle.brc_table.specs.Uses.{FirstField, IsDue, Uses, first_due, held_after}
 
--- The slot that a step gives back is the one that the hand took last, and holds what is due.
-abbrev pub DueSlot : SlotUse → List (ℕ × ℕ) → View → Type 0
-DueSlot (Gives x) slots v = (n : ℕ) × FirstSlot slots x n × IsDue v v.actor.agenda n
-DueSlot _ slots v = Unit {0}
+-- The field that a step gives back is the one that the hand took last, and holds what is due.
+abbrev pub DueField : FieldUse → List (ℕ × ℕ) → View → Type 0
+DueField (Gives x) fields v = (n : ℕ) × FirstField fields x n × IsDue v v.actor.agenda n
+DueField _ fields v = Unit {0}
 
 -- If the first duty is a store, the value found is the one that the thread knows.
 abbrev pub OverwritesFirst : ℕ → List Duty → ℕ → Type 0
@@ -44,3 +46,16 @@ StepsBy lines begins me word after = Steps lines begins me (said (begins me.0) (
 -- The same of a store, which knows the value that it overwrites.
 abbrev pub StepsStored : {T : Type 0} → List (List ℕ) → (View → View) → Me (Option T) View → Me (Option T) View → Type 0
 StepsStored lines begins me after = Steps lines begins me (overwritten (begins me.0)) after
+
+-- What a step makes of its hand, which does the duty and finds this word. The hand became `begun` first. The lines are
+-- those of the table's immortal lists.
+pub record DutyDone (lines : List (List ℕ)) (begun : View) (d : Duty) (found : ℕ) (h k : HandState) : Type 0 where
+  pub table : k.table ≡ h.table
+  pub carried : k.carried ≡ h.carried
+  pub fields : k.fields ≡ held_after h.fields (use_of d 0) (first_due (d ∷ []) found)
+  pub view : k.view ≡ view_after begun found
+  pub overwrites : Overwrites h.view.thread d found
+  pub suits : SuitsFirst begun begun.actor.agenda found
+  pub owner : FirstFindsOwner begun begun.actor.agenda found
+  pub finds : FindsKnown begun begun.actor.agenda found
+  pub first : FindsFirst lines begun begun.actor.agenda found

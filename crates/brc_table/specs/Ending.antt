@@ -4,11 +4,11 @@ use mathlib.Core.Option.{some}
 use lib.ListN.{get_elem?}
 use Rattle.atomic_table.specs.Seated.{TableId}
 use Rattle.brc_word.specs.Words.{closed_word}
-use Rattle.brc_model.specs.declared.address.Address.TheVariants.{Slot}
+use Rattle.brc_model.specs.declared.address.Address.TheVariants.{Field}
 use Rattle.brc_model.specs.declared.layout.Layout.{Layout}
 use Rattle.brc_model.specs.Duties.{resources_of}
 use Rattle.brc_model.specs.Layout.{row_count, IsCounted}
-use Rattle.brc_model.specs.SlotLaws.{UsesSlot}
+use Rattle.brc_model.specs.FieldLaws.{UsesField}
 use Rattle.brc_model.specs.FirstRows.{first_kind_word}
 use Rattle.brc_table.specs.Plan.{Plan}
 use Rattle.brc_table.specs.declared.view.View.{View}
@@ -20,23 +20,28 @@ use Rattle.brc_table.specs.Threads.{thread_word}
 use Rattle.brc_table.specs.Peeks.{NeverStarted}
 
 -- A closed table, as contracts see it: which one it was, its size, the lines of its immortal lists, its last words, and
--- how many resources each row's slot holds.
+-- how many resources each row's field holds.
 pub record EndState : Type 0 where
   pub table : TableId
   pub layout : Layout
   pub lines : List (List ℕ)
   pub words : List ℕ
-  pub slots : List ℕ
+  pub fields : List ℕ
 
--- how many resources each of these slots holds
+-- A closed table whose fields hold resources of the type `T`: what it says, and what each row's field holds.
+pub record ClosedTable (T : Type 0) : Type 0 where
+  pub state : EndState
+  pub fields : List (Option T)
+
+-- how many resources each of these fields holds
 abbrev pub resources_in : {T : Type 0} → List (Option T) → List ℕ
-resources_in slots = map resources slots
+resources_in fields = map resources fields
 
--- how many the row's slot holds
-abbrev pub slot_at : List ℕ → ℕ → ℕ
-slot_at slots x = slice_index slots x
+-- how many the row's field holds
+abbrev pub field_at : List ℕ → ℕ → ℕ
+field_at fields x = slice_index fields x
 
--- what the closed table was told when it was made
+-- the plan that the closed table was made by
 abbrev pub plan_at : EndState → Plan
 plan_at end = record { layout = end.layout; lines = end.lines }
 
@@ -46,11 +51,11 @@ pub record EndsWith (v : View) (end : EndState) : Type 0 where
   pub id : ℕ
   pub here : get_elem? views id ≡ some v
   pub stands : Stands (plan_at end) end.words views
-  -- a slot that no hand has taken holds as many resources as the counting machine says
+  -- a field that no hand has taken holds as many resources as the counting machine says
   pub homes : (x : ℕ) → x < row_count end.layout → IsHome views x
-      → slot_at end.slots x ≡ stands.machine.memory (Slot x)
-  -- a hand that has taken a slot uses it
-  pub used : (other x : ℕ) (w : View) → get_elem? views other ≡ some w → 1 ≤ times_taken x w → UsesSlot w.actor x
+      → field_at end.fields x ≡ stands.machine.memory (Field x)
+  -- a hand that has taken a field uses it
+  pub used : (other x : ℕ) (w : View) → get_elem? views other ≡ some w → 1 ≤ times_taken x w → UsesField w.actor x
 
 -- ---- threads
 
@@ -112,14 +117,14 @@ abbrev pub RowsEnd : Type 0
 RowsEnd = (plan : Plan) (words : List ℕ) (views : List View) (x : ℕ) → Stands plan words views
     → HaveEnded plan.layout words → IsCounted plan.layout x → x < row_count plan.layout → RowEnds plan.layout words x
 
--- ---- slots
+-- ---- fields
 
--- The row's slot is empty if the row is closed, and else it has the resource of the row's object, if the kind has one.
-abbrev pub SlotEnds : EndState → ℕ → Type 0
-SlotEnds end x =
-    slot_at end.slots x ≡ (if gate_at end.words x == closed_word then 0 else resources_of (kind_at end.words x))
+-- The row's field is empty if the row is closed, and else it has the resource of the row's object, if the kind has one.
+abbrev pub FieldEnds : EndState → ℕ → Type 0
+FieldEnds end x =
+    field_at end.fields x ≡ (if gate_at end.words x == closed_word then 0 else resources_of (kind_at end.words x))
 
 -- Once each thread is gone or was never started, this holds of each counted row.
-abbrev pub SlotsEnd : Type 0
-SlotsEnd = (v : View) (end : EndState) (x : ℕ) → EndsWith v end → HaveEnded end.layout end.words
-    → IsCounted end.layout x → x < row_count end.layout → SlotEnds end x
+abbrev pub FieldsEnd : Type 0
+FieldsEnd = (v : View) (end : EndState) (x : ℕ) → EndsWith v end → HaveEnded end.layout end.words
+    → IsCounted end.layout x → x < row_count end.layout → FieldEnds end x

@@ -1,6 +1,6 @@
 -- What holds of a table between any two steps of its hands, beside the counts: marks that are set are watched, cells
 -- change under their list's lock alone, a running thread alone changes the local words of its block, a hand whose
--- thread is gone holds nothing, and one hand at a time has taken a slot that is out of the table.
+-- thread is gone holds nothing, and one hand at a time has taken a field that is out of the table.
 use Rattle.std.specs.Prelude.{◌≡◌, ◌≢◌, ◌⊎◌, ℕ, ◌<◌, ◌≤◌, true, Option, List, [], ◌∷◌, None, Some, slice_index}
 use Rattle.std.specs.List.{list_any}
 use mathlib.Core.Option as home
@@ -19,7 +19,7 @@ use Rattle.brc_model.specs.Actions.{list_word}
 use Rattle.brc_model.specs.Duties.{address_of, new_word}
 use Rattle.brc_model.specs.OpenWork.{is_finalising}
 use Rattle.brc_model.specs.Watched.{looks_at, scans_over}
-use Rattle.brc_model.specs.SlotLaws.{UsesSlot}
+use Rattle.brc_model.specs.FieldLaws.{UsesField}
 use Rattle.brc_table.specs.Plan.{Plan}
 use Rattle.brc_table.specs.declared.view.View.{View}
 use Rattle.brc_table.specs.Places.{place, HasWord}
@@ -87,7 +87,7 @@ OnlyRunningOwnersCount = (plan : Plan) (words : List ℕ) (views : List View) (v
     → ChangesWord plan words views v d (Local x) → thread_says words (block_of plan.layout x) ≡ 1
     → v.thread ≡ block_of plan.layout x
 
--- The hand has nothing to do, holds no reference to a counted object and no lock, has taken no row's slot, and its
+-- The hand has nothing to do, holds no reference to a counted object and no lock, has taken no row's field, and its
 -- chain is empty.
 pub record HoldsNothing (layout : Layout) (v : View) : Type 0 where
   pub none : (x : ℕ) → IsCounted layout x → holds v x ≡ 0
@@ -124,7 +124,7 @@ abbrev pub HandsAreStarted : Type 0
 HandsAreStarted = (plan : Plan) (words : List ℕ) (views : List View) (id : ℕ) (v : View)
     → Stands plan words views → get_elem? views id ≡ some v → 0 < thread_word words v.thread
 
--- ---- sizes and slots
+-- ---- sizes and fields
 
 -- Each hand's view has the table's number of workers and rows, so it is the same in all views.
 abbrev pub ViewsKeepTheLayout : Type 0
@@ -136,18 +136,18 @@ abbrev pub RootIsAList : Type 0
 RootIsAList = (plan : Plan) (words : List ℕ) (views : List View) → Stands plan words views
     → kind_at words root_row ≡ list_word root_cells
 
--- One hand has taken the row's slot, once, and uses it; no other hand has taken it.
+-- One hand has taken the row's field, once, and uses it; no other hand has taken it.
 pub record IsTakenAlone (views : List View) (x : ℕ) : Type 0 where
   pub id : ℕ
   pub view : View
   pub here : get_elem? views id ≡ some view
   pub once : times_taken x view ≡ 1
-  pub used : UsesSlot view.actor x
+  pub used : UsesField view.actor x
   pub others : (other : ℕ) (w : View) → get_elem? views other ≡ some w → other ≢ id → times_taken x w ≡ 0
 
--- While a row's slot isn't at home in the table, one hand has taken it. `T` is the type of the table's resources.
-abbrev pub TakenSlotsAreAlone : Type 0 → Type 0
-TakenSlotsAreAlone T =
+-- While a row's field isn't at home in the table, one hand has taken it. `T` is the type of the table's resources.
+abbrev pub TakenFieldsAreAlone : Type 0 → Type 0
+TakenFieldsAreAlone T =
     (plan : Plan) (words : List ℕ) (homes : List (home.Option (Option T))) (views : List View) (x : ℕ)
     → TableStands plan words homes views → x < row_count plan.layout → get_elem? homes x ≡ some home.none
     → IsTakenAlone views x

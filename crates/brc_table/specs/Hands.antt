@@ -18,7 +18,7 @@ pub record TableState : Type 0 where
   pub layout : Layout
   pub lines : List (List ℕ)
 
--- what the table was told when it was made
+-- the plan that the table was made by
 abbrev pub plan_of : TableState → Plan
 plan_of words = record { layout = words.layout; lines = words.lines }
 
@@ -29,14 +29,14 @@ pub record HandState : Type 0 where
   -- of each begun merge of a row of the thread's own block, the local count that was swapped out, by the row's
   -- index in its block
   pub carried : List (Option ℕ)
-  -- the rows whose slots the hand has taken, the last one first, and how many resources each slot holds
-  pub slots : List (ℕ × ℕ)
+  -- the rows whose fields the hand has taken, the last one first, and how many resources each field holds
+  pub fields : List (ℕ × ℕ)
 
--- The hand is as before but for what it knows: it is of the same table, carries what it carried and has its slots.
+-- The hand is as before but for what it knows: it is of the same table, carries what it carried and has its fields.
 pub record KeepsButView (h k : HandState) : Type 0 where
   pub table : k.table ≡ h.table
   pub carried : k.carried ≡ h.carried
-  pub slots : k.slots ≡ h.slots
+  pub fields : k.fields ≡ h.fields
 
 -- where a hand keeps what it carries from the row: two rows of one block have places of their own
 abbrev pub carried_place : Layout → ℕ → ℕ

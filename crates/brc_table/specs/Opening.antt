@@ -3,7 +3,7 @@ use Rattle.std.specs.Prelude.{◌≡◌, ℕ, ◌+◌, ◌-◌, ◌*◌, ◌/◌
 use Rattle.brc_word.specs.declared.values.TheConstants.{NONE, LIST}
 use Rattle.brc_word.specs.Words.{half, immortal_local, local_word, fresh_word, free_word}
 use Rattle.brc_model.specs.declared.address.Address.{Address}
-use Rattle.brc_model.specs.declared.address.Address.TheVariants.{Local, Shared, Gate, KindOf, Marks, Cell, Slot, Resource, ThreadWord}
+use Rattle.brc_model.specs.declared.address.Address.TheVariants.{Local, Shared, Gate, KindOf, Marks, Cell, Field, Resource, ThreadWord}
 use Rattle.brc_model.specs.declared.layout.Layout.{Layout}
 use Rattle.brc_model.specs.Layout.{none_row, root_row, by_row}
 use Rattle.brc_model.specs.Limits.{root_cells}
@@ -50,7 +50,7 @@ plain_memory (Gate x) = free_word
 plain_memory (KindOf x) = by_row (NONE * half) (LIST * half + root_cells) 0 x
 plain_memory (Marks t w) = 0
 plain_memory (Cell x i) = 0
-plain_memory (Slot x) = 0
+plain_memory (Field x) = 0
 plain_memory (Resource x) = 0
 plain_memory (ThreadWord t) = if t == 0 then 1 else 0
 

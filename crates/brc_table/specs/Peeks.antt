@@ -18,8 +18,8 @@ pub record NeverStarted (main : View) (thread : ℕ) : Type 0 where
   pub not_given : is_given thread main ≡ false
   pub not_started : has_started thread main ≡ false
 
--- What the look makes of its hand. If it is main's, a word of 0 says that main never started the thread. Of a thread
--- whose hand it has joined it finds that the thread is gone.
+-- What the look makes of its hand. If it is main's, a word of 0 says that main never started the thread. If the
+-- hand has joined the thread's hand, it finds that the thread is gone.
 abbrev pub Peeks : {S : Type 0} → ℕ → Me S View → ℕ → Me S View → Type 0
 Peeks thread me found after =
     (after.0 ≡ peeked me.0 thread found) × (after.1 ≡ me.1) × (found ≤ 3)

@@ -5,7 +5,7 @@
 -- row, as many as the layout says.
 use Rattle.std.specs.Prelude.{ℕ, ◌+◌, ◌-◌, ◌*◌, ◌/◌, ◌%◌, ◌<◌, ◌≤◌}
 use Rattle.brc_model.specs.declared.address.Address.{Address}
-use Rattle.brc_model.specs.declared.address.Address.TheVariants.{Local, Shared, Gate, KindOf, Marks, Cell, Slot, Resource, ThreadWord}
+use Rattle.brc_model.specs.declared.address.Address.TheVariants.{Local, Shared, Gate, KindOf, Marks, Cell, Field, Resource, ThreadWord}
 use Rattle.brc_model.specs.declared.layout.Layout.{Layout}
 use Rattle.brc_model.specs.Layout.{rear_rows, row_count, mark_words_of}
 use Rattle.brc_model.specs.Limits.{thread_limit, immortal_limit, number_limit}
@@ -62,7 +62,7 @@ cells_front layout = front + tile * tiles layout
 abbrev pub cell_place : Layout → ℕ → ℕ → ℕ
 cell_place layout row cell = cells_front layout + layout.cells * row + cell
 
--- the place of the word at the address. A slot and a resource have no word.
+-- the place of the word at the address. A field and a resource have no word.
 abbrev pub place : Layout → Address → ℕ
 place layout (Local x) = in_tile local_line x
 place layout (Shared x) = in_tile shared_line x
@@ -70,7 +70,7 @@ place layout (Gate x) = in_tile gate_line x
 place layout (KindOf x) = in_tile kind_line x
 place layout (Marks t w) = marks_front + mark_room * t + w
 place layout (Cell x i) = cell_place layout x i
-place layout (Slot x) = 0
+place layout (Field x) = 0
 place layout (Resource x) = 0
 place layout (ThreadWord t) = t
 
@@ -82,20 +82,20 @@ HasWord layout (Gate x) = x < row_count layout
 HasWord layout (KindOf x) = x < row_count layout
 HasWord layout (Marks t w) = (t < 1 + layout.workers) × (w < mark_words_of layout t)
 HasWord layout (Cell x i) = (x < row_count layout) × (i < layout.cells)
-HasWord layout (Slot x) = ⊥
+HasWord layout (Field x) = ⊥
 HasWord layout (Resource x) = ⊥
 HasWord layout (ThreadWord t) = t < 1 + layout.workers
 
 -- The word belongs to objects, and isn't a thread's.
 abbrev pub IsObjectWord : Address → Type 0
-IsObjectWord (Slot x) = ⊥
+IsObjectWord (Field x) = ⊥
 IsObjectWord (Resource x) = ⊥
 IsObjectWord (ThreadWord t) = ⊥
 IsObjectWord _ = Unit {0}
 
 -- The address has a word of the table, of objects or of a thread.
 abbrev pub IsTableWord : Address → Type 0
-IsTableWord (Slot x) = ⊥
+IsTableWord (Field x) = ⊥
 IsTableWord (Resource x) = ⊥
 IsTableWord _ = Unit {0}
 

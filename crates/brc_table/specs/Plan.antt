@@ -1,4 +1,4 @@
--- What a table is told when it is made: its size, and the lines of its immortal lists.
+-- The plan that a table is made by: its size, and the lines of its immortal lists.
 use Rattle.std.specs.Prelude.{ℕ, List}
 use Rattle.brc_model.specs.declared.layout.Layout.{Layout}
 

@@ -25,13 +25,13 @@ FirstFindsOwner v [] found = Unit {0}
 FirstFindsOwner v (d ∷ rest) found = FindsOwner v.layout d found
 
 -- What a hand knows of what its first duty finds. A load of a kind word finds what the hand has seen there. If the hand
--- has locked the object, the kind word says how many resources the object's slot had when the hand took it. A load of
+-- has locked the object, the kind word says how many resources the object's field had when the hand took it. A load of
 -- a cell that no other hand changes finds what the hand has seen there. A merge for a handed reference that wins leaves
 -- that reference counted.
 abbrev pub FindsKnown : View → List Duty → ℕ → Type 0
 FindsKnown v (KindLoad x ∷ rest) found =
     ((word : ℕ) → 0 < word → knows_kind x word v ≡ true → found ≡ word)
-    × (v.actor.locked ≡ Some x → v.in_slot ≡ resources_of found)
+    × (v.actor.locked ≡ Some x → v.in_field ≡ resources_of found)
 FindsKnown v (CellLoad x i ∷ rest) found =
     (word : ℕ) → MayChange v x → known_cell x i v ≡ Some word → found ≡ word
 FindsKnown v (MergeExchange x c w Handed ∷ rest) found = found ≡ w → merged_word w c ≢ dead_word

@@ -41,6 +41,10 @@ pub record IsGone (actors : List Actor) (hand : Joined) : Type 0 where
   pub gone : actor.status ≡ Gone
   pub used : actor.used ≡ hand.used
 
+-- The view is that of the hand with this number.
+abbrev pub IsHand : List View → ℕ → View → Type 0
+IsHand views id v = get_elem? views id ≡ some v
+
 -- There is a counting machine with the invariant whose words, threads and accounts are those of the table.
 pub record Stands (plan : Plan) (words : List ℕ) (views : List View) : Type 0 where
   pub accounts : Accounts
@@ -53,36 +57,36 @@ pub record Stands (plan : Plan) (words : List ℕ) (views : List View) : Type 0 
   pub reads : (a : Address) → HasWord machine.layout a
       → machine.memory a ≡ reading a (slice_index words (place machine.layout a))
   -- each view is its thread's
-  pub acts : (id : ℕ) (v : View) → get_elem? views id ≡ some v
+  pub same_actor : (id : ℕ) (v : View) → IsHand views id v
       → slice_get machine.actors v.thread ≡ Some v.actor
-  -- a hand lends no resource by a duty: it takes the resource out of a slot that nobody else can see
-  pub lends_none : (id : ℕ) (v : View) → get_elem? views id ≡ some v → v.actor.lent ≡ None
-  pub told : (id : ℕ) (v : View) → get_elem? views id ≡ some v → v.layout ≡ machine.layout
+  -- a hand lends no resource by a duty: it takes the resource out of a field that nobody else can see
+  pub lends_none : (id : ℕ) (v : View) → IsHand views id v → v.actor.lent ≡ None
+  pub same_layout : (id : ℕ) (v : View) → IsHand views id v → v.layout ≡ machine.layout
   -- the references to counted objects are those that the view lists
-  pub holding : (id : ℕ) (v : View) (x : ℕ) → get_elem? views id ≡ some v → IsCounted machine.layout x
+  pub holding : (id : ℕ) (v : View) (x : ℕ) → IsHand views id v → IsCounted machine.layout x
       → accounts v.thread AsCaller x ≡ holds v x
   -- the kind word of a row that was there from the start is the row's first one
-  pub named : (x : ℕ) → 0 < first_kind_word plan.lines plan.layout x
+  pub first_kinds : (x : ℕ) → 0 < first_kind_word plan.lines plan.layout x
       → machine.memory (KindOf x) ≡ first_kind_word plan.lines plan.layout x
   -- a kind word that a hand has seen is still there
-  pub kinds_seen : (id x word : ℕ) (v : View) → get_elem? views id ≡ some v → 0 < word
+  pub kinds_seen : (id x word : ℕ) (v : View) → IsHand views id v → 0 < word
       → knows_kind x word v ≡ true → machine.memory (KindOf x) ≡ word
   -- while a hand guards a list's cells, a cell has what the hand last saw or stored there
-  pub cells_seen : (id x i word : ℕ) (v : View) → get_elem? views id ≡ some v → Guards machine v x
+  pub cells_seen : (id x i word : ℕ) (v : View) → IsHand views id v → Guards machine v x
       → known_cell x i v ≡ Some word → machine.memory (Cell x i) ≡ word
   -- no hand holds a reference by a variable
   pub no_variables : (t depth i x : ℕ) → accounts t (ByVariable depth i) x ≡ 0
   -- no thread has two hands
-  pub apart : (id other : ℕ) (v w : View) → get_elem? views id ≡ some v → get_elem? views other ≡ some w
+  pub one_hand : (id other : ℕ) (v w : View) → IsHand views id v → IsHand views other w
       → v.thread ≡ w.thread → id ≡ other
   -- a thread without a hand has done nothing and holds nothing
   pub idle : (t : ℕ) → t < 1 + machine.layout.workers
-      → ((id : ℕ) (v : View) → get_elem? views id ≡ some v → v.thread ≡ t → ⊥)
+      → ((id : ℕ) (v : View) → IsHand views id v → v.thread ≡ t → ⊥)
       → (slice_get machine.actors t ≡ Some (idle_actor 0)) × HoldsNone (accounts t)
   -- the other hands are those that main has given out
-  pub given : (id other : ℕ) (main v : View) → get_elem? views id ≡ some main → main.thread ≡ 0
-      → get_elem? views other ≡ some v → 0 < v.thread → is_given v.thread main ≡ true
+  pub given_out : (id other : ℕ) (main v : View) → IsHand views id main → main.thread ≡ 0
+      → IsHand views other v → 0 < v.thread → is_given v.thread main ≡ true
   -- the hands that a hand has joined are gone
-  pub joined : (id : ℕ) (v : View) → get_elem? views id ≡ some v → All (IsGone machine.actors) v.joined
+  pub joined : (id : ℕ) (v : View) → IsHand views id v → All (IsGone machine.actors) v.joined
   -- what the words of threads say
   pub threads : ThreadsStand machine.layout words views

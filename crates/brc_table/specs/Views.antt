@@ -3,7 +3,7 @@ use Rattle.std.specs.Prelude.{Bool, ◌≡◌, ℕ, ◌<◌, ◌≤◌, true, �
 use Rattle.std.specs.List.{filter, list_any}
 use Rattle.brc_model.specs.declared.duty.Holding.TheVariants.{AsCaller}
 use Rattle.brc_model.specs.declared.duty.Duty.{Duty}
-use Rattle.brc_model.specs.declared.duty.Duty.TheVariants.{RetainLoad, ReleaseLoad, BirthKind, BirthSlot, BirthLocal, KindLoad, LockGate, UnlockGate, CellLoad, Settle, TakeSlot, SettleEnd, ClaimMark, MarksLoad, Leave}
+use Rattle.brc_model.specs.declared.duty.Duty.TheVariants.{RetainLoad, ReleaseLoad, BirthKind, BirthField, BirthLocal, KindLoad, LockGate, UnlockGate, CellLoad, Settle, TakeField, SettleEnd, ClaimMark, MarksLoad, Leave}
 use Rattle.brc_model.specs.declared.layout.Layout.{Layout}
 use Rattle.brc_model.specs.Layout.{row_count, block_size, root_row, row_at, is_immortal_row}
 use Rattle.brc_model.specs.Duties.{address_of, new_word, cells_of}
@@ -11,7 +11,7 @@ use Rattle.brc_model.specs.Machine.{actor_by, idle_actor}
 use Rattle.brc_model.specs.OpenWork.{is_about}
 use Rattle.brc_model.specs.Counting.{working}
 use Rattle.brc_model.specs.CountingLaws.{IsUnfinalised}
-use Rattle.brc_model.specs.SlotLaws.{SlotUse, Stays, Takes, Gives, use_of}
+use Rattle.brc_model.specs.FieldLaws.{FieldUse, Stays, Takes, Gives, use_of}
 use Rattle.brc_model.specs.Ranges.{cells_named}
 use Rattle.brc_table.specs.declared.view.View.{View}
 use Rattle.brc_model.specs.declared.event.WordEvent.{WordEvent}
@@ -53,8 +53,8 @@ abbrev pub behind_first : List ℕ → List ℕ
 behind_first [] = []
 behind_first (x ∷ rows) = rows
 
--- the rows whose slots the hand has taken, after a duty of its own
-abbrev pub taken_after : List ℕ → SlotUse → List ℕ
+-- the rows whose fields the hand has taken, after a duty of its own
+abbrev pub taken_after : List ℕ → FieldUse → List ℕ
 taken_after rows Stays = rows
 taken_after rows (Takes x) = x ∷ rows
 taken_after rows (Gives x) = behind_first rows
@@ -154,9 +154,9 @@ bearing v word =
 abbrev pub asking : View → ℕ → View
 asking v x = first_of_all (KindLoad x) v
 
--- the hand begins to lock the row's object, whose slot holds n resources
+-- the hand begins to lock the row's object, whose field holds n resources
 abbrev pub locking : View → ℕ → ℕ → View
-locking v x n = record (first_of_all (LockGate x) v) { in_slot = n }
+locking v x n = record (first_of_all (LockGate x) v) { in_field = n }
 
 -- the hand begins to unlock the row's object, or to load a cell of it
 
@@ -187,23 +187,23 @@ loading_marks v w = with_next v (MarksLoad w ∷ [])
 abbrev pub leaving : View → View
 leaving v = with_next v (Leave 0 v.actor.used ∷ [])
 
--- ---- slots
+-- ---- fields
 
--- The hand has put the resource into the slot of the new object, if that has one: by this no word changes.
-abbrev pub slot_filled_by : List Duty → View → View
-slot_filled_by (BirthSlot x h ∷ rest) v = with_next v (BirthLocal x h ∷ rest)
-slot_filled_by _ v = v
+-- The hand has put the resource into the field of the new object, if that has one: by this no word changes.
+abbrev pub field_filled_by : List Duty → View → View
+field_filled_by (BirthField x h ∷ rest) v = with_next v (BirthLocal x h ∷ rest)
+field_filled_by _ v = v
 
-abbrev pub slot_filled : View → View
-slot_filled v = slot_filled_by v.actor.agenda v
+abbrev pub field_filled : View → View
+field_filled v = field_filled_by v.actor.agenda v
 
--- The hand has taken the resource out of the slot of the dying object, if that has one, and the host has closed it.
-abbrev pub slot_emptied_by : List Duty → View → View
-slot_emptied_by (TakeSlot x ∷ rest) v = with_next v (SettleEnd x ∷ rest)
-slot_emptied_by _ v = v
+-- The hand has taken the resource out of the field of the dying object, if that has one, and the host has closed it.
+abbrev pub field_emptied_by : List Duty → View → View
+field_emptied_by (TakeField x ∷ rest) v = with_next v (SettleEnd x ∷ rest)
+field_emptied_by _ v = v
 
-abbrev pub slot_emptied : View → View
-slot_emptied v = slot_emptied_by v.actor.agenda v
+abbrev pub field_emptied : View → View
+field_emptied v = field_emptied_by v.actor.agenda v
 
 -- ---- the hands that main has given out
 
@@ -239,7 +239,7 @@ fresh_view layout thread used = record {
   actor = idle_actor used;
   references = root_row ∷ [];
   taken = [];
-  in_slot = 0;
+  in_field = 0;
   given = [];
   joined = [];
   trace = [];

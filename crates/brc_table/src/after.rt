@@ -1,7 +1,7 @@
 //! What a hand keeps after a duty: its thread's chain, used rows and status, by the word found.
 //!
-//! Some duties have calls of their own: those whose call tells more than the word found (`LockGate`, `CellSwap`), and
-//! those on slots and resources, which have no word in the table.
+//! Some duties have calls of their own: those that return more than the word found (`LockGate`, `CellSwap`), and
+//! those on fields and resources, which have no word in the table.
 
 ghost use Rattle.std.specs.Prelude.{◌≡◌, ◌-◌, ◌<◌, ◌^◌, ℕ};
 ghost use Rattle.brc_model.specs.declared.layout.Layout.{Layout};

@@ -88,7 +88,7 @@ impl<T: Drop> Words<T> {
             ≡ slice_set hand.old.carried (carried_place hand.old.view.layout row) carried }
         ensures row { carried_of hand.new row ≡ carried }
         ensures same { (hand.new.table ≡ hand.old.table) × (hand.new.view ≡ hand.old.view)
-            × (hand.new.slots ≡ hand.old.slots) }
+            × (hand.new.fields ≡ hand.old.fields) }
     {
         self.layout_is_plain();
         let (_, index) = self.blocks.locate(row);

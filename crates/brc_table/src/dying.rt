@@ -4,14 +4,14 @@
 
 ghost use Rattle.std.specs.Prelude.{◌≡◌, ◌≢◌, ◌<◌};
 ghost use Rattle.brc_model.specs.declared.actor.Status.TheVariants.{Gone};
-ghost use Rattle.brc_table.specs.Views.{view_after, settling, slot_emptied};
+ghost use Rattle.brc_table.specs.Views.{view_after, settling, field_emptied};
 ghost use Rattle.brc_table.specs.Hands.{IsOf, KeepsButView};
-ghost use Rattle.brc_table.specs.Uses.{FirstSlot, behind_slot};
+ghost use Rattle.brc_table.specs.Uses.{FirstField, behind_field};
 ghost use Rattle.brc_table.specs.Calls.{MaySettle, ClosesRow};
 
 use crate::hand::Hand;
 use crate::words::Words;
-use brc_model::{Duty, duties_are_kept, needed_slots_are_unlocked, settles_begin};
+use brc_model::{Duty, duties_are_kept, needed_fields_are_unlocked, settles_begin};
 use std::marker::Brand;
 
 impl<T: Drop> Words<T> {
@@ -29,7 +29,7 @@ impl<T: Drop> Words<T> {
         self.step_from::<Brand>(hand, &Duty::Settle)
     }
 
-    /// Does the next duty: closes the dying object, and gives its slot back, which has to be empty. Returns the gate
+    /// Does the next duty: closes the dying object, and gives its field back, which has to be empty. Returns the gate
     /// found, which says who deallocates the object.
     ///
     /// The step is a swap, since no duty knows what the gate said of the rest of the chain.
@@ -38,15 +38,15 @@ impl<T: Drop> Words<T> {
         requires table { IsOf self.now hand.old }
         requires alive { hand.old.view.actor.status ≢ Gone }
         requires duty { ClosesRow row hand.old.view.actor.agenda }
-        requires slot { FirstSlot hand.old.slots row 0 }
+        requires field { FirstField hand.old.fields row 0 }
         ensures table { hand.new.table ≡ hand.old.table }
         ensures carried { hand.new.carried ≡ hand.old.carried }
-        ensures view { hand.new.view ≡ view_after (slot_emptied hand.old.view) result }
-        ensures slots { hand.new.slots ≡ behind_slot hand.old.slots }
+        ensures view { hand.new.view ≡ view_after (field_emptied hand.old.view) result }
+        ensures fields { hand.new.fields ≡ behind_field hand.old.fields }
     {
         duties_are_kept();
-        needed_slots_are_unlocked();
-        hand.slots_are_taken();
+        needed_fields_are_unlocked();
+        hand.fields_are_taken();
         hand.rows_are_there();
         self.step_from::<Brand>(hand, &Duty::SettleEnd { row })
     }

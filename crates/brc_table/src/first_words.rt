@@ -160,7 +160,7 @@ fn put(words: &mut Vec<u64>, cells: Cells, address: Address, word: u64)
 /// Returns the words of a table before any step, but for those of immortal lists and of their numbers, or `AllocError`
 /// if memory is refused.
 ///
-/// No row of the second tile is born, and each tile behind it has the same words.
+/// No row of the second tile is born, and each later tile has the same words.
 fn plain_words(alloc: Global, layout: Layout) -> Result<Vec<u64>, AllocError>
     ensures { IfOk result (λ words. ArePlain layout words.items) }
 {

@@ -2,7 +2,7 @@
 
 ghost use Rattle.std.specs.Prelude.{◌≡◌, ◌<◌};
 ghost use Rattle.brc_model.specs.Machine.{is_running};
-ghost use Rattle.brc_table.specs.Uses.{slot_rows};
+ghost use Rattle.brc_table.specs.Uses.{field_rows};
 ghost use Rattle.brc_table.specs.Views.{RowsAreThere, is_given};
 
 use crate::carried::{Carried, Spare, is_spent};
@@ -43,7 +43,7 @@ impl<T> Model for Hand<T> {
       table = h.seat.table_id;
       view = h.seat.me.0;
       carried = h.carried.value;
-      slots = held_in h.seat.me.1;
+      fields = held_in h.seat.me.1;
     } };
 
     ghost invariant = { λ h. (rows_of h.seat.me.1 ≡ h.seat.me.0.taken)
@@ -93,9 +93,9 @@ impl<T> Hand<T> {
         is_spent(self.spares.as_slice(), thread)
     }
 
-    /// States that the hand has taken the slots that its view lists.
-    pub fn slots_are_taken(&self)
-        ensures { slot_rows self.now.slots ≡ self.now.view.taken }
+    /// States that the hand has taken the fields that its view lists.
+    pub fn fields_are_taken(&self)
+        ensures { field_rows self.now.fields ≡ self.now.view.taken }
     {
         let _opened = self.thread;
     }

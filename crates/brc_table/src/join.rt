@@ -36,13 +36,13 @@ impl<E: Ended> Join<View> for Joins<E> {
 }
 
 impl<T: Drop> Words<T> {
-    /// Joins a hand whose thread is gone, and which has taken no slot: the other hand keeps what is known of that
+    /// Joins a hand whose thread is gone, and which has taken no field: the other hand keeps what is known of that
     /// thread. No word changes.
     pub fn join(&self, hand: &mut Hand<T>, gone: Hand<T>)
         requires table { IsOf self.now hand.old }
         requires other_table { IsOf self.now gone }
         requires gone { gone.view.actor.status ≡ Gone }
-        requires no_slot { gone.slots ≡ [] }
+        requires no_field { gone.fields ≡ [] }
         ensures kept { KeepsButView hand.old hand.new }
         ensures view { hand.new.view ≡ joining hand.old.view gone.view }
     {
@@ -55,7 +55,7 @@ impl<T: Drop> Words<T> {
         requires table { IsOf self.now hand.old }
         requires other_table { IsOf self.now gone }
         requires gone { gone.view.actor.status ≡ Gone }
-        requires no_slot { gone.slots ≡ [] }
+        requires no_field { gone.fields ≡ [] }
         ensures kept { KeepsButView hand.old hand.new }
         ensures view { hand.new.view ≡ joining hand.old.view gone.view }
     {

@@ -16,8 +16,8 @@ use std::marker::Brand;
 impl<T: Drop> Words<T> {
     /// Asks for the kind of an object that the hand holds, borrows from the list that it has locked, or is to finalise
     /// as the first of its dying chain: loads its kind word, which its birth stored. The word is the one that the hand
-    /// has seen there before, if it has. If the hand has locked the object, the kind says whether the object's slot has
-    /// a resource. Of an object that was there from the start it is the first one.
+    /// has seen there before, if it has. If the hand has locked the object, the kind says whether the object's field has
+    /// a resource. If the object was there from the start, the word is its first one.
     #[inline(always)]
     pub fn kind_load(&self, hand: &mut Hand<T>, row: u32) -> u64
         requires table { IsOf self.now hand.old }
@@ -27,7 +27,7 @@ impl<T: Drop> Words<T> {
         ensures kept { KeepsButView hand.old hand.new }
         ensures view { hand.new.view ≡ view_after (asking hand.old.view row) result }
         ensures stays { (word : ℕ) → 0 < word → knows_kind row word hand.old.view ≡ true → result ≡ word }
-        ensures slot { hand.old.view.actor.locked ≡ Some row → hand.old.view.in_slot ≡ resources_of result }
+        ensures field { hand.old.view.actor.locked ≡ Some row → hand.old.view.in_field ≡ resources_of result }
         ensures first { 0 < first_kind_word self.now.lines self.now.layout row
             → result ≡ first_kind_word self.now.lines self.now.layout row }
     {

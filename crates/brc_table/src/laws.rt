@@ -6,13 +6,13 @@ ghost use Rattle.brc_table.specs.Plan.{Plan};
 ghost use Rattle.brc_table.specs.declared.view.View.{View};
 ghost use Rattle.brc_table.specs.Rule.{Stands};
 ghost use Rattle.brc_table.specs.Agreeing.{AgreesInTable};
-ghost use Rattle.brc_table.specs.Ending.{FirstKindsStay, RowsEnd, SeenEndsAreSo, SlotsEnd};
+ghost use Rattle.brc_table.specs.Ending.{FirstKindsStay, RowsEnd, SeenEndsAreSo, FieldsEnd};
 ghost use Rattle.brc_table.specs.Joining.{JoinedHandsAreGone};
-ghost use Rattle.brc_table.specs.Guarding.{SetMarksAreWatched, OnlyHoldersChangeCells, OnlyHoldersSwapCells, OnlyRunningOwnersCount, GoneHandsHoldNothing, GoneWordsTell, HandsAreStarted, ViewsKeepTheLayout, RootIsAList, TakenSlotsAreAlone};
+ghost use Rattle.brc_table.specs.Guarding.{SetMarksAreWatched, OnlyHoldersChangeCells, OnlyHoldersSwapCells, OnlyRunningOwnersCount, GoneHandsHoldNothing, GoneWordsTell, HandsAreStarted, ViewsKeepTheLayout, RootIsAList, TakenFieldsAreAlone};
 
 use brc_model::{
-    accounts_are_there, cells_are_guarded, cells_hold, counts_agree, gone_threads_hold_nothing,
-    owners_count_alone, queued_marks_are_watched, rows_end, slots_end,
+    accounts_are_there, cells_are_guarded, cells_hold, counts_agree, fields_end,
+    gone_threads_hold_nothing, owners_count_alone, queued_marks_are_watched, rows_end,
 };
 
 /// States that in each table, between any two steps of any threads, the counts of every counted object add up to the
@@ -51,7 +51,7 @@ pub fn only_running_owners_count()
     owners_count_alone();
 }
 
-/// States that a hand whose thread is gone holds no reference, lock, slot, duty or chain.
+/// States that a hand whose thread is gone holds no reference, lock, field, duty or chain.
 pub fn gone_hands_hold_nothing<T>()
     ensures { GoneHandsHoldNothing T }
 {
@@ -91,9 +91,9 @@ pub fn first_kinds_stay()
     ensures { FirstKindsStay }
 {}
 
-/// States that while a row's slot is out of the table, one hand has taken it, and uses it, and no other has.
-pub fn taken_slots_are_alone<T>()
-    ensures { TakenSlotsAreAlone T }
+/// States that while a row's field is out of the table, one hand has taken it, and uses it, and no other has.
+pub fn taken_fields_are_alone<T>()
+    ensures { TakenFieldsAreAlone T }
 {}
 
 /// States that once each thread is gone or was never started, exactly the born objects that no cell of an open list
@@ -109,11 +109,11 @@ pub fn seen_ends_are_so()
     ensures { SeenEndsAreSo }
 {}
 
-/// States that once each thread is gone or was never started, the slot of a closed object is empty, and that of each
+/// States that once each thread is gone or was never started, the field of a closed object is empty, and that of each
 /// other row has its object's resource, if its kind has one.
-pub fn slots_end_in_every_table()
-    ensures { SlotsEnd }
+pub fn fields_end_in_every_table()
+    ensures { FieldsEnd }
 {
-    slots_end();
+    fields_end();
     gone_threads_hold_nothing();
 }

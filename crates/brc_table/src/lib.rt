@@ -9,6 +9,7 @@ mod cells;
 mod closed;
 mod dying;
 mod exits;
+mod fields;
 mod first_words;
 mod hand;
 mod join;
@@ -22,7 +23,6 @@ mod plan;
 mod references;
 mod rule;
 mod size;
-mod slots;
 mod split;
 mod step;
 mod view;
@@ -32,10 +32,10 @@ mod work;
 pub use closed::Closed;
 pub use hand::Hand;
 pub use laws::{
-    counts_agree_in_every_table, first_kinds_stay, gone_hands_hold_nothing, gone_words_tell,
-    hands_are_started, joined_hands_are_gone, only_holders_change_cells, only_running_owners_count,
-    root_is_a_list, rows_end_in_every_table, seen_ends_are_so, set_marks_are_watched,
-    slots_end_in_every_table, taken_slots_are_alone, views_keep_the_layout,
+    counts_agree_in_every_table, fields_end_in_every_table, first_kinds_stay,
+    gone_hands_hold_nothing, gone_words_tell, hands_are_started, joined_hands_are_gone,
+    only_holders_change_cells, only_running_owners_count, root_is_a_list, rows_end_in_every_table,
+    seen_ends_are_so, set_marks_are_watched, taken_fields_are_alone, views_keep_the_layout,
 };
 pub use plan::Plan;
 pub use rule::Counting;

@@ -8,7 +8,7 @@ ghost use Rattle.brc_model.specs.Layout.{row_count};
 ghost use Rattle.brc_table.specs.Views.{view_after, locking, unlocking};
 ghost use Rattle.brc_table.specs.KnownWords.{knows_kind};
 ghost use Rattle.brc_table.specs.Plays.{overwritten};
-ghost use Rattle.brc_table.specs.Uses.{FirstSlot, behind_slot};
+ghost use Rattle.brc_table.specs.Uses.{FirstField, behind_field};
 ghost use Rattle.brc_table.specs.Hands.{IsOf, IsRunning, HoldsOne, HasNoWork, HasNoRetain};
 
 use crate::hand::Hand;
@@ -23,8 +23,8 @@ use std::marker::Brand;
 
 impl<T: Drop> Words<T> {
     /// Tries once to lock an object that the hand holds: exchanges its gate, if it is free, for one that names the
-    /// hand's thread, and takes the object's slot with it. Returns the gate found, 1 if it was free. If the hand has
-    /// seen the object's kind, it knows whether the slot has a resource.
+    /// hand's thread, and takes the object's field with it. Returns the gate found, 1 if it was free. If the hand has
+    /// seen the object's kind, it knows whether the field has a resource.
     pub fn gate_lock(&self, hand: &mut Hand<T>, row: u32) -> u64
         requires table { IsOf self.now hand.old }
         requires running { IsRunning hand.old.view }
@@ -33,11 +33,11 @@ impl<T: Drop> Words<T> {
         requires unlocked { hand.old.view.actor.locked ≡ None }
         ensures table { hand.new.table ≡ hand.old.table }
         ensures carried { hand.new.carried ≡ hand.old.carried }
-        ensures view { hand.new.view ≡ view_after (locking hand.old.view row hand.new.view.in_slot) result }
-        ensures slots { hand.new.slots
-            ≡ (if result == free_word then (row, hand.new.view.in_slot) ∷ hand.old.slots else hand.old.slots) }
+        ensures view { hand.new.view ≡ view_after (locking hand.old.view row hand.new.view.in_field) result }
+        ensures fields { hand.new.fields
+            ≡ (if result == free_word then (row, hand.new.view.in_field) ∷ hand.old.fields else hand.old.fields) }
         ensures kind { (word : ℕ) → result ≡ free_word → 0 < word
-            → knows_kind row word hand.old.view ≡ true → hand.new.view.in_slot ≡ resources_of word }
+            → knows_kind row word hand.old.view ≡ true → hand.new.view.in_field ≡ resources_of word }
     {
         self.layout_is_plain();
         hand.rows_are_there();
@@ -45,7 +45,7 @@ impl<T: Drop> Words<T> {
         self.lock_gate::<Brand>(hand, row, gate)
     }
 
-    /// Unlocks the object that the hand has locked: stores that its gate is free, and gives the object's slot back,
+    /// Unlocks the object that the hand has locked: stores that its gate is free, and gives the object's field back,
     /// which has to hold what it held when the hand took it.
     #[inline(always)]
     pub fn gate_unlock(&self, hand: &mut Hand<T>, row: u32)
@@ -55,12 +55,12 @@ impl<T: Drop> Words<T> {
         requires idle { HasNoWork hand.old.view row }
         requires locked { hand.old.view.actor.locked ≡ Some row }
         requires retains { HasNoRetain hand.old.view }
-        requires slot { FirstSlot hand.old.slots row hand.old.view.in_slot }
+        requires field { FirstField hand.old.fields row hand.old.view.in_field }
         ensures table { hand.new.table ≡ hand.old.table }
         ensures carried { hand.new.carried ≡ hand.old.carried }
         ensures view { hand.new.view ≡ view_after (unlocking hand.old.view row)
             (overwritten (unlocking hand.old.view row)) }
-        ensures slots { hand.new.slots ≡ behind_slot hand.old.slots }
+        ensures fields { hand.new.fields ≡ behind_field hand.old.fields }
     {
         work_is_put_aside();
         unlocks_begin();
@@ -71,8 +71,8 @@ impl<T: Drop> Words<T> {
     }
 
     /// Tries to lock the row that the type names: exchanges its gate, if it is free, for one that names the hand's
-    /// thread, and then takes the row's slot. Returns the gate found. If the hand has seen the object's kind, it knows
-    /// whether the slot has a resource.
+    /// thread, and then takes the row's field. Returns the gate found. If the hand has seen the object's kind, it knows
+    /// whether the field has a resource.
     fn lock_gate<R: OfRow>(&self, hand: &mut Hand<T>, row: u32, gate: u64) -> u64
         requires row { row ≡ R.target }
         requires table { IsOf self.now hand.old }
@@ -84,11 +84,11 @@ impl<T: Drop> Words<T> {
         requires gate { gate ≡ locked_word hand.old.view.thread }
         ensures table { hand.new.table ≡ hand.old.table }
         ensures carried { hand.new.carried ≡ hand.old.carried }
-        ensures view { hand.new.view ≡ view_after (locking hand.old.view row hand.new.view.in_slot) result }
-        ensures slots { hand.new.slots
-            ≡ (if result == free_word then (row, hand.new.view.in_slot) ∷ hand.old.slots else hand.old.slots) }
+        ensures view { hand.new.view ≡ view_after (locking hand.old.view row hand.new.view.in_field) result }
+        ensures fields { hand.new.fields
+            ≡ (if result == free_word then (row, hand.new.view.in_field) ∷ hand.old.fields else hand.old.fields) }
         ensures kind { (word : ℕ) → result ≡ free_word → 0 < word
-            → knows_kind row word hand.old.view ≡ true → hand.new.view.in_slot ≡ resources_of word }
+            → knows_kind row word hand.old.view ≡ true → hand.new.view.in_field ≡ resources_of word }
     {
         work_is_put_aside();
         locks_begin();

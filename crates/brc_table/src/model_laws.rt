@@ -3,9 +3,9 @@
 ghost use Rattle.brc_table.specs.ModelLaws.{ModelLaws};
 
 use brc_model::{
-    accounts_are_there, chains_are_there, duties_are_kept, duties_are_within,
-    given_slots_are_unlocked, guarded_cells_stay, handed_merges_live, locked_slots_are_full,
-    slots_are_free, slots_are_known,
+    accounts_are_there, chains_are_there, duties_are_kept, duties_are_within, fields_are_free,
+    fields_are_known, given_fields_are_unlocked, guarded_cells_stay, handed_merges_live,
+    locked_fields_are_full,
 };
 
 /// States these laws.
@@ -19,8 +19,8 @@ pub(crate) fn model_laws()
     chains_are_there();
     guarded_cells_stay();
     handed_merges_live();
-    locked_slots_are_full();
-    slots_are_free();
-    slots_are_known();
-    given_slots_are_unlocked();
+    locked_fields_are_full();
+    fields_are_free();
+    fields_are_known();
+    given_fields_are_unlocked();
 }

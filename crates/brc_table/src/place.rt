@@ -60,7 +60,7 @@ fn in_marks(thread: u32, word: u32) -> usize
     MARKS_FRONT + MARK_ROOM * thread as usize + word as usize
 }
 
-/// A layout, and where its cells are: behind the tiles, as many for each row as a list may have.
+/// A layout, and where its cells are: after the tiles, as many for each row as a list may have.
 #[derive(Clone, Copy, Debug)]
 pub(crate) struct Cells {
     layout: Layout,
@@ -104,7 +104,7 @@ impl Cells {
         self.front + usize::from(self.layout.cells) * row as usize + cell as usize
     }
 
-    /// Returns the place of the word at the address. A slot and a resource have no word.
+    /// Returns the place of the word at the address. A field and a resource have no word.
     #[inline(always)]
     pub(crate) fn place_at(self, address: Address) -> usize
         ensures { result ≡ place self address }
@@ -117,7 +117,7 @@ impl Cells {
             Address::Marks { thread, word } => in_marks(thread, word),
             Address::Cell { row, cell } => self.place(row, cell),
             Address::ThreadWord { thread } => thread as usize,
-            Address::Slot { .. } | Address::Resource { .. } => 0,
+            Address::Field { .. } | Address::Resource { .. } => 0,
         }
     }
 }

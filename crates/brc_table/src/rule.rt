@@ -9,7 +9,7 @@ use atomic_table::{Play, TableRule};
 use std::marker::{Brand, PhantomData};
 
 /// The rule of biased reference counting: words and views are those of a counting machine with the invariant, and a
-/// row's slot is with the one hand that uses it, or at home with the resource of the row's object.
+/// row's field is with the one hand that uses it, or at home with the resource of the row's object.
 pub struct Counting;
 
 impl<T> TableRule<Option<T>, View, Plan> for Counting {

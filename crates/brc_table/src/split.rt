@@ -85,7 +85,7 @@ impl<T: Drop> Words<T> {
         ensures worker_view { result.view ≡ worker_view self.now.layout thread }
         ensures kept { KeepsButView main.old main.new }
         ensures none { CarriesNothing result }
-        ensures no_slot { result.slots ≡ [] }
+        ensures no_field { result.fields ≡ [] }
     {
         self.give_out::<Brand>(main, thread)
     }
@@ -101,7 +101,7 @@ impl<T: Drop> Words<T> {
         ensures worker_view { result.view ≡ worker_view self.now.layout thread }
         ensures kept { KeepsButView main.old main.new }
         ensures none { CarriesNothing result }
-        ensures no_slot { result.slots ≡ [] }
+        ensures no_field { result.fields ≡ [] }
     {
         references_are_handed_over();
         self.layout_is_plain();

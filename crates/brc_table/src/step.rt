@@ -6,15 +6,15 @@ ghost use Rattle.atomic_table.specs.Table.{State, Allows};
 ghost use Rattle.brc_model.specs.declared.actor.Status.TheVariants.{Gone};
 ghost use Rattle.brc_model.specs.Duties.{address_of};
 ghost use Rattle.brc_table.specs.Places.{HasWord};
-ghost use Rattle.brc_model.specs.SlotLaws.{use_of};
+ghost use Rattle.brc_model.specs.FieldLaws.{use_of};
 ghost use Rattle.brc_model.specs.Stores.{Overwrites};
 ghost use Rattle.brc_table.specs.declared.view.View.{View};
 ghost use Rattle.brc_table.specs.Views.{view_after};
 ghost use Rattle.brc_table.specs.Homes.{TableStands};
-ghost use Rattle.brc_table.specs.Plays.{SuitsFirst, FirstFindsOwner, FindsKnown, FindsFirst, overwritten};
+ghost use Rattle.brc_table.specs.Plays.{SuitsFirst, FirstFindsOwner, FindsKnown, overwritten};
 ghost use Rattle.brc_table.specs.Uses.{first_due, held_after};
 ghost use Rattle.brc_table.specs.Turns.{MayGoOn, turned_to};
-ghost use Rattle.brc_table.specs.DutySteps.{DueSlot, OverwritesFirst, StepsBy, said};
+ghost use Rattle.brc_table.specs.DutySteps.{DueField, OverwritesFirst, StepsBy, DutyDone, said};
 ghost use Rattle.brc_effect.specs.Accesses.{IfStored, left_by};
 ghost use Rattle.brc_effect.specs.Effects.{IsIndexed};
 ghost use Rattle.brc_table.specs.Accesses.{HasAccess, HasCell, HasChain, HasUsedRow, IsNext, row_of};
@@ -35,7 +35,7 @@ use std::marker::Brand;
 
 impl<T: Drop> Words<T> {
     /// Does the next duty, and returns the word found. A store returns the word that it overwrites, which the hand
-    /// knows. Of a thread that isn't started yet the word found is 1, as of one that runs.
+    /// knows. The word found of a thread that isn't started yet is 1, as if it ran.
     #[inline(always)]
     pub fn step(&self, hand: &mut Hand<T>, duty: Duty) -> u64
         requires table { IsOf self.now hand.old }
@@ -45,11 +45,11 @@ impl<T: Drop> Words<T> {
         requires chain { HasChain duty hand.old.view.actor.head }
         requires row { HasUsedRow duty hand.old.view.actor.used }
         requires next { IsNext duty hand.old.view.actor.agenda }
-        requires due { DueSlot (use_of duty 0) hand.old.slots hand.old.view }
+        requires due { DueField (use_of duty 0) hand.old.fields hand.old.view }
         ensures table { hand.new.table ≡ hand.old.table }
         ensures carried { hand.new.carried ≡ hand.old.carried }
-        ensures slots { hand.new.slots
-            ≡ held_after hand.old.slots (use_of duty 0) (first_due (duty ∷ []) result) }
+        ensures fields { hand.new.fields
+            ≡ held_after hand.old.fields (use_of duty 0) (first_due (duty ∷ []) result) }
         ensures view { hand.new.view ≡ view_after hand.old.view result }
         ensures overwrites { Overwrites hand.old.view.thread duty result }
         ensures suits { SuitsFirst hand.old.view hand.old.view.actor.agenda result }
@@ -72,11 +72,11 @@ impl<T: Drop> Words<T> {
         requires chain { HasChain duty hand.old.view.actor.head }
         requires row { HasUsedRow duty hand.old.view.actor.used }
         requires next { IsNext duty (turned_to work hand.old.view (row_of duty)).actor.agenda }
-        requires due { DueSlot (use_of duty 0) hand.old.slots (turned_to work hand.old.view (row_of duty)) }
+        requires due { DueField (use_of duty 0) hand.old.fields (turned_to work hand.old.view (row_of duty)) }
         ensures table { hand.new.table ≡ hand.old.table }
         ensures carried { hand.new.carried ≡ hand.old.carried }
-        ensures slots { hand.new.slots
-            ≡ held_after hand.old.slots (use_of duty 0) (first_due (duty ∷ []) result) }
+        ensures fields { hand.new.fields
+            ≡ held_after hand.old.fields (use_of duty 0) (first_due (duty ∷ []) result) }
         ensures view { hand.new.view ≡ view_after (turned_to work hand.old.view (row_of duty)) result }
         ensures overwrites { Overwrites hand.old.view.thread duty result }
         ensures suits { SuitsFirst (turned_to work hand.old.view (row_of duty))
@@ -107,18 +107,8 @@ impl<T: Drop> Words<T> {
         requires chain { HasChain duty.now hand.old.view.actor.head }
         requires indexed { IsIndexed duty.now }
         requires next { IsNext duty.now (B.begins hand.old.view).actor.agenda }
-        requires due { DueSlot (use_of duty.now 0) hand.old.slots (B.begins hand.old.view) }
-        ensures table { hand.new.table ≡ hand.old.table }
-        ensures carried { hand.new.carried ≡ hand.old.carried }
-        ensures slots { hand.new.slots
-            ≡ held_after hand.old.slots (use_of duty.now 0) (first_due (duty.now ∷ []) result) }
-        ensures view { hand.new.view ≡ view_after (B.begins hand.old.view) result }
-        ensures overwrites { Overwrites hand.old.view.thread duty.now result }
-        ensures suits { SuitsFirst (B.begins hand.old.view) (B.begins hand.old.view).actor.agenda result }
-        ensures owner { FirstFindsOwner (B.begins hand.old.view) (B.begins hand.old.view).actor.agenda result }
-        ensures finds { FindsKnown (B.begins hand.old.view) (B.begins hand.old.view).actor.agenda result }
-        ensures first { FindsFirst self.now.lines (B.begins hand.old.view) (B.begins hand.old.view).actor.agenda
-            result }
+        requires due { DueField (use_of duty.now 0) hand.old.fields (B.begins hand.old.view) }
+        ensures { DutyDone self.now.lines (B.begins hand.old.view) duty.now result hand.old hand.new }
     {
         self.step_from::<B>(hand, duty)
     }
@@ -136,18 +126,8 @@ impl<T: Drop> Words<T> {
         requires chain { HasChain duty.now hand.old.view.actor.head }
         requires indexed { IsIndexed duty.now }
         requires next { IsNext duty.now (B.begins hand.old.view).actor.agenda }
-        requires due { DueSlot (use_of duty.now 0) hand.old.slots (B.begins hand.old.view) }
-        ensures table { hand.new.table ≡ hand.old.table }
-        ensures carried { hand.new.carried ≡ hand.old.carried }
-        ensures slots { hand.new.slots
-            ≡ held_after hand.old.slots (use_of duty.now 0) (first_due (duty.now ∷ []) result) }
-        ensures view { hand.new.view ≡ view_after (B.begins hand.old.view) result }
-        ensures overwrites { Overwrites hand.old.view.thread duty.now result }
-        ensures suits { SuitsFirst (B.begins hand.old.view) (B.begins hand.old.view).actor.agenda result }
-        ensures owner { FirstFindsOwner (B.begins hand.old.view) (B.begins hand.old.view).actor.agenda result }
-        ensures finds { FindsKnown (B.begins hand.old.view) (B.begins hand.old.view).actor.agenda result }
-        ensures first { FindsFirst self.now.lines (B.begins hand.old.view) (B.begins hand.old.view).actor.agenda
-            result }
+        requires due { DueField (use_of duty.now 0) hand.old.fields (B.begins hand.old.view) }
+        ensures { DutyDone self.now.lines (B.begins hand.old.view) duty.now result hand.old hand.new }
     {
         model_laws();
         self.layout_is_plain();
@@ -158,7 +138,7 @@ impl<T: Drop> Words<T> {
         let access = access_of(self.blocks, *duty, hand.thread, hand.head);
         let word = self.operate::<B>(&mut hand.seat, index, access);
         let found = said_by(*duty, word);
-        // Computed behind the operation: a value from before it would be written back at each step.
+        // Computed after the operation: a value from before it would be written back at each step.
         let head = head_after(*duty, hand.head, found);
         let used = used_after(*duty, hand.used);
         let running = runs_after(*duty, hand.running);

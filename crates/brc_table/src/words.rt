@@ -1,12 +1,13 @@
 //! The words of all objects.
 
-ghost use Rattle.std.specs.Prelude.{◌≡◌, [], IfOk};
+ghost use Rattle.std.specs.Prelude.{◌≡◌, ◌+◌, [], IfOk};
 ghost use Rattle.brc_word.specs.Words.{mark_at};
-ghost use Rattle.brc_model.specs.Layout.{block_size, mark_bit, mark_words};
+ghost use Rattle.brc_model.specs.Layout.{block_size, first_immortal_list, mark_bit, mark_words};
 ghost use Rattle.brc_model.specs.Counting.{IsPlainLayout};
 ghost use Rattle.brc_model.specs.FirstRows.{HasLines};
 ghost use Rattle.brc_table.specs.Views.{main_view};
-ghost use Rattle.brc_table.specs.Hands.{IsOf, CarriesNothing};
+ghost use Rattle.brc_table.specs.Hands.{IsOf, CarriesNothing, plan_of};
+ghost use Rattle.brc_table.specs.Homes.{HoldsFirstWords};
 ghost use Rattle.brc_table.specs.Places.{word_count, FewFirstRows};
 
 use crate::carried::{nothing_carried, spares_of};
@@ -19,7 +20,7 @@ use crate::size::mark_words_of;
 use crate::view::View;
 use atomic_table::Table;
 use brc_effect::Blocks;
-use brc_effect::rows::{block_size, row_count};
+use brc_effect::rows::{block_size, immortal_list, row_count};
 use brc_lang::Sequence;
 use brc_model::{Layout, hands_begin};
 use brc_word::mark_at;
@@ -58,7 +59,8 @@ impl<T: Drop> Model for Words<T> {
 
 impl<T: Drop> Words<T> {
     /// Returns the words of a table with this layout, whose immortal lists have these lines, and main's hand, or
-    /// `AllocError` if memory is refused. Main holds the only reference to the root.
+    /// `AllocError` if memory is refused. Main holds the only reference to the root. `first` says which words the table
+    /// has at first, cells too: as long as main's hand is the only one and has made no step.
     pub fn new(
         alloc: Global,
         layout: Layout,
@@ -71,18 +73,19 @@ impl<T: Drop> Words<T> {
         ensures table { IfOk result (λ made. IsOf made.0 made.1) }
         ensures view { IfOk result (λ made. made.1.view ≡ main_view layout) }
         ensures none { IfOk result (λ made. CarriesNothing made.1) }
-        ensures no_slot { IfOk result (λ made. made.1.slots ≡ []) }
+        ensures no_field { IfOk result (λ made. made.1.fields ≡ []) }
+        ensures first { IfOk result (λ made. HoldsFirstWords T (plan_of made.0) made.1.view) }
     {
         hands_begin();
         let words = first_words(alloc, layout, lines.as_slice())?;
         let spares = spares_of(alloc, layout.workers)?;
         let carried = nothing_carried(alloc)?;
-        let slots = row_count(layout);
+        let fields = row_count(layout);
         let plan = Plan {
             layout,
             lines: Snapshot::of(lines),
         };
-        let (table, seat) = Table::vacant(alloc, words.as_slice(), slots, &plan)?;
+        let (table, seat) = Table::vacant(alloc, words.as_slice(), fields, &plan)?;
         let main = Hand {
             seat,
             thread: 0,
@@ -125,6 +128,14 @@ impl<T: Drop> Words<T> {
         ensures { result ≡ mark_at found (mark_bit self.now.layout row) }
     {
         mark_at(found, self.blocks.mark_bit(row))
+    }
+
+    /// Returns the row of the static list with this number, from 0.
+    pub fn static_list(&self, number: u8) -> u32
+        ensures { result ≡ first_immortal_list self.now.layout + number }
+    {
+        self.layout_is_plain();
+        immortal_list(self.blocks.layout(), number)
     }
 
     /// Returns how many workers there are.

@@ -10,7 +10,7 @@ use Rattle.brc_word.specs.declared.values.TheConstants.{SET}
 use Rattle.brc_word.specs.Words.{marks_of_word, mark_at}
 use Rattle.brc_model.specs.declared.layout.Layout.{Layout}
 use Rattle.brc_model.specs.Layout.{row_at}
-use Rattle.brc_trace.proofs.Naming.{same_test, other_test}
+use Rattle.std.proofs.lemmas.Bool.{eq-eqb, ne_eqb}
 use Rattle.brc_trace.specs.WordTexts.{row_text, rows_set, rows_text, rows_or_none}
 
 abbrev pub has_some : List ℕ → Bool
@@ -72,7 +72,7 @@ module _ (layout : Layout) (t w word : ℕ) where
       let each : ℕ → ℕ = λ bit. row_at layout t (marks_of_word * w + bit) in
       rows_more n
       ∙ ap (λ (b : Bool). rows_set layout t w word n ++ map each (cond b (n ∷ []) []))
-      (same_test (mark_at word n) SET set)
+      (eq-eqb (mark_at word n) SET set)
 
   -- A clear mark adds no row.
   pub row_same : (n : ℕ) → mark_at word n ≢ SET
@@ -81,7 +81,7 @@ module _ (layout : Layout) (t w word : ℕ) where
       let each : ℕ → ℕ = λ bit. row_at layout t (marks_of_word * w + bit) in
       rows_more n
       ∙ ap (λ (b : Bool). rows_set layout t w word n ++ map each (cond b (n ∷ []) []))
-      (other_test (mark_at word n) SET clear)
+      (ne_eqb (mark_at word n) SET clear)
       ∙ append-nil (rows_set layout t w word n)
 
   -- The text of the marks before a set mark, and that mark's text behind it, are the text of the marks so far.

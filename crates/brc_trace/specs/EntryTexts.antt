@@ -32,7 +32,7 @@ gap = codes "  "
 abbrev pub painted : Paint → Role → List ℕ → List ℕ
 painted paint part text = mark_text paint part ++ text ++ reset_text paint
 
--- the word of the step; slots and resources are none
+-- the word of the step; fields and resources are none
 abbrev pub found_text : Paint → Layout → Duty → Address → ℕ → ℕ → List ℕ
 found_text paint layout d address found left =
     if is_word address then gap ++ painted paint roles.Word (word_text layout d address found left) else []

@@ -14,7 +14,7 @@ module _ (memory : Address → ℕ) (layout : Layout) (t : ℕ) (running : Bool)
       → Goes memory layout t running head d found left next moves → Rule
   named d found left next moves (steps.KindOfResource _ _ _ _ _) = names.KindOfResource
   named d found left next moves (steps.KindOfOther _ _ _ _ _) = names.KindOfOther
-  named d found left next moves (steps.SlotFilled _ _ _) = names.SlotFilled
+  named d found left next moves (steps.FieldFilled _ _ _) = names.FieldFilled
   named d found left next moves (steps.Born _ _ _) = names.Born
   named d found left next moves (steps.KindRead _ _) = names.KindRead
   named d found left next moves (steps.Locks _ _ _) = names.Locks
@@ -62,7 +62,7 @@ module _ (memory : Address → ℕ) (layout : Layout) (t : ℕ) (running : Bool)
   named d found left next moves (steps.DyingResource _ _ _) = names.DyingResource
   named d found left next moves (steps.DyingCells _ _ _) = names.DyingCells
   named d found left next moves (steps.CellEmptied _ _ _ _) = names.CellEmptied
-  named d found left next moves (steps.SlotEmptied _ _) = names.SlotEmptied
+  named d found left next moves (steps.FieldEmptied _ _) = names.FieldEmptied
   named d found left next moves (steps.ResourceClosed _ _) = names.ResourceClosed
   named d found left next moves (steps.Closes _ _) = names.Closes
   named d found left next moves (steps.SaysLeaving _ _ _) = names.SaysLeaving

@@ -7,19 +7,19 @@ use Rattle.brc_word.specs.Words.{most_local, local_part, is_immortal_word, fresh
 use Rattle.brc_model.specs.declared.duty.Reason.{Reason}
 use Rattle.brc_model.specs.declared.duty.Reason.TheVariants.{Own, Handed}
 use Rattle.brc_model.specs.declared.duty.Duty.{Duty}
-use Rattle.brc_model.specs.declared.duty.Duty.TheVariants.{RetainLoad, RetainStore, RetainAdd, ReleaseLoad, ReleaseStore, DecideAtZero, SharedLoad, SharedExchange, SetMark, Look, TakeMark, MergeSwap, MergeLoad, MergeExchange, Die, Settle, SettleKind, SettleCell, TakeSlot, CloseResource, SettleEnd, Leave, Scan, TakeFound, Finish, ClaimMark, MarksLoad, BirthKind, BirthSlot, BirthLocal, KindLoad, LockGate, UnlockGate, CellLoad, CellSwap, LendSlot, ReturnSlot}
+use Rattle.brc_model.specs.declared.duty.Duty.TheVariants.{RetainLoad, RetainStore, RetainAdd, ReleaseLoad, ReleaseStore, DecideAtZero, SharedLoad, SharedExchange, SetMark, Look, TakeMark, MergeSwap, MergeLoad, MergeExchange, Die, Settle, SettleKind, SettleCell, TakeField, CloseResource, SettleEnd, Leave, Scan, TakeFound, Finish, ClaimMark, MarksLoad, BirthKind, BirthField, BirthLocal, KindLoad, LockGate, UnlockGate, CellLoad, CellSwap, LendField, ReturnField}
 use Rattle.brc_model.specs.declared.state.Exit.TheVariants.{Success, Fault}
 use Rattle.brc_model.specs.Duties.{counts_locally, has_resource}
 use Rattle.brc_machine.specs.declared.sight.Event.{Event}
 use Rattle.brc_machine.specs.declared.sight.Event.TheVariants as events
 use Rattle.brc_trace.specs.declared.rule.Rule.{Rule}
-use Rattle.brc_trace.specs.declared.rule.Rule.TheVariants.{KindOfResource, KindOfOther, SlotFilled, Born, KindRead, Locks, LockHeld, Unlocks}
+use Rattle.brc_trace.specs.declared.rule.Rule.TheVariants.{KindOfResource, KindOfOther, FieldFilled, Born, KindRead, Locks, LockHeld, Unlocks}
 use Rattle.brc_trace.specs.declared.rule.Rule.TheVariants.{CellRead, ItemStored, ResourceLent, ResourceReturned, RetainsImmortal, OwnerRetains, FullOwnerRetains, OtherRetains}
 use Rattle.brc_trace.specs.declared.rule.Rule.TheVariants.{LocalRaised, SharedRaised, ReleasesImmortal, OwnerReleases, OtherReleases, LocalLowered, LocalReachesZero, NothingShared}
 use Rattle.brc_trace.specs.declared.rule.Rule.TheVariants.{WasShared, SharedRead, Queues, Decrements, DecrementsToZero, ExchangeLost, Marked, OwnerRuns}
 use Rattle.brc_trace.specs.declared.rule.Rule.TheVariants.{OwnerExits, MarkTakenBack, MarkGone, MarksLooked, MarkClaimed, NothingToClaim, NobodysCount, LocalTakenOut, MergeRead}
 use Rattle.brc_trace.specs.declared.rule.Rule.TheVariants.{Merges, MergesToZero, MergesForHanded, MergeLost, Chained, ChainRead, DyingResource, DyingCells}
-use Rattle.brc_trace.specs.declared.rule.Rule.TheVariants.{CellEmptied, SlotEmptied, ResourceClosed, Closes, SaysLeaving, MarksRead, FoundMarkTaken, FoundMarkGone, SaysGone}
+use Rattle.brc_trace.specs.declared.rule.Rule.TheVariants.{CellEmptied, FieldEmptied, ResourceClosed, Closes, SaysLeaving, MarksRead, FoundMarkTaken, FoundMarkGone, SaysGone}
 use Rattle.brc_trace.specs.declared.rule.Rule.TheVariants.{Silent, HostAnswers, HostFaults}
 
 -- ---- names
@@ -27,7 +27,7 @@ use Rattle.brc_trace.specs.declared.rule.Rule.TheVariants.{Silent, HostAnswers, 
 abbrev pub rule_name : Rule → List ℕ
 rule_name KindOfResource = codes "KindOfResource"
 rule_name KindOfOther = codes "KindOfOther"
-rule_name SlotFilled = codes "SlotFilled"
+rule_name FieldFilled = codes "FieldFilled"
 rule_name Born = codes "Born"
 rule_name KindRead = codes "KindRead"
 rule_name Locks = codes "Locks"
@@ -75,7 +75,7 @@ rule_name ChainRead = codes "ChainRead"
 rule_name DyingResource = codes "DyingResource"
 rule_name DyingCells = codes "DyingCells"
 rule_name CellEmptied = codes "CellEmptied"
-rule_name SlotEmptied = codes "SlotEmptied"
+rule_name FieldEmptied = codes "FieldEmptied"
 rule_name ResourceClosed = codes "ResourceClosed"
 rule_name Closes = codes "Closes"
 rule_name SaysLeaving = codes "SaysLeaving"
@@ -116,15 +116,15 @@ merge_rule Handed word found left = if found == word then MergesForHanded else M
 -- Returns the rule by which thread t does the duty.
 abbrev pub rule_of : ℕ → Bool → Duty → ℕ → ℕ → Rule
 rule_of t running (BirthKind x h w) found left = if has_resource w then KindOfResource else KindOfOther
-rule_of t running (BirthSlot x h) found left = SlotFilled
+rule_of t running (BirthField x h) found left = FieldFilled
 rule_of t running (BirthLocal x h) found left = Born
 rule_of t running (KindLoad x) found left = KindRead
 rule_of t running (LockGate x) found left = if found == free_word then Locks else LockHeld
 rule_of t running (UnlockGate x) found left = Unlocks
 rule_of t running (CellLoad x i) found left = CellRead
 rule_of t running (CellSwap x i y h) found left = ItemStored
-rule_of t running (LendSlot x) found left = ResourceLent
-rule_of t running (ReturnSlot x) found left = ResourceReturned
+rule_of t running (LendField x) found left = ResourceLent
+rule_of t running (ReturnField x) found left = ResourceReturned
 rule_of t running (RetainLoad x h) found left = retain_rule t running found
 rule_of t running (RetainStore x h w) found left = LocalRaised
 rule_of t running (RetainAdd x h) found left = SharedRaised
@@ -145,7 +145,7 @@ rule_of t running (Die x) found left = Chained
 rule_of t running Settle found left = ChainRead
 rule_of t running (SettleKind x) found left = if has_resource found then DyingResource else DyingCells
 rule_of t running (SettleCell x i n) found left = CellEmptied
-rule_of t running (TakeSlot x) found left = SlotEmptied
+rule_of t running (TakeField x) found left = FieldEmptied
 rule_of t running (CloseResource x) found left = ResourceClosed
 rule_of t running (SettleEnd x) found left = Closes
 rule_of t running (Leave w n) found left = SaysLeaving

@@ -4,7 +4,7 @@ use Rattle.std.specs.List.{flat_map, range_with_len}
 use Rattle.brc_word.specs.declared.values.TheConstants.{RUNNING, LEAVING, SET, DEFAULT, QUEUED, MERGED, EMPTY, NONE, NUM, LIST, FILE, SOCK}
 use Rattle.brc_word.specs.Words.{half, owner_part, local_part, is_immortal_word, biased_part, phase_part, bias, free_word, next_part, closed_word, kind_part, argument_part, marks_of_word, mark_at}
 use Rattle.brc_model.specs.declared.address.Address.{Address}
-use Rattle.brc_model.specs.declared.address.Address.TheVariants.{Local, Shared, Gate, KindOf, Marks, Cell, Slot, Resource, ThreadWord}
+use Rattle.brc_model.specs.declared.address.Address.TheVariants.{Local, Shared, Gate, KindOf, Marks, Cell, Field, Resource, ThreadWord}
 use Rattle.brc_model.specs.declared.duty.Duty.{Duty}
 use Rattle.brc_model.specs.declared.duty.Duty.TheVariants.{SetMark, TakeMark, TakeFound, ClaimMark}
 use Rattle.brc_model.specs.declared.layout.Layout.{Layout}
@@ -117,7 +117,7 @@ on_marks layout _ t w found left = marks_text layout t w found
 
 -- ---- a word of a step
 
--- what the word at the address says; slots and resources are none, and a mark word is shown by the step's duty
+-- what the word at the address says; fields and resources are none, and a mark word is shown by the step's duty
 abbrev pub value_text : Address → ℕ → List ℕ
 value_text (Local row) word = local_text word
 value_text (Shared row) word = shared_text word
@@ -125,7 +125,7 @@ value_text (Gate row) word = gate_text word
 value_text (KindOf row) word = kind_text word
 value_text (Marks thread word) _ = []
 value_text (Cell row cell) word = cell_text word
-value_text (Slot row) word = []
+value_text (Field row) word = []
 value_text (Resource row) word = []
 value_text (ThreadWord thread) word = status_text word
 
@@ -137,7 +137,7 @@ subject_text (Gate row) = row_text row ++ codes " gate: "
 subject_text (KindOf row) = row_text row ++ codes " kind: "
 subject_text (Marks thread word) = []
 subject_text (Cell row cell) = row_text row ++ codes " cell " ++ decimal cell ++ codes ": "
-subject_text (Slot row) = []
+subject_text (Field row) = []
 subject_text (Resource row) = []
 subject_text (ThreadWord thread) = codes "thread " ++ decimal thread ++ codes ": "
 

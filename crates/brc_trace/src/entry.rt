@@ -153,7 +153,7 @@ fn show_found(
     ensures { OnOk result (line.new ≡ line.old ++ found_text paint layout duty.now address found left) }
 {
     match address {
-        Address::Slot { .. } | Address::Resource { .. } => Ok(()),
+        Address::Field { .. } | Address::Resource { .. } => Ok(()),
         _ => {
             line.text("  ")?;
             line.text(paint.on(Role::Word))?;

@@ -7,13 +7,11 @@ ghost use Rattle.brc_trace.specs.WordTexts.{row_text, marked_text, taken_text, r
 
 use crate::line::Line;
 use crate::word::{show_of_row, show_row};
+use brc_effect::rows::FRONT_ROWS;
 use brc_model::{Duty, Layout};
 use brc_word::values::SET;
 use brc_word::{MARKS_OF_WORD, mark_at};
 use std::alloc::AllocError;
-
-/// Main's rows in front of the workers'.
-const FRONT_ROWS: u64 = 2;
 
 /// Adds what the step of the duty found and left in the thread's mark word with the number `word`: the mark that it
 /// sets or takes, or the whole word if it loads it.
@@ -122,8 +120,8 @@ pub fn row_of_mark(layout: Layout, thread: u32, word: u32, bit: u32) -> u64
 {
     let index = u64::from(MARKS_OF_WORD) * u64::from(word) + u64::from(bit);
     match thread {
-        0 if index < FRONT_ROWS => index,
+        0 if index < u64::from(FRONT_ROWS) => index,
         0 => u64::from(layout.workers) * u64::from(layout.rows) + index,
-        _ => FRONT_ROWS + u64::from(thread - 1) * u64::from(layout.rows) + index,
+        _ => u64::from(FRONT_ROWS) + u64::from(thread - 1) * u64::from(layout.rows) + index,
     }
 }

@@ -1,13 +1,14 @@
 //! The rules of the step relation, by name, and which of them a step goes by.
 
 ghost use Rattle.std.specs.Prelude.{◌≡◌, if◌then◌else◌};
-ghost use Rattle.brc_model.specs.Duties.{counts_locally, has_resource};
+ghost use Rattle.brc_model.specs.Duties.{counts_locally};
 ghost use Rattle.brc_trace.specs.Rules.{rule_name, rule_of, rule_at, retain_rule, release_rule, shared_rule, merge_rule};
 
 use crate::word::owner_part;
+use brc_effect::kinds::has_resource;
 use brc_model::{Duty, Exit, Reason};
-use brc_word::values::{FILE, FREE, NOBODY, RUNNING, SOCK};
-use brc_word::{is_dead, is_fresh, is_immortal, kind_number, local_count};
+use brc_word::values::{FREE, NOBODY, RUNNING};
+use brc_word::{is_dead, is_fresh, is_immortal, local_count};
 use brc_world::Event;
 
 /// A way in which a step can go. All but the last three are the rules of the model's step relation, in their order:
@@ -17,7 +18,7 @@ pub enum Rule {
     // a birth
     KindOfResource,
     KindOfOther,
-    SlotFilled,
+    FieldFilled,
     Born,
     // a look at a kind, a lock, a cell, a resource
     KindRead,
@@ -72,7 +73,7 @@ pub enum Rule {
     DyingResource,
     DyingCells,
     CellEmptied,
-    SlotEmptied,
+    FieldEmptied,
     ResourceClosed,
     Closes,
     // a thread's exit
@@ -98,7 +99,7 @@ impl Rule {
         match self {
             Rule::KindOfResource => "KindOfResource",
             Rule::KindOfOther => "KindOfOther",
-            Rule::SlotFilled => "SlotFilled",
+            Rule::FieldFilled => "FieldFilled",
             Rule::Born => "Born",
             Rule::KindRead => "KindRead",
             Rule::Locks => "Locks",
@@ -146,7 +147,7 @@ impl Rule {
             Rule::DyingResource => "DyingResource",
             Rule::DyingCells => "DyingCells",
             Rule::CellEmptied => "CellEmptied",
-            Rule::SlotEmptied => "SlotEmptied",
+            Rule::FieldEmptied => "FieldEmptied",
             Rule::ResourceClosed => "ResourceClosed",
             Rule::Closes => "Closes",
             Rule::SaysLeaving => "SaysLeaving",
@@ -189,15 +190,15 @@ pub fn rule_of(thread: u8, running: bool, duty: Duty, found: u64, left: u64) -> 
             Rule::KindOfResource,
             Rule::KindOfOther,
         ),
-        Duty::BirthSlot { .. } => Rule::SlotFilled,
+        Duty::BirthField { .. } => Rule::FieldFilled,
         Duty::BirthLocal { .. } => Rule::Born,
         Duty::KindLoad { .. } => Rule::KindRead,
         Duty::LockGate { .. } => either(found == FREE, Rule::Locks, Rule::LockHeld),
         Duty::UnlockGate { .. } => Rule::Unlocks,
         Duty::CellLoad { .. } => Rule::CellRead,
         Duty::CellSwap { .. } => Rule::ItemStored,
-        Duty::LendSlot { .. } => Rule::ResourceLent,
-        Duty::ReturnSlot { .. } => Rule::ResourceReturned,
+        Duty::LendField { .. } => Rule::ResourceLent,
+        Duty::ReturnField { .. } => Rule::ResourceReturned,
         Duty::RetainLoad { .. } => retain_rule(thread, running, found),
         Duty::RetainStore { .. } => Rule::LocalRaised,
         Duty::RetainAdd { .. } => Rule::SharedRaised,
@@ -226,7 +227,7 @@ pub fn rule_of(thread: u8, running: bool, duty: Duty, found: u64, left: u64) -> 
             either(has_resource(found), Rule::DyingResource, Rule::DyingCells)
         }
         Duty::SettleCell { .. } => Rule::CellEmptied,
-        Duty::TakeSlot { .. } => Rule::SlotEmptied,
+        Duty::TakeField { .. } => Rule::FieldEmptied,
         Duty::CloseResource { .. } => Rule::ResourceClosed,
         Duty::SettleEnd { .. } => Rule::Closes,
         Duty::Leave { .. } => Rule::SaysLeaving,
@@ -302,12 +303,4 @@ fn merge_rule(reason: Reason, word: u64, found: u64, left: u64) -> Rule
         Reason::Own => either(is_dead(left), Rule::MergesToZero, Rule::Merges),
         Reason::Handed => Rule::MergesForHanded,
     }
-}
-
-/// Returns whether an object with this kind word has a resource of the host: a file or a socket does.
-fn has_resource(word: u64) -> bool
-    ensures { result ≡ has_resource word }
-{
-    let kind = kind_number(word);
-    kind == FILE || kind == SOCK
 }

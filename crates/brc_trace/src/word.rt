@@ -58,7 +58,7 @@ fn show_subject(address: Address, line: &mut Line) -> Result<(), AllocError>
             line.number(u64::from(cell))?;
             line.text(": ")
         }
-        Address::Marks { .. } | Address::Slot { .. } | Address::Resource { .. } => Ok(()),
+        Address::Marks { .. } | Address::Field { .. } | Address::Resource { .. } => Ok(()),
         Address::ThreadWord { thread } => {
             line.text("thread ")?;
             line.number(u64::from(thread))?;
@@ -76,7 +76,7 @@ fn show_value(address: Address, word: u64, line: &mut Line) -> Result<(), AllocE
         Address::Gate { .. } => show_gate(word, line),
         Address::KindOf { .. } => show_kind(word, line),
         Address::Cell { .. } => show_cell(word, line),
-        Address::Marks { .. } | Address::Slot { .. } | Address::Resource { .. } => Ok(()),
+        Address::Marks { .. } | Address::Field { .. } | Address::Resource { .. } => Ok(()),
         Address::ThreadWord { .. } => show_status(word, line),
     }
 }

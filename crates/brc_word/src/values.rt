@@ -33,10 +33,10 @@ pub const QUEUED: u64 = 2;
 /// The state merged.
 pub const MERGED: u64 = 3;
 
-/// A cell without a reference, and a slot without a resource.
+/// A cell without a reference, and a field without a resource.
 pub const EMPTY: u64 = 0;
 
-/// The slot of a file or a socket whose resource is in it.
+/// The field of a file or a socket whose resource is in it.
 pub const FULL: u64 = 1;
 
 /// The gate of an object that is neither locked nor dying nor closed.

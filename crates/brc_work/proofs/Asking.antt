@@ -5,12 +5,12 @@ use Rattle.std.proofs.lemmas.Bool.Decides.{eqb_tells}
 use Rattle.std.proofs.lemmas.List.{length-set}
 use Rattle.brc_lang.specs.declared.kind.Kind.{Kind}
 use Rattle.brc_model.specs.declared.layout.Layout.{Layout}
-use Rattle.brc_model.specs.declared.state.VarState.{VarState}
-use Rattle.brc_model.specs.declared.state.VarState.TheVariants.{Empty, Owned, Caller, Locked}
+use Rattle.brc_model.specs.declared.state.Slot.{Slot}
+use Rattle.brc_model.specs.declared.state.Slot.TheVariants.{Empty, Owned, Caller, Locked}
 use Rattle.brc_model.specs.declared.state.State.{State}
 use Rattle.brc_model.specs.Items.{borrows_item}
 use Rattle.brc_model.specs.Kinds.{kind_of_word}
-use Rattle.brc_model.specs.VarStates.{var_of, kind_of, is_empty, is_one_of, with_resource, with_kind, put}
+use Rattle.brc_model.specs.SlotStates.{var_of, kind_of, is_empty, is_one_of, with_resource, with_kind, put}
 use Rattle.brc_model.specs.Threads.{row_of}
 use Rattle.brc_model.proofs.Basics.Lists.{some_is}
 use Rattle.brc_model.proofs.Dispatch.Grounded.{var_of-put_same, var_of-put_other}
@@ -30,7 +30,7 @@ pub seen_knows : (u : View) (x word : ℕ) (kind : Kind) → knows_kind x word u
 seen_knows u x zero kind seen is = Unknown (sym is)
 seen_knows u x (suc word) kind seen is = HasSeen (suc word) (omega arith) seen is
 
-owns_kind : (y : ℕ) (slot : VarState) (kind : Kind) (row : Option ℕ) → owns y (with_kind slot kind) row
+owns_kind : (y : ℕ) (slot : Slot) (kind : Kind) (row : Option ℕ) → owns y (with_kind slot kind) row
     ≡ owns y slot row
 owns_kind y Empty kind row = refl
 owns_kind y (Owned k) kind None = refl
@@ -38,7 +38,7 @@ owns_kind y (Owned k) kind (Some x) = refl
 owns_kind y (Caller k) kind row = refl
 owns_kind y (Locked k) kind row = refl
 
-lists_kind : (layout : Layout) (slot : VarState) (kind : Kind) (row : Option ℕ)
+lists_kind : (layout : Layout) (slot : Slot) (kind : Kind) (row : Option ℕ)
     → lists layout (with_kind slot kind) row ≡ lists layout slot row
 lists_kind layout Empty kind row = refl
 lists_kind layout (Owned k) kind None = refl
@@ -47,7 +47,7 @@ lists_kind layout (Caller k) kind row = refl
 lists_kind layout (Locked k) kind row = refl
 
 -- A variable that has only another kind owns what it owned.
-sum_kind : (f : VarState → Option ℕ → ℕ) (i : ℕ) (slots : List VarState) (rows : List (Option ℕ)) (slot : VarState)
+sum_kind : (f : Slot → Option ℕ → ℕ) (i : ℕ) (slots : List Slot) (rows : List (Option ℕ)) (slot : Slot)
     → f slot (get_or rows i None) ≡ f (get_or slots i Empty) (get_or rows i None)
     → over_variables f (set slots i slot) rows ≡ over_variables f slots rows
 sum_kind f i [] rows slot same = refl
@@ -57,26 +57,26 @@ sum_kind f zero (s ∷ slots) (r ∷ rows) slot same = omega (arith, same)
 sum_kind f (suc i) (s ∷ slots) (r ∷ rows) slot same =
     let rest = sum_kind f i slots rows slot same in omega (arith, rest)
 
-kind_lasting : (slot : VarState) (kind : Kind) → borrows_item (with_kind slot kind) ≡ borrows_item slot
+kind_lasting : (slot : Slot) (kind : Kind) → borrows_item (with_kind slot kind) ≡ borrows_item slot
 kind_lasting Empty kind = refl
 kind_lasting (Owned k) kind = refl
 kind_lasting (Caller k) kind = refl
 kind_lasting (Locked k) kind = refl
 
-kind_used : (slot : VarState) (kind : Kind) → is_empty (with_kind slot kind) ≡ is_empty slot
+kind_used : (slot : Slot) (kind : Kind) → is_empty (with_kind slot kind) ≡ is_empty slot
 kind_used Empty kind = refl
 kind_used (Owned k) kind = refl
 kind_used (Caller k) kind = refl
 kind_used (Locked k) kind = refl
 
-kind_is : (slot : VarState) (kind : Kind) → is_empty slot ≡ false → kind_of (with_kind slot kind) ≡ kind
+kind_is : (slot : Slot) (kind : Kind) → is_empty slot ≡ false → kind_of (with_kind slot kind) ≡ kind
 kind_is Empty kind used = let wrong : true ≡ false = used in absurd cc
 kind_is (Owned k) kind used = refl
 kind_is (Caller k) kind used = refl
 kind_is (Locked k) kind used = refl
 
 -- A variable in use is one of the sixteen.
-pub used_low : (slots : List VarState) (i : ℕ) → is_empty (get_or slots i Empty) ≡ false → i < length slots
+pub used_low : (slots : List Slot) (i : ℕ) → is_empty (get_or slots i Empty) ≡ false → i < length slots
 used_low [] i used = let wrong : true ≡ false = used in absurd cc
 used_low (s ∷ slots) zero used = omega arith
 used_low (s ∷ slots) (suc i) used = let rest = used_low slots i used in omega (arith, rest)
@@ -98,17 +98,17 @@ module _ {heap : TableState} (base : Base) (s : State) (rows : List (Option ℕ)
       subst (KnowsKind after.view kind) (some_is x y (sym names ∙ this))
       (seen_knows after.view x word kind sees.seen is)
 
-  low : from < length s.vars → var_of next from ≡ with_kind (var_of s from) kind
+  low : from < length s.slots → var_of next from ≡ with_kind (var_of s from) kind
   low there = var_of-put_same s from (with_kind (var_of s from) kind) there
 
-  in_vars : from < length s.vars
-  in_vars = used_low s.vars from used
+  in_slots : from < length s.slots
+  in_slots = used_low s.slots from used
 
-  -- The hand knows what the locked object's slot has, since it has just asked for the kind.
-  locked_kind : (i : ℕ) (lock : LockFits base.first.slots s rows after i) → LockFits base.first.slots next rows after i
+  -- The hand knows what the locked object's field has, since it has just asked for the kind.
+  locked_kind : (i : ℕ) (lock : LockFits base.first.fields s rows after i) → LockFits base.first.fields next rows after i
   locked_kind i lock = elim (eqb_tells i from) [
     | inl this ↦
-        let slot_is : var_of next i ≡ with_kind (var_of s from) kind = ap (var_of next) this.1 ∙ low in_vars in
+        let slot_is : var_of next i ≡ with_kind (var_of s from) kind = ap (var_of next) this.1 ∙ low in_slots in
         let object_is : lock.object ≡ x =
         some_is lock.object x (sym lock.names ∙ (ap (row_of rows) this.1 ∙ names)) in
         record {
@@ -119,13 +119,13 @@ module _ {heap : TableState} (base : Base) (s : State) (rows : List (Option ℕ)
               ∙ (ap (λ (k : ℕ). borrows_item (var_of s k)) (sym this.1) ∙ lock.lasting));
           used = ap is_empty slot_is ∙ (kind_used (var_of s from) kind ∙ used);
           locked = lock.locked;
-          slots = lock.slots;
+          fields = lock.fields;
           resource = λ has.
               let can : is_one_of kind with_resource ≡ true =
               sym (ap (λ (k : Kind). is_one_of k with_resource)
               (ap kind_of slot_is ∙ kind_is (var_of s from) kind used)) ∙ has in
-              did.acts.in_slot
-              ∙ (sees.slot (sym did.acts.locked ∙ (lock.locked ∙ ap Some object_is))
+              did.acts.in_field
+              ∙ (sees.field (sym did.acts.locked ∙ (lock.locked ∙ ap Some object_is))
               ∙ ap (λ (b : Bool). if b then 1 else 0) (resource_word kind word (inr is) can));
         }
     | inr apart ↦
@@ -137,13 +137,13 @@ module _ {heap : TableState} (base : Base) (s : State) (rows : List (Option ℕ)
           lasting = says.lasting lock.lasting;
           used = says.used lock.lasting lock.used;
           locked = lock.locked;
-          slots = lock.slots;
+          fields = lock.fields;
           resource = λ has. lock.resource (says.resource has);
         }
   ]
 
-  locks_kind : (locked : Option ℕ) → LocksAs locked base.first.slots s rows after
-      → LocksAs locked base.first.slots next rows after
+  locks_kind : (locked : Option ℕ) → LocksAs locked base.first.fields s rows after
+      → LocksAs locked base.first.fields next rows after
   locks_kind None lock = lock
   locks_kind (Some i) lock = locked_kind i lock
 
@@ -154,25 +154,25 @@ module _ {heap : TableState} (base : Base) (s : State) (rows : List (Option ℕ)
     room = fits.room;
     follows = later.follows;
     rests = later.rests;
-    some_vars = length-set s.vars from (with_kind (var_of s from) kind) ∙ fits.some_vars;
+    some_slots = length-set s.slots from (with_kind (var_of s from) kind) ∙ fits.some_slots;
     some_rows = fits.some_rows;
     each = λ i. elim (eqb_tells i from) [
       | inl this ↦
           subst (λ (k : ℕ). SlotFits base.held after.view (var_of next k) (row_of rows k)) (sym this.1)
-          (subst (λ (w : VarState). SlotFits base.held after.view w (row_of rows from)) (sym (low in_vars))
+          (subst (λ (w : Slot). SlotFits base.held after.view w (row_of rows from)) (sym (low in_slots))
           (fits_with_kind base.held after.view (var_of s from) (row_of rows from) kind knows (later.each from)))
       | inr apart ↦
-          subst (λ (w : VarState). SlotFits base.held after.view w (row_of rows i))
+          subst (λ (w : Slot). SlotFits base.held after.view w (row_of rows i))
           (sym (var_of-put_other s from i (with_kind (var_of s from) kind) apart.1)) (later.each i)
     ];
     held = λ y counted.
         later.held y counted
         ∙ ap (λ (n : ℕ). base.held y + n)
-        (sym (sum_kind (owns y) from s.vars rows (with_kind (var_of s from) kind)
+        (sym (sum_kind (owns y) from s.slots rows (with_kind (var_of s from) kind)
         (owns_kind y (var_of s from) kind (row_of rows from))));
     few =
         subst (λ (n : ℕ). length after.view.references ≤ base.most + n)
-        (sym (sum_kind (lists base.first.view.layout) from s.vars rows (with_kind (var_of s from) kind)
+        (sym (sum_kind (lists base.first.view.layout) from s.slots rows (with_kind (var_of s from) kind)
         (lists_kind base.first.view.layout (var_of s from) kind (row_of rows from)))) later.few;
     lock = locks_kind s.locked later.lock;
   }

@@ -26,7 +26,7 @@ use Rattle.brc_model.specs.Machine.{actor_by, is_running}
 use Rattle.brc_model.specs.Stops.{row_locked, owned_rows, owned_by, fault_state, waiting_state, given_up, stopping}
 use Rattle.brc_model.specs.Tables.{Reaches, AreTrueWhereReached}
 use Rattle.brc_model.specs.Threads.{function_of, number_under}
-use Rattle.brc_model.specs.VarStates.{after}
+use Rattle.brc_model.specs.SlotStates.{after}
 use Rattle.brc_model.proofs.Basics.Lists.{none_some}
 use Rattle.brc_model.specs.declared.event.WordEvent.{WordEvent}
 use Rattle.brc_model.specs.Trace.{events_of, MakesStep, GoesSilently, CallsHost, DoesDuty, CanMake, Nothing, Then}
@@ -251,7 +251,7 @@ pub hands_stop_as_threads : HandsStopAsThreads
 hands_stop_as_threads functions states layout t function a running none = record {
   in_call = λ context at variables s known.
       let outer = given_up functions states function context.outer in
-      GoesSilently Stop [] (stopping (row_locked s.locked variables) (owned_rows s.vars variables ∷ outer))
+      GoesSilently Stop [] (stopping (row_locked s.locked variables) (owned_rows s.slots variables ∷ outer))
       (stop_running functions states layout t function (InCall context at variables) a refl running none
       ∙ ap (stop_in_call outer variables) known);
   between = λ left.
@@ -275,9 +275,9 @@ outer_give_up_alike m states function outer calls truth gives = alike outer call
       let number = number_under function further in
       let known = outer_known m states number o.at i s truth (slice_get m.functions number) refl found reaches in
       let own : owned_by (waiting_state m.functions states number o) o.variables
-      ≡ owned_rows (after i FaultExit s).vars o.variables =
+      ≡ owned_rows (after i FaultExit s).slots o.variables =
       ap (λ (w : Option Instr). owned_by (fault_state w (states number o.at)) o.variables) found
       ∙ ap (λ (w : Option State). owned_by (fault_state (Some i) w) o.variables) known in
       ap (λ (rows : List (Option ℕ)). rows ∷ given_up m.functions states function further) own
-      ∙ ap (λ (l : List (List (Option ℕ))). owned_rows (after i FaultExit s).vars o.variables ∷ l)
+      ∙ ap (λ (l : List (List (Option ℕ))). owned_rows (after i FaultExit s).slots o.variables ∷ l)
       (alike further rest gives)

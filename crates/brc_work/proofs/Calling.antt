@@ -5,7 +5,7 @@ use Rattle.std.proofs.Common.{◌≡◌, ◌⊎◌, ℕ, ◌≤◌, ◌==◌, Bo
 use Rattle.brc_host.specs.HostCalls.{HostCall}
 use Rattle.brc_lang.specs.declared.kind.Kind.TheVariants as kinds
 use Rattle.brc_model.specs.declared.layout.Layout.{Layout}
-use Rattle.brc_model.specs.declared.state.VarState.TheVariants.{Owned}
+use Rattle.brc_model.specs.declared.state.Slot.TheVariants.{Owned}
 use Rattle.brc_model.specs.Layout.{root_row, is_immortal_row, IsCounted}
 use Rattle.brc_model.proofs.Basics.Blocks.{root_counted}
 use Rattle.brc_model.proofs.Basics.Lists.{none_some}
@@ -29,7 +29,7 @@ not_called hand ready = record {
   follows = keeps_later (keeps_first hand.view) (omega arith) refl refl;
   rests = ready.rests;
   unlocked = ready.unlocked;
-  slots = refl;
+  fields = refl;
   held = λ y counted. refl;
   few = omega arith;
 }
@@ -39,7 +39,7 @@ called_then hand mid after one other = record {
   follows = follows_on hand mid after one.follows other.follows;
   rests = other.rests;
   unlocked = other.unlocked;
-  slots = other.slots ∙ one.slots;
+  fields = other.fields ∙ one.fields;
   held = λ y counted.
       other.held y (subst (λ (l : Layout). IsCounted l y) (sym one.follows.layout) counted) ∙ one.held y counted;
   few = omega (arith, one.few, other.few);
@@ -56,9 +56,9 @@ called_ready hand after ready called = record {
 
 -- A hand that has looked through its queue holds what it held.
 pub looked_called : (hand after : HandState) → IsReady hand → Keeps hand.view after.view → IsFree after.view
-    → after.view.actor.head ≡ 0 → after.table ≡ hand.table → after.carried ≡ hand.carried → after.slots ≡ hand.slots
+    → after.view.actor.head ≡ 0 → after.table ≡ hand.table → after.carried ≡ hand.carried → after.fields ≡ hand.fields
     → HasCalled hand after
-looked_called hand after ready keeps free settled table carried slots = record {
+looked_called hand after ready keeps free settled table carried fields = record {
   follows = keeps_later keeps (omega arith) table carried;
   rests = record {
     running = free.running;
@@ -67,7 +67,7 @@ looked_called hand after ready keeps free settled table carried slots = record {
     settled = settled;
   };
   unlocked = keeps.locked ∙ ready.unlocked;
-  slots = slots;
+  fields = fields;
   held = λ y counted. ap (λ (l : List ℕ). holds (record after.view { references = l }) y) keeps.references;
   few = subst (λ (l : List ℕ). length l ≤ length hand.view.references) (sym keeps.references) (omega arith);
 }
@@ -104,7 +104,7 @@ given_back base row hand after returned did less =
       follows = follows_on base.first hand after returned.follows did.acts.follows;
       rests = did.acts.rests;
       unlocked = did.acts.locked ∙ returned.unlocked;
-      slots = did.acts.slots ∙ returned.slots;
+      fields = did.acts.fields ∙ returned.fields;
       held = λ y counted.
           let had = returned.held y counted in
           let now = trades.held y counted in
@@ -118,8 +118,8 @@ given_back base row hand after returned did less =
 -- A hand that has given up what its stopped calls owned, and has settled.
 pub settled_returned : (base : Base) (hand after : HandState) (cs : List HostCall) → HasReturned base (unchained hand)
     → HasWorked (to_settle [] hand.view) cs [] after.view → after.view.actor.head ≡ 0 → after.table ≡ hand.table
-    → after.carried ≡ hand.carried → after.slots ≡ hand.slots → HasReturned base after
-settled_returned base hand after cs ended worked empty table carried slots =
+    → after.carried ≡ hand.carried → after.fields ≡ hand.fields → HasReturned base after
+settled_returned base hand after cs ended worked empty table carried fields =
     let keeps = worked.keeps in
     record {
       follows = record {
@@ -137,7 +137,7 @@ settled_returned base hand after cs ended worked empty table carried slots =
         settled = empty;
       };
       unlocked = keeps.locked ∙ ended.unlocked;
-      slots = slots ∙ ended.slots;
+      fields = fields ∙ ended.fields;
       held = λ y counted.
           ap (λ (references : List ℕ). holds (record hand.view { references = references }) y) keeps.references
           ∙ ended.held y counted;

@@ -59,8 +59,8 @@ keeps_later keeps more table carried = record {
 pub keeps_acts : (hand after : HandState) {ds fs : List Duty} {used : ℕ} {rows : List ℕ}
     → Keeps (changed hand.view ds fs used rows) after.view → hand.view.actor.used ≤ used
     → hand.view.actor.status ≡ Running → after.view.actor.agenda ≡ [] → fs ≡ [] → after.view.actor.head ≡ 0
-    → after.table ≡ hand.table → after.carried ≡ hand.carried → after.slots ≡ hand.slots → ActsElsewhere hand after
-keeps_acts hand after keeps more running agenda aside settled table carried slots = record {
+    → after.table ≡ hand.table → after.carried ≡ hand.carried → after.fields ≡ hand.fields → ActsElsewhere hand after
+keeps_acts hand after keeps more running agenda aside settled table carried fields = record {
   acts = record {
     follows = keeps_later keeps more table carried;
     rests = record {
@@ -71,8 +71,8 @@ keeps_acts hand after keeps more running agenda aside settled table carried slot
     };
     more = record { layout = keeps.layout; kinds = keeps.kinds };
     locked = keeps.locked;
-    in_slot = keeps.in_slot;
-    slots = slots;
+    in_field = keeps.in_field;
+    fields = fields;
   };
   cells = λ y i word locked seen. keeps.cells y i locked ∙ seen;
 }
@@ -84,20 +84,20 @@ none_aside hand x rests = ap (filter (λ (d : Duty). not (is_about x d))) (no_wo
 
 -- A call about one row that leaves no work.
 pub left_acts : (hand after : HandState) (x : ℕ) → Rests hand → Leaves x [] hand.view after.view
-    → after.table ≡ hand.table → after.carried ≡ hand.carried → after.slots ≡ hand.slots
+    → after.table ≡ hand.table → after.carried ≡ hand.carried → after.fields ≡ hand.fields
     → after.view.actor.head ≡ hand.view.actor.head → ActsElsewhere hand after
-left_acts hand after x rests left table carried slots head =
+left_acts hand after x rests left table carried fields head =
     keeps_acts hand after left.keeps (omega arith) rests.running left.agenda (none_aside hand x rests)
-    (head ∙ rests.settled) table carried slots
+    (head ∙ rests.settled) table carried fields
 
 -- A birth.
 pub born_acts : (hand after : HandState) → Rests hand → HasBorn hand.view after.view
-    → after.table ≡ hand.table → after.carried ≡ hand.carried → after.slots ≡ hand.slots → ActsElsewhere hand after
-born_acts hand after rests born table carried slots =
+    → after.table ≡ hand.table → after.carried ≡ hand.carried → after.fields ≡ hand.fields → ActsElsewhere hand after
+born_acts hand after rests born table carried fields =
     let none = born.work ∙ no_work hand rests in
     keeps_acts hand after born.keeps (omega arith) rests.running
     (no_first after.view.actor.agenda after.view.actor.aside none)
-    (no_second after.view.actor.agenda after.view.actor.aside none) (born.head ∙ rests.settled) table carried slots
+    (no_second after.view.actor.agenda after.view.actor.aside none) (born.head ∙ rests.settled) table carried fields
 
 -- What a call on a list leaves, whatever becomes of the lock.
 pub kept_rests : (hand after : HandState) → Rests hand → KeepsWork hand.view after.view → Rests after
@@ -123,15 +123,15 @@ kept_follows hand after kept table carried = record {
 
 -- One that changes no reference.
 pub kept_acts : (hand after : HandState) → Rests hand → KeepsWork hand.view after.view → after.table ≡ hand.table
-    → after.carried ≡ hand.carried → after.slots ≡ hand.slots → after.view.actor.locked ≡ hand.view.actor.locked
+    → after.carried ≡ hand.carried → after.fields ≡ hand.fields → after.view.actor.locked ≡ hand.view.actor.locked
     → Acts hand after
-kept_acts hand after rests kept table carried slots locked = record {
+kept_acts hand after rests kept table carried fields locked = record {
   follows = kept_follows hand after kept table carried;
   rests = kept_rests hand after rests kept;
   more = record { layout = kept.layout; kinds = kept.kinds };
   locked = locked;
-  in_slot = kept.taken_slot;
-  slots = slots;
+  in_field = kept.taken_field;
+  fields = fields;
 }
 
 -- A look at a kind word changes nothing that the hand has seen of cells.
@@ -169,18 +169,18 @@ released_rests hand mid x rests released = released.keeps.aside ∙ none_aside h
 pub released_acts : (hand mid after : HandState) (x : ℕ) (closes : List HostCall) → Rests hand
     → HasReleased x hand.view mid.view
     → HasWorked (to_settle [] mid.view) closes [] after.view → after.view.actor.head ≡ 0 → after.table ≡ hand.table
-    → after.carried ≡ hand.carried → after.slots ≡ hand.slots → ActsElsewhere hand after
-released_acts hand mid after x closes rests released worked settled table carried slots =
+    → after.carried ≡ hand.carried → after.fields ≡ hand.fields → ActsElsewhere hand after
+released_acts hand mid after x closes rests released worked settled table carried fields =
     keeps_acts hand after
     (keeps_then (keeps_then released.keeps (keeps_beside mid.view (to_settle [] mid.view).actor.agenda)) worked.keeps)
-    (omega arith) rests.running worked.agenda (none_aside hand x rests) settled table carried slots
+    (omega arith) rests.running worked.agenda (none_aside hand x rests) settled table carried fields
 
--- the hand that knows something else of the locked object's slot
-abbrev pub with_slot : HandState → ℕ → HandState
-with_slot hand n = record hand { view = record hand.view { in_slot = n } }
+-- the hand that knows something else of the locked object's field
+abbrev pub with_field : HandState → ℕ → HandState
+with_field hand n = record hand { view = record hand.view { in_field = n } }
 
-pub slot_rests : (hand : HandState) (n : ℕ) → Rests hand → Rests (with_slot hand n)
-slot_rests hand n rests = record {
+pub field_rests : (hand : HandState) (n : ℕ) → Rests hand → Rests (with_field hand n)
+field_rests hand n rests = record {
   running = rests.running;
   agenda = rests.agenda;
   aside = rests.aside;
@@ -204,6 +204,6 @@ acts_then hand mid after one other = record {
     kinds = λ x word seen. other.more.kinds x word (one.more.kinds x word seen);
   };
   locked = other.locked ∙ one.locked;
-  in_slot = other.in_slot ∙ one.in_slot;
-  slots = other.slots ∙ one.slots;
+  in_field = other.in_field ∙ one.in_field;
+  fields = other.fields ∙ one.fields;
 }

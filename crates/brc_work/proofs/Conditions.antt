@@ -2,10 +2,10 @@
 use Rattle.std.proofs.Common.{◌≡◌, ℕ, Bool, true, false, Option, None, Some, refl, sym, ap}
 use Rattle.std.specs.Prelude.{◌||◌, not, is_some}
 use Rattle.std.proofs.lemmas.Bool.{eqb-true}
-use Rattle.brc_model.specs.declared.state.VarState.{VarState}
-use Rattle.brc_model.specs.declared.state.VarState.TheVariants.{Empty, Owned, Caller, Locked}
+use Rattle.brc_model.specs.declared.state.Slot.{Slot}
+use Rattle.brc_model.specs.declared.state.Slot.TheVariants.{Empty, Owned, Caller, Locked}
 use Rattle.brc_model.specs.declared.state.State.{State}
-use Rattle.brc_model.specs.VarStates.{var_of, is_empty, is_owned, is_borrowed, names}
+use Rattle.brc_model.specs.SlotStates.{var_of, is_empty, is_owned, is_borrowed, names}
 use Rattle.brc_model.proofs.Basics.Lists.{first_false}
 use Rattle.brc_model.proofs.Dispatch.Grounded.{owned_var}
 use Rattle.brc_work.specs.Changes.{CanFill, CanGive}
@@ -39,7 +39,7 @@ none_is None is = refl
 none_is (Some x) is = let wrong : true ≡ false = is in absurd cc
 
 -- A variable that owns a reference is in use.
-pub owned_used : (var : VarState) → is_owned var ≡ true → is_empty var ≡ false
+pub owned_used : (var : Slot) → is_owned var ≡ true → is_empty var ≡ false
 owned_used Empty owned = let wrong : false ≡ true = owned in absurd cc
 owned_used (Owned k) owned = refl
 owned_used (Caller k) owned = refl

@@ -7,7 +7,7 @@ use Rattle.brc_lang.specs.declared.parameter.Argument.{Argument}
 use Rattle.brc_model.specs.Actions.{without_row}
 use Rattle.brc_model.specs.Layout.{root_row}
 use Rattle.brc_model.specs.Threads.{row_of}
-use Rattle.brc_model.specs.VarStates.{padded, stolen}
+use Rattle.brc_model.specs.SlotStates.{padded, stolen}
 
 -- One item more of those before the padding.
 padded_set : {A B : Type 0} (h : B → A) (n k : ℕ) (d : A) (xs : List B) (e : B) → k < length xs

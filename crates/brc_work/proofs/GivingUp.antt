@@ -8,11 +8,11 @@ use Rattle.brc_lang.specs.declared.module.Instr.TheVariants as instructions
 use Rattle.brc_model.specs.declared.actor.Place.{Place}
 use Rattle.brc_model.specs.declared.actor.Place.TheVariants.{Stopping}
 use Rattle.brc_model.specs.declared.state.Exit.TheVariants.{Success}
-use Rattle.brc_model.specs.declared.state.VarState.{VarState}
-use Rattle.brc_model.specs.declared.state.VarState.TheVariants.{Empty, Owned, Caller, Locked}
+use Rattle.brc_model.specs.declared.state.Slot.{Slot}
+use Rattle.brc_model.specs.declared.state.Slot.TheVariants.{Empty, Owned, Caller, Locked}
 use Rattle.brc_model.specs.Actions.{always}
 use Rattle.brc_model.specs.declared.state.State.{State}
-use Rattle.brc_model.specs.VarStates.{var_of, is_owned, is_empty, names, put, without_item, after, applies, lowest}
+use Rattle.brc_model.specs.SlotStates.{var_of, is_owned, is_empty, names, put, without_item, after, applies, lowest}
 use Rattle.brc_model.specs.Stops.{row_locked, owned_rows, stopping}
 use Rattle.brc_model.specs.Threads.{row_of}
 use Rattle.brc_model.proofs.Dispatch.Stopped.{owned_exactly}
@@ -36,10 +36,10 @@ HaveGiven heap state first hand k rows after =
     IsOf heap after
     × ((base : Base) (s : State) → Fits base s first (unchained hand) → OwnsAsMuch state s
     → Fits base (emptied k s) rows (unchained after))
-    × ((i : ℕ) → i < k → row_of (owned_rows state.vars rows) i ≡ None)
+    × ((i : ℕ) → i < k → row_of (owned_rows state.slots rows) i ≡ None)
     × ((program : Program) (p : Place) (w : View) (outer : List (List (Option ℕ)))
-    → GivesUpTo program p w (owned_rows state.vars first ∷ outer) hand.view
-    → Stops program p w state.vars outer rows after.view)
+    → GivesUpTo program p w (owned_rows state.slots first ∷ outer) hand.view
+    → Stops program p w state.slots outer rows after.view)
 
 -- A hand whose chain is empty.
 pub as_unchained : (hand : HandState) → hand.view.actor.head ≡ 0 → hand ≡ unchained hand
@@ -53,7 +53,7 @@ module _ (heap : TableState) (state : State) (first : List (Option ℕ)) (hand :
     is.of,
     λ base s fits alike. fits,
     λ i low. absurd (omega (arith, low)),
-    λ program p w outer to. stops_first program p w state.vars outer first hand.view to is.fits.rests.agenda,
+    λ program p w outer to. stops_first program p w state.slots outer first hand.view to is.fits.rests.agenda,
   )
 
   pub can_loosen : (s : State) (k : ℕ) → OwnsAsMuch state s → is_owned (var_of state k) ≡ true
@@ -80,12 +80,12 @@ module _ (heap : TableState) (state : State) (first : List (Option ℕ)) (hand :
           (sym (alike.owned k ∙ owned)) (goes base (emptied k s) (given.1 base s fits alike)
           (can_loosen s k alike owned)),
       λ i low.
-          subst (λ (rs : List (Option ℕ)). row_of (owned_rows state.vars rs) i ≡ None) (sym loosens.emptied)
-          (emptied_left state.vars rows k i low given.2),
+          subst (λ (rs : List (Option ℕ)). row_of (owned_rows state.slots rs) i ≡ None) (sym loosens.emptied)
+          (emptied_left state.slots rows k i low given.2),
       λ program p w outer to.
-          stops_on program p w state.vars outer rows after_rows k now.view after.view (given.3 program p w outer to)
+          stops_on program p w state.slots outer rows after_rows k now.view after.view (given.3 program p w outer to)
           fits_now.rests.agenda loosens
-          ((owned_exactly state.vars rows k loosens.row).1 (owned, loosens.names)) given.2,
+          ((owned_exactly state.slots rows k loosens.row).1 (owned, loosens.names)) given.2,
     )
 
     pub none_more : is_owned (var_of state k) ≡ false → HaveGiven heap state first hand (suc k) rows now
@@ -94,7 +94,7 @@ module _ (heap : TableState) (state : State) (first : List (Option ℕ)) (hand :
       λ base s fits alike.
           subst (λ (b : Bool). Fits base (cond b (put (emptied k s) k Empty) (emptied k s)) rows (unchained now))
           (sym (alike.owned k ∙ bare)) (given.1 base s fits alike),
-      λ i low. unowned_left state.vars rows k i low bare given.2,
+      λ i low. unowned_left state.slots rows k i low bare given.2,
       given.3,
     )
 
@@ -103,14 +103,14 @@ module _ (heap : TableState) (state : State) (first : List (Option ℕ)) (hand :
     pub all_returned : (base : Base) (s : State) → Fits base s first (unchained hand) → OwnsAsMuch state s
         → HasReturned base (unchained now)
     all_returned base s fits alike =
-        ends base (emptied 16 s) rows (unchained now) (given.1 base s fits alike) (all_emptied s fits.some_vars)
+        ends base (emptied 16 s) rows (unchained now) (given.1 base s fits alike) (all_emptied s fits.some_slots)
         (emptied_locked 16 s ∙ alike.unlocked)
 
     pub all_made : MakesReleases state first hand.view now.view
     all_made = λ program p w outer to.
         let at_end = given.1 is.base is.state is.fits is.can_do in
-        stops_off program p w state.vars outer rows now.view (given.3 program p w outer to)
-        (nothing_left state.vars rows at_end.some_rows given.2) at_end.rests.agenda
+        stops_off program p w state.slots outer rows now.view (given.3 program p w outer to)
+        (nothing_left state.slots rows at_end.some_rows given.2) at_end.rests.agenda
 
 -- ---- the lock
 
@@ -132,7 +132,7 @@ may_unlock s object used locked =
     (ap (λ (o : Option ℕ). names o object) locked ∙ names_itself object)
 
 -- What borrows from the list is empty once the list is unlocked. So the same variables own references.
-owned_alike : (slots : List VarState) (i : ℕ)
+owned_alike : (slots : List Slot) (i : ℕ)
     → is_owned (slice_index_or (map without_item slots) i Empty) ≡ is_owned (slice_index_or slots i Empty)
 owned_alike [] i = refl
 owned_alike (Empty ∷ slots) zero = refl
@@ -148,8 +148,8 @@ pub record IsUnlocked (heap : TableState) (state : State) (rows : List (Option �
   pub of : IsOf heap now
   pub fits : (base : Base) → Fits base state rows hand → Fits base left rows now
   pub made : (program : Program) (outer : List (List (Option ℕ)))
-      → MakesTrace 0 [] program (stopping (row_locked state.locked rows) (owned_rows state.vars rows ∷ outer))
-      hand.view (stopping None (owned_rows state.vars rows ∷ outer)) now.view
+      → MakesTrace 0 [] program (stopping (row_locked state.locked rows) (owned_rows state.slots rows ∷ outer))
+      hand.view (stopping None (owned_rows state.slots rows ∷ outer)) now.view
 
 module _ (heap : TableState) (state : State) (rows : List (Option ℕ)) (hand : HandState) where
   pub unlocked_now : (now : HandState) (object : ℕ) → state.locked ≡ Some object → IsOf heap now
@@ -158,12 +158,12 @@ module _ (heap : TableState) (state : State) (rows : List (Option ℕ)) (hand : 
       → IsUnlocked heap state rows hand now
   unlocked_now now object locked of none done unlocks = record {
     left = after (instructions.Unlock object) Success state;
-    alike = record { unlocked = refl; owned = λ i. owned_alike state.vars i };
+    alike = record { unlocked = refl; owned = λ i. owned_alike state.slots i };
     of = of;
     fits = λ base fits. done base state fits
         (may_unlock state object (lock_of base state rows hand fits object locked).used locked);
     made = λ program outer.
-        let calls = owned_rows state.vars rows ∷ outer in
+        let calls = owned_rows state.slots rows ∷ outer in
         subst (λ (o : Option ℕ). MakesTrace 0 [] program (stopping o calls) hand.view (stopping None calls) now.view)
         (sym (ap (λ (o : Option ℕ). row_locked o rows) locked ∙ unlocks.names))
         (subst (MakesTrace 0 [] program (Stopping (Some unlocks.row) calls) hand.view (stopping None calls))
@@ -179,7 +179,7 @@ module _ (heap : TableState) (state : State) (rows : List (Option ℕ)) (hand : 
     of = of;
     fits = λ base fits. fits;
     made = λ program outer.
-        let calls = owned_rows state.vars rows ∷ outer in
+        let calls = owned_rows state.slots rows ∷ outer in
         subst (λ (o : Option ℕ). MakesTrace 0 [] program (stopping (row_locked o rows) calls) hand.view
         (stopping None calls) hand.view) (sym locked) (no_trace program (stopping None calls) [] hand.view);
   }

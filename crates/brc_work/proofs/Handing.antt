@@ -16,10 +16,10 @@ use Rattle.brc_lang.specs.declared.parameter.Passing.TheVariants.{Borrow, Steal}
 use Rattle.brc_model.specs.Actions.{without_row, kept_rows, argument_rows, passed_variables}
 use Rattle.brc_model.specs.Layout.{root_row, IsCounted}
 use Rattle.brc_model.specs.Threads.{row_of}
-use Rattle.brc_model.specs.VarStates.{var_of, is_empty, is_owned, put, emptied, steals, is_stolen, stolen, without_stolen, passed_var, parameter_var, entry_of}
+use Rattle.brc_model.specs.SlotStates.{var_of, is_empty, is_owned, put, emptied, steals, is_stolen, stolen, without_stolen, passed_var, parameter_var, entry_of}
 use Rattle.brc_model.specs.declared.state.State.{State}
-use Rattle.brc_model.specs.declared.state.VarState.{VarState}
-use Rattle.brc_model.specs.declared.state.VarState.TheVariants.{Empty, Owned, Caller, Locked}
+use Rattle.brc_model.specs.declared.state.Slot.{Slot}
+use Rattle.brc_model.specs.declared.state.Slot.TheVariants.{Empty, Owned, Caller, Locked}
 use Rattle.brc_model.proofs.Basics.Lists.{none_some}
 use Rattle.brc_model.proofs.Dispatch.Apart.{given_apart, IsKeptBy, borrowed_kept, kept_var, kept_row, still_unowned}
 use Rattle.brc_model.proofs.Dispatch.Calls.{ArgumentsLow, stolen_low, AreSixteen, put_sixteen, emptied_keeps, put_twice, ArgumentMet, CallMet, passed_each, entry_length, passed_length}
@@ -53,8 +53,8 @@ waiting s to arguments = put (without_stolen s arguments) to Empty
 abbrev pub inner_base : Base → State → List (Option ℕ) → Base
 inner_base base s rows = record {
   first = base.first;
-  held = λ y. base.held y + over_variables (owns y) s.vars rows;
-  most = base.most + over_variables (lists base.first.view.layout) s.vars rows;
+  held = λ y. base.held y + over_variables (owns y) s.slots rows;
+  most = base.most + over_variables (lists base.first.view.layout) s.slots rows;
 }
 
 module _ (base : Base) (s : State) (rows : List (Option ℕ)) (hand : HandState) (to : ℕ) (arguments : List Argument)
@@ -72,7 +72,7 @@ module _ (base : Base) (s : State) (rows : List (Option ℕ)) (hand : HandState)
   parameters = map (λ a. a.parameter) arguments
 
   sixteen : AreSixteen s rows
-  sixteen = record { vars = is.fits.some_vars; named = is.fits.some_rows }
+  sixteen = record { slots = is.fits.some_slots; named = is.fits.some_rows }
 
   stole : AreSixteen (without_stolen s arguments) (fold without_row rows (stolen arguments))
   stole =
@@ -84,12 +84,12 @@ module _ (base : Base) (s : State) (rows : List (Option ℕ)) (hand : HandState)
 
   unowned : is_owned (var_of (without_stolen s arguments) to) ≡ false
   unowned =
-      still_unowned s (stolen arguments) to (stolen_low arguments is.low) is.fits.some_vars is.met.free
+      still_unowned s (stolen arguments) to (stolen_low arguments is.low) is.fits.some_slots is.met.free
 
   -- What the variables own is what they keep, and what the callee's own.
-  shared_sum : (f : VarState → Option ℕ → ℕ) → Counts f
-      → over_variables f left.vars kept
-      + over_variables f (entry_of parameters).vars (passed_variables rows arguments) ≡ over_variables f s.vars rows
+  shared_sum : (f : Slot → Option ℕ → ℕ) → Counts f
+      → over_variables f left.slots kept
+      + over_variables f (entry_of parameters).slots (passed_variables rows arguments) ≡ over_variables f s.slots rows
   shared_sum f counts =
       let stole_sum = emptied_sum f counts s rows arguments sixteen is.low (given_apart arguments is.met.once) in
       let own = entry_sum f counts s rows arguments (omega (arith, is.few)) is.met.each in
@@ -104,7 +104,7 @@ module _ (base : Base) (s : State) (rows : List (Option ℕ)) (hand : HandState)
 
   -- A variable that the call borrows from keeps what it owned.
   lends_owned : (a : Argument) (x : ℕ) → IsKeptBy arguments a.from → a.from < 16 → is_owned (var_of s a.from) ≡ true
-      → row_of rows a.from ≡ Some x → 1 ≤ over_variables (owns x) left.vars kept
+      → row_of rows a.from ≡ Some x → 1 ≤ over_variables (owns x) left.slots kept
   lends_owned a x kept_by low owned names =
       let ne : a.from ≢ to = λ e.
       (let wrong : true ≡ false = sym owned ∙ (ap (λ (i : ℕ). is_owned (var_of s i)) e ∙ is.met.free) in absurd cc) in
@@ -114,21 +114,21 @@ module _ (base : Base) (s : State) (rows : List (Option ℕ)) (hand : HandState)
       row_of-set_other (fold without_row rows (stolen arguments)) to a.from None ne
       ∙ (kept_row rows (stolen arguments) a.from kept_by ∙ names) in
       let all =
-      sum_at (owns x) a.from left.vars kept (omega (arith, low, left_sixteen.vars))
+      sum_at (owns x) a.from left.slots kept (omega (arith, low, left_sixteen.slots))
       (omega (arith, low, left_sixteen.named)) in
       let one : owns x (var_of left a.from) (row_of kept a.from) ≡ 1 =
-      ap (λ (w : VarState). owns x w (row_of kept a.from)) var
+      ap (λ (w : Slot). owns x w (row_of kept a.from)) var
       ∙ (ap (owns x (var_of s a.from)) row ∙ owns_itself x (var_of s a.from) owned) in
       omega (arith, all, one)
     where
-      owns_itself : (x : ℕ) (slot : VarState) → is_owned slot ≡ true → owns x slot (Some x) ≡ 1
+      owns_itself : (x : ℕ) (slot : Slot) → is_owned slot ≡ true → owns x slot (Some x) ≡ 1
       owns_itself x (Owned k) owned = ap (λ (b : Bool). cond b 1 0) (eq-eqb x x refl)
       owns_itself x Empty owned = let wrong : false ≡ true = owned in absurd cc
       owns_itself x (Caller k) owned = let wrong : false ≡ true = owned in absurd cc
       owns_itself x (Locked k) owned = let wrong : false ≡ true = owned in absurd cc
 
   -- What an argument lends is held outside the callee.
-  lends : (a : Argument) (x : ℕ) (slot : VarState) → var_of s a.from ≡ slot → is_empty slot ≡ false
+  lends : (a : Argument) (x : ℕ) (slot : Slot) → var_of s a.from ≡ slot → is_empty slot ≡ false
       → IsKeptBy arguments a.from → a.from < 16 → row_of rows a.from ≡ Some x → IsCounted hand.view.layout x
       → 1 ≤ inner.held x
   lends a x Empty same used kept_by low names counted = let wrong : true ≡ false = used in absurd cc
@@ -138,7 +138,7 @@ module _ (base : Base) (s : State) (rows : List (Option ℕ)) (hand : HandState)
       let more = lent_outer base s rows hand is.fits a.from x k same names counted in omega (arith, more)
   lends a x (Locked k) same used kept_by low names counted =
       let item : SlotFits base.held hand.view (Locked k) (row_of rows a.from) =
-      subst (λ (w : VarState). SlotFits base.held hand.view w (row_of rows a.from)) same (is.fits.each a.from) in
+      subst (λ (w : Slot). SlotFits base.held hand.view w (row_of rows a.from)) same (is.fits.each a.from) in
       absurd (none_some item.borrows.list (sym (no_lock base s rows hand is.fits is.met.unlocked).0
       ∙ item.borrows.locked))
 
@@ -177,8 +177,8 @@ module _ (base : Base) (s : State) (rows : List (Option ℕ)) (hand : HandState)
       (root : 1 ≤ base.held root_row) (room : base.most + call_room * (number + 1) < most_references) where
     less_room : inner.most + call_room * (callee + 1) < most_references
     less_room =
-        let own = sum_lists base.first.view.layout left.vars kept in
-        omega (arith, room, above, own, left_sixteen.vars)
+        let own = sum_lists base.first.view.layout left.slots kept in
+        omega (arith, room, above, own, left_sixteen.slots)
 
     entry_fits : Fits inner (entry_of parameters) (passed_variables rows arguments) hand
     entry_fits = record {
@@ -186,7 +186,7 @@ module _ (base : Base) (s : State) (rows : List (Option ℕ)) (hand : HandState)
       room = omega (arith, less_room);
       follows = is.fits.follows;
       rests = is.fits.rests;
-      some_vars = entry_length parameters;
+      some_slots = entry_length parameters;
       some_rows = passed_length rows arguments;
       each = passed_each (SlotFits inner.held hand.view)
           (record {
@@ -223,10 +223,10 @@ module _ (base : Base) (s : State) (rows : List (Option ℕ)) (hand : HandState)
   emptied_fits held v t rs x all low each i = elim (eqb_tells i x) [
     | inl same ↦
         subst (λ (k : ℕ). SlotFits held v (var_of (put t x Empty) k) (row_of (slice_set rs x None) k)) (sym same.1)
-        (subst (λ (w : VarState). SlotFits held v w (row_of (slice_set rs x None) x))
-        (sym (var_of-put_same t x Empty (omega (arith, low, all.vars)))) tt)
+        (subst (λ (w : Slot). SlotFits held v w (row_of (slice_set rs x None) x))
+        (sym (var_of-put_same t x Empty (omega (arith, low, all.slots)))) tt)
     | inr apart ↦
-        subst (λ (w : VarState). SlotFits held v w (row_of (slice_set rs x None) i))
+        subst (λ (w : Slot). SlotFits held v w (row_of (slice_set rs x None) i))
         (sym (var_of-put_other t x i Empty apart.1))
         (subst (SlotFits held v (var_of t i)) (sym (row_of-set_other rs x i None apart.1)) (each i))
   ]
@@ -260,13 +260,13 @@ module _ (base : Base) (s : State) (rows : List (Option ℕ)) (hand : HandState)
     room = is.fits.room;
     follows = returned.follows;
     rests = returned.rests;
-    some_vars = left_sixteen.vars;
+    some_slots = left_sixteen.slots;
     some_rows = left_sixteen.named;
     each = left_slots after.view more;
     held = λ y counted. returned.held y counted;
     few = returned.few;
-    lock = subst (λ (l : Option ℕ). LocksAs l base.first.slots left kept after) (sym left_unlocked)
-        (returned.unlocked, returned.slots);
+    lock = subst (λ (l : Option ℕ). LocksAs l base.first.fields left kept after) (sym left_unlocked)
+        (returned.unlocked, returned.fields);
   }
 
   -- It has returned a reference: the call has it besides.
@@ -276,25 +276,25 @@ module _ (base : Base) (s : State) (rows : List (Option ℕ)) (hand : HandState)
       let slot = Owned kinds.Any in
       let next = put left to slot in
       let next_rows = slice_set kept to (Some row) in
-      let in_vars : to < length left.vars = omega (arith, is.to_low, left_sixteen.vars) in
+      let in_slots : to < length left.slots = omega (arith, is.to_low, left_sixteen.slots) in
       let in_rows : to < length kept = omega (arith, is.to_low, left_sixteen.named) in
-      let empty : (f : VarState → Option ℕ → ℕ) → Counts f → f (var_of left to) (row_of kept to) ≡ 0 =
+      let empty : (f : Slot → Option ℕ → ℕ) → Counts f → f (var_of left to) (row_of kept to) ≡ 0 =
       λ f counts. counts.bare (var_of left to) (row_of kept to)
-      (ap is_owned (var_of-put_same (without_stolen s arguments) to Empty (omega (arith, is.to_low, stole.vars)))) in
-      let sums : (f : VarState → Option ℕ → ℕ) → Counts f
-      → over_variables f next.vars next_rows ≡ over_variables f left.vars kept + f slot (Some row) = λ f counts.
-      let set = sum_set f to left.vars kept slot (Some row) in_vars in_rows in
+      (ap is_owned (var_of-put_same (without_stolen s arguments) to Empty (omega (arith, is.to_low, stole.slots)))) in
+      let sums : (f : Slot → Option ℕ → ℕ) → Counts f
+      → over_variables f next.slots next_rows ≡ over_variables f left.slots kept + f slot (Some row) = λ f counts.
+      let set = sum_set f to left.slots kept slot (Some row) in_slots in_rows in
       let none = empty f counts in
       omega (arith, set, none) in
       let each : (i : ℕ) → SlotFits base.held after.view (var_of next i) (row_of next_rows i) = λ i.
       elim (eqb_tells i to) [
         | inl same ↦
             subst (λ (k : ℕ). SlotFits base.held after.view (var_of next k) (row_of next_rows k)) (sym same.1)
-            (subst (λ (w : VarState). SlotFits base.held after.view w (row_of next_rows to))
-            (sym (var_of-put_same left to slot in_vars))
+            (subst (λ (w : Slot). SlotFits base.held after.view w (row_of next_rows to))
+            (sym (var_of-put_same left to slot in_slots))
             (record { object = row; is = row_of-set_same kept to (Some row) in_rows; knows = Unknown refl }))
         | inr apart ↦
-            subst (λ (w : VarState). SlotFits base.held after.view w (row_of next_rows i))
+            subst (λ (w : Slot). SlotFits base.held after.view w (row_of next_rows i))
             (sym (var_of-put_other left to i slot apart.1))
             (subst (SlotFits base.held after.view (var_of left i))
             (sym (row_of-set_other kept to i (Some row) apart.1)) (left_slots after.view more i))
@@ -305,7 +305,7 @@ module _ (base : Base) (s : State) (rows : List (Option ℕ)) (hand : HandState)
         room = is.fits.room;
         follows = returned.follows;
         rests = returned.rests;
-        some_vars = length-set left.vars to slot ∙ left_sixteen.vars;
+        some_slots = length-set left.slots to slot ∙ left_sixteen.slots;
         some_rows = length-set kept to (Some row) ∙ left_sixteen.named;
         each = each;
         held = λ y counted.
@@ -316,8 +316,8 @@ module _ (base : Base) (s : State) (rows : List (Option ℕ)) (hand : HandState)
             let all = sums (lists base.first.view.layout) (lists_counts base.first.view.layout) in
             let had = returned.few in
             omega (arith, all, had);
-        lock = subst (λ (l : Option ℕ). LocksAs l base.first.slots next next_rows after) (sym left_unlocked)
-            (returned.unlocked, returned.slots);
+        lock = subst (λ (l : Option ℕ). LocksAs l base.first.fields next next_rows after) (sym left_unlocked)
+            (returned.unlocked, returned.fields);
       })
 
 -- Each argument of a call whose conditions are met names a row.

@@ -5,12 +5,12 @@ use Rattle.std.proofs.lemmas.Bool.{cases_Bool, eq-eqb, false≢true}
 use Rattle.brc_lang.specs.declared.kind.Kind.{Kind}
 use Rattle.brc_model.specs.References.{one_if}
 use Rattle.brc_model.specs.declared.layout.Layout.{Layout}
-use Rattle.brc_model.specs.declared.state.VarState.{VarState}
-use Rattle.brc_model.specs.declared.state.VarState.TheVariants.{Empty, Owned, Caller, Locked}
+use Rattle.brc_model.specs.declared.state.Slot.{Slot}
+use Rattle.brc_model.specs.declared.state.Slot.TheVariants.{Empty, Owned, Caller, Locked}
 use Rattle.brc_model.specs.declared.state.State.{State}
 use Rattle.brc_model.specs.Items.{borrows_item}
 use Rattle.brc_model.specs.Layout.{is_immortal_row, IsCounted}
-use Rattle.brc_model.specs.VarStates.{var_of, kind_of, is_empty, is_owned, is_one_of, with_resource, with_kind, names}
+use Rattle.brc_model.specs.SlotStates.{var_of, kind_of, is_empty, is_owned, is_one_of, with_resource, with_kind, names}
 use Rattle.brc_model.specs.Duties.{resources_of}
 use Rattle.brc_model.specs.Threads.{row_of}
 use Rattle.brc_model.proofs.Basics.Lists.{some_is, none_some}
@@ -27,7 +27,7 @@ use Rattle.brc_work.proofs.Owning.{sum_at, sum_both, sum_lists}
 -- ---- what a slot says of its row
 
 -- A variable in use names an object.
-pub named : (held : ℕ → ℕ) (v : View) (slot : VarState) (row : Option ℕ) → is_empty slot ≡ false
+pub named : (held : ℕ → ℕ) (v : View) (slot : Slot) (row : Option ℕ) → is_empty slot ≡ false
     → SlotFits held v slot row
     → (x : ℕ) × (row ≡ Some x)
 named held v Empty row used fits = let wrong : true ≡ false = used in absurd cc
@@ -35,7 +35,7 @@ named held v (Owned k) row used fits = (fits.object, fits.is)
 named held v (Caller k) row used fits = (fits.names.object, fits.names.is)
 named held v (Locked k) row used fits = (fits.names.object, fits.names.is)
 
-owns_one : (slot : VarState) (row : Option ℕ) (x : ℕ) → is_owned slot ≡ true → row ≡ Some x → owns x slot row ≡ 1
+owns_one : (slot : Slot) (row : Option ℕ) (x : ℕ) → is_owned slot ≡ true → row ≡ Some x → owns x slot row ≡ 1
 owns_one Empty row x owned is = let wrong : false ≡ true = owned in absurd cc
 owns_one (Owned k) row x owned is =
     ap (owns x (Owned k)) is ∙ ap one_if (eq-eqb x x refl)
@@ -45,11 +45,11 @@ owns_one (Locked k) row x owned is = let wrong : false ≡ true = owned in absur
 -- ---- what the hand holds
 
 module _ (base : Base) (s : State) (rows : List (Option ℕ)) (hand : HandState) (fits : Fits base s rows hand) where
-  low_slot : (i : ℕ) → is_owned (var_of s i) ≡ true → i < length s.vars
-  low_slot i owned = omega (arith, owned_low s i fits.some_vars owned, fits.some_vars)
+  low_slot : (i : ℕ) → is_owned (var_of s i) ≡ true → i < length s.slots
+  low_slot i owned = omega (arith, owned_low s i fits.some_slots owned, fits.some_slots)
 
   low_row : (i : ℕ) → is_owned (var_of s i) ≡ true → i < length rows
-  low_row i owned = omega (arith, owned_low s i fits.some_vars owned, fits.some_rows)
+  low_row i owned = omega (arith, owned_low s i fits.some_slots owned, fits.some_rows)
 
   here : (x : ℕ) → IsCounted hand.view.layout x → IsCounted base.first.view.layout x
   here x counted = subst (λ (l : Layout). IsCounted l x) fits.follows.layout counted
@@ -59,7 +59,7 @@ module _ (base : Base) (s : State) (rows : List (Option ℕ)) (hand : HandState)
       → 1 ≤ holds hand.view x
   owned_held i x owned is counted =
       let one = owns_one (var_of s i) (row_of rows i) x owned is in
-      let all = sum_at (owns x) i s.vars rows (low_slot i owned) (low_row i owned) in
+      let all = sum_at (owns x) i s.slots rows (low_slot i owned) (low_row i owned) in
       omega (arith, one, all, fits.held x (here x counted))
 
   -- and one to what it holds further out,
@@ -71,7 +71,7 @@ module _ (base : Base) (s : State) (rows : List (Option ℕ)) (hand : HandState)
       → IsCounted hand.view.layout x → 2 ≤ holds hand.view x
   owned_outer i x owned is more counted =
       let one = owns_one (var_of s i) (row_of rows i) x owned is in
-      let all = sum_at (owns x) i s.vars rows (low_slot i owned) (low_row i owned) in
+      let all = sum_at (owns x) i s.slots rows (low_slot i owned) (low_row i owned) in
       omega (arith, one, all, more, fits.held x (here x counted))
 
   -- What the caller lends it holds further out.
@@ -79,7 +79,7 @@ module _ (base : Base) (s : State) (rows : List (Option ℕ)) (hand : HandState)
       → 1 ≤ base.held x
   lent_outer i x k is row counted =
       let lent : SlotFits base.held hand.view (Caller k) (row_of rows i) =
-      subst (λ (w : VarState). SlotFits base.held hand.view w (row_of rows i)) is (fits.each i) in
+      subst (λ (w : Slot). SlotFits base.held hand.view w (row_of rows i)) is (fits.each i) in
       let same : lent.names.object ≡ x = some_is lent.names.object x (sym lent.names.is ∙ row) in
       subst (λ (y : ℕ). 1 ≤ base.held y) same (lent.lent (subst (IsCounted hand.view.layout) (sym same) counted))
 
@@ -90,7 +90,7 @@ module _ (base : Base) (s : State) (rows : List (Option ℕ)) (hand : HandState)
       let one = owns_one (var_of s i) (row_of rows i) x owned is in
       let two = owns_one (var_of s j) (row_of rows j) x owned_too is_too in
       let all =
-      sum_both (owns x) i j s.vars rows apart (low_slot i owned) (low_row i owned) (low_slot j owned_too)
+      sum_both (owns x) i j s.slots rows apart (low_slot i owned) (low_row i owned) (low_slot j owned_too)
       (low_row j owned_too) in
       omega (arith, one, two, all, fits.held x (here x counted))
 
@@ -102,7 +102,7 @@ module _ (base : Base) (s : State) (rows : List (Option ℕ)) (hand : HandState)
   ]
 
   -- or what the caller lends,
-  lasting_slot : (i x : ℕ) (slot : VarState) → var_of s i ≡ slot → is_empty slot ≡ false → borrows_item slot ≡ false
+  lasting_slot : (i x : ℕ) (slot : Slot) → var_of s i ≡ slot → is_empty slot ≡ false → borrows_item slot ≡ false
       → row_of rows i ≡ Some x → HoldsOne hand.view x
   lasting_slot i x Empty is used lasting row = let wrong : true ≡ false = used in absurd cc
   lasting_slot i x (Owned k) is used lasting row = owned_one i x (ap is_owned is) row
@@ -118,14 +118,14 @@ module _ (base : Base) (s : State) (rows : List (Option ℕ)) (hand : HandState)
   lasting_one i x used lasting row = lasting_slot i x (var_of s i) refl used lasting row
 
   -- and it may use what a variable in use names.
-  usable_slot : (i x : ℕ) (slot : VarState) → var_of s i ≡ slot → is_empty slot ≡ false → row_of rows i ≡ Some x
+  usable_slot : (i x : ℕ) (slot : Slot) → var_of s i ≡ slot → is_empty slot ≡ false → row_of rows i ≡ Some x
       → MayUse hand.view x
   usable_slot i x Empty is used row = let wrong : true ≡ false = used in absurd cc
   usable_slot i x (Owned k) is used row = inl (lasting_slot i x (Owned k) is refl refl row)
   usable_slot i x (Caller k) is used row = inl (lasting_slot i x (Caller k) is refl refl row)
   usable_slot i x (Locked k) is used row =
       let item : SlotFits base.held hand.view (Locked k) (row_of rows i) =
-      subst (λ (w : VarState). SlotFits base.held hand.view w (row_of rows i)) is (fits.each i) in
+      subst (λ (w : Slot). SlotFits base.held hand.view w (row_of rows i)) is (fits.each i) in
       let same : item.names.object ≡ x = some_is item.names.object x (sym item.names.is ∙ row) in
       inr (subst (Borrows hand.view) same item.borrows)
 
@@ -137,7 +137,7 @@ module _ (base : Base) (s : State) (rows : List (Option ℕ)) (hand : HandState)
 
   -- ---- the lock
 
-  locked_slot : (i j x : ℕ) (slot : VarState) → var_of s i ≡ slot → LockFits base.first.slots s rows hand i → i ≢ j
+  locked_slot : (i j x : ℕ) (slot : Slot) → var_of s i ≡ slot → LockFits base.first.fields s rows hand i → i ≢ j
       → row_of rows i ≡ Some x → is_owned (var_of s j) ≡ true → row_of rows j ≡ Some x
       → IsCounted hand.view.layout x → 2 ≤ holds hand.view x
   locked_slot i j x Empty is lock apart row owned other counted =
@@ -150,7 +150,7 @@ module _ (base : Base) (s : State) (rows : List (Option ℕ)) (hand : HandState)
       let wrong : true ≡ false = sym (ap borrows_item is) ∙ lock.lasting in absurd cc
 
   -- A reference that may be given up isn't the last one to the locked object.
-  gives_up : (from x : ℕ) (locked : Option ℕ) → s.locked ≡ locked → LocksAs locked base.first.slots s rows hand
+  gives_up : (from x : ℕ) (locked : Option ℕ) → s.locked ≡ locked → LocksAs locked base.first.fields s rows hand
       → CanGive s from → row_of rows from ≡ Some x → KeepsLock hand.view x
   gives_up from x None is lock can row locked = absurd (none_some x (sym lock.0 ∙ locked))
   gives_up from x (Some i) is lock can row locked =
@@ -167,21 +167,21 @@ module _ (base : Base) (s : State) (rows : List (Option ℕ)) (hand : HandState)
   keeps_lock from x can row = gives_up from x s.locked refl fits.lock can row
 
   -- The locked object is one that the hand holds.
-  pub lock_of : (i : ℕ) → s.locked ≡ Some i → LockFits base.first.slots s rows hand i
-  lock_of i is = subst (λ (l : Option ℕ). LocksAs l base.first.slots s rows hand) is fits.lock
+  pub lock_of : (i : ℕ) → s.locked ≡ Some i → LockFits base.first.fields s rows hand i
+  lock_of i is = subst (λ (l : Option ℕ). LocksAs l base.first.fields s rows hand) is fits.lock
 
   -- ---- how many references
 
   -- It may make one more.
   pub few_more : length hand.view.references + 1 < most_references
   few_more =
-      let most = sum_lists base.first.view.layout s.vars rows in
-      omega (arith, fits.few, fits.room, most, fits.some_vars)
+      let most = sum_lists base.first.view.layout s.slots rows in
+      omega (arith, fits.few, fits.room, most, fits.some_slots)
 
   pub few_held : length hand.view.references < most_references
   few_held =
-      let most = sum_lists base.first.view.layout s.vars rows in
-      omega (arith, fits.few, fits.room, most, fits.some_vars)
+      let most = sum_lists base.first.view.layout s.slots rows in
+      omega (arith, fits.few, fits.room, most, fits.some_slots)
 
 -- ---- kinds
 
@@ -211,7 +211,7 @@ sees_resource v kind x (HasSeen word some seen is) can = record {
 }
 
 -- What a variable in use names is known to be of its slot's kind.
-pub knows_slot : (held : ℕ → ℕ) (v : View) (slot : VarState) (row : Option ℕ) (x : ℕ) → is_empty slot ≡ false
+pub knows_slot : (held : ℕ → ℕ) (v : View) (slot : Slot) (row : Option ℕ) (x : ℕ) → is_empty slot ≡ false
     → SlotFits held v slot row → row ≡ Some x → KnowsKind v (kind_of slot) x
 knows_slot held v Empty row x used fits is = let wrong : true ≡ false = used in absurd cc
 knows_slot held v (Owned k) row x used fits is =
@@ -222,7 +222,7 @@ knows_slot held v (Locked k) row x used fits is =
     subst (KnowsKind v k) (some_is fits.names.object x (sym fits.names.is ∙ is)) fits.names.knows
 
 -- The slot with another kind, which the hand knows to be the object's.
-pub fits_with_kind : (held : ℕ → ℕ) (v : View) (slot : VarState) (row : Option ℕ) (kind : Kind)
+pub fits_with_kind : (held : ℕ → ℕ) (v : View) (slot : Slot) (row : Option ℕ) (kind : Kind)
     → ((x : ℕ) → row ≡ Some x → KnowsKind v kind x) → SlotFits held v slot row
     → SlotFits held v (with_kind slot kind) row
 fits_with_kind held v Empty row kind knows fits = tt

@@ -1,22 +1,22 @@
 -- What a worker does with the resource of the file or socket that it has locked.
 use Rattle.std.proofs.Common.{◌≡◌, ℕ, true, List, ◌∷◌, Option, Some, sym, ap, ◌∙◌}
 use Rattle.brc_model.specs.declared.state.State.{State}
-use Rattle.brc_model.specs.VarStates.{var_of, kind_of, is_one_of, with_resource, names}
+use Rattle.brc_model.specs.SlotStates.{var_of, kind_of, is_one_of, with_resource, names}
 use Rattle.brc_model.specs.Threads.{row_of}
 use Rattle.brc_model.proofs.Basics.Lists.{some_is}
 use Rattle.brc_table.specs.declared.view.View.{View}
-use Rattle.brc_table.specs.Uses.{FirstSlot, behind_slot}
+use Rattle.brc_table.specs.Uses.{FirstField, behind_field}
 use Rattle.brc_table.specs.Hands.{HandState}
 use Rattle.brc_work.specs.Fits.{Base, Fits}
 use Rattle.brc_work.proofs.Conditions.{locked_is}
 use Rattle.brc_work.proofs.Holding.{lock_of}
 
--- The variable names the object that the hand has locked, whose slot has a resource.
+-- The variable names the object that the hand has locked, whose field has a resource.
 pub record OnFile (hand : HandState) (row : ℕ) : Type 0 where
   pub locked : hand.view.actor.locked ≡ Some row
-  pub whole : hand.view.in_slot ≡ 1
+  pub whole : hand.view.in_field ≡ 1
   pub rest : List (ℕ × ℕ)
-  pub slots : hand.slots ≡ (row, 1) ∷ rest
+  pub fields : hand.fields ≡ (row, 1) ∷ rest
 
 pub on_file : (base : Base) (s : State) (rows : List (Option ℕ)) (hand : HandState) (file row : ℕ)
     → Fits base s rows hand → names s.locked file ≡ true
@@ -27,18 +27,18 @@ on_file base s rows hand file row fits is has named =
     record {
       locked = lock.locked ∙ ap Some same;
       whole = lock.resource has;
-      rest = base.first.slots;
-      slots =
-          lock.slots ∙ (ap (λ (x : ℕ). (x, hand.view.in_slot) ∷ base.first.slots) same
-          ∙ ap (λ (n : ℕ). (row, n) ∷ base.first.slots) (lock.resource has));
+      rest = base.first.fields;
+      fields =
+          lock.fields ∙ (ap (λ (x : ℕ). (x, hand.view.in_field) ∷ base.first.fields) same
+          ∙ ap (λ (n : ℕ). (row, n) ∷ base.first.fields) (lock.resource has));
     }
 
-pub there : (hand : HandState) (row : ℕ) → OnFile hand row → FirstSlot hand.slots row 1
-there hand row on = record { rest = on.rest; is = on.slots }
+pub there : (hand : HandState) (row : ℕ) → OnFile hand row → FirstField hand.fields row 1
+there hand row on = record { rest = on.rest; is = on.fields }
 
 same_hand : (hand after : HandState) → after.table ≡ hand.table → after.view ≡ hand.view → after.carried ≡ hand.carried
-    → after.slots ≡ hand.slots → after ≡ hand
-same_hand hand after table view carried slots =
+    → after.fields ≡ hand.fields → after ≡ hand
+same_hand hand after table view carried fields =
     ap (λ t. record after { table = t }) table
     ∙ (ap (λ (v : View). record after { table = hand.table; view = v }) view
     ∙ (ap (λ (l : List (Option ℕ)). record after { table = hand.table; view = hand.view; carried = l }) carried
@@ -46,15 +46,15 @@ same_hand hand after table view carried slots =
       table = hand.table;
       view = hand.view;
       carried = hand.carried;
-      slots = l;
-    }) slots))
+      fields = l;
+    }) fields))
 
 -- Once the resource is back, the hand is as it was.
 pub lent_back : (hand lent after : HandState) (row : ℕ) → OnFile hand row → after.table ≡ hand.table
     → lent.view ≡ hand.view → after.view ≡ lent.view → lent.carried ≡ hand.carried → after.carried ≡ lent.carried
-    → lent.slots ≡ (row, 0) ∷ behind_slot hand.slots → after.slots ≡ (row, 1) ∷ behind_slot lent.slots → after ≡ hand
-lent_back hand lent after row on table view back carried carried_back slots slots_back =
+    → lent.fields ≡ (row, 0) ∷ behind_field hand.fields → after.fields ≡ (row, 1) ∷ behind_field lent.fields → after ≡ hand
+lent_back hand lent after row on table view back carried carried_back fields fields_back =
     same_hand hand after table (back ∙ view) (carried_back ∙ carried)
-    (slots_back
-    ∙ (ap (λ (l : List (ℕ × ℕ)). (row, 1) ∷ behind_slot l) slots
-    ∙ (ap (λ (l : List (ℕ × ℕ)). (row, 1) ∷ behind_slot l) on.slots ∙ sym on.slots)))
+    (fields_back
+    ∙ (ap (λ (l : List (ℕ × ℕ)). (row, 1) ∷ behind_field l) fields
+    ∙ (ap (λ (l : List (ℕ × ℕ)). (row, 1) ∷ behind_field l) on.fields ∙ sym on.fields)))

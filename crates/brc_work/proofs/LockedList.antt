@@ -8,7 +8,7 @@ use Rattle.brc_model.specs.References.{one_if}
 use Rattle.brc_model.specs.declared.layout.Layout.{Layout}
 use Rattle.brc_model.specs.declared.state.State.{State}
 use Rattle.brc_model.specs.Layout.{is_immortal_row, IsCounted}
-use Rattle.brc_model.specs.VarStates.{names}
+use Rattle.brc_model.specs.SlotStates.{names}
 use Rattle.brc_model.specs.Threads.{row_of}
 use Rattle.brc_model.proofs.Basics.Lists.{some_is, none_some}
 use Rattle.brc_table.specs.declared.view.View.{View}
@@ -48,11 +48,11 @@ on_list base s rows hand list row fits is named =
 
 -- The hand has asked how many cells the list has,
 pub sized_acts : (hand after : HandState) (x word : ℕ) → Rests hand → KeepsWork hand.view after.view
-    → after.table ≡ hand.table → after.carried ≡ hand.carried → after.slots ≡ hand.slots
+    → after.table ≡ hand.table → after.carried ≡ hand.carried → after.fields ≡ hand.fields
     → after.view.actor.locked ≡ hand.view.actor.locked → after.view ≡ view_after (asking hand.view x) word
     → ActsElsewhere hand after
-sized_acts hand after x word rests kept table carried slots locked view = record {
-  acts = kept_acts hand after rests kept table carried slots locked;
+sized_acts hand after x word rests kept table carried fields locked view = record {
+  acts = kept_acts hand after rests kept table carried fields locked;
   cells = asked_cells hand.view after.view x word view;
 }
 
@@ -70,11 +70,11 @@ item_cells v u x cell word locks sees y i before locked seen =
     ]
 
 pub item_acts : (hand after : HandState) (x cell word : ℕ) → Rests hand → KeepsWork hand.view after.view
-    → after.table ≡ hand.table → after.carried ≡ hand.carried → after.slots ≡ hand.slots
+    → after.table ≡ hand.table → after.carried ≡ hand.carried → after.fields ≡ hand.fields
     → hand.view.actor.locked ≡ Some x → after.view.actor.locked ≡ Some x → SeesItem x cell word hand.view after.view
     → ActsElsewhere hand after
-item_acts hand after x cell word rests kept table carried slots before locked sees = record {
-  acts = kept_acts hand after rests kept table carried slots (locked ∙ sym before);
+item_acts hand after x cell word rests kept table carried fields before locked sees = record {
+  acts = kept_acts hand after rests kept table carried fields (locked ∙ sym before);
   cells = item_cells hand.view after.view x cell word before sees;
 }
 
@@ -123,13 +123,13 @@ came_out hand after x cell item (suc old) result swaps is =
     subst (CameOut hand after item) (sym is) (Something old swaps.references)
 
 pub swapped_acts : (hand after : HandState) (x : ℕ) → Rests hand → KeepsBesides hand.view after.view
-    → after.table ≡ hand.table → after.carried ≡ hand.carried → after.slots ≡ hand.slots
+    → after.table ≡ hand.table → after.carried ≡ hand.carried → after.fields ≡ hand.fields
     → hand.view.actor.locked ≡ Some x → after.view.actor.locked ≡ Some x → Acts hand after
-swapped_acts hand after x rests kept table carried slots before locked =
+swapped_acts hand after x rests kept table carried fields before locked =
     let mid = with_references hand after.view.references in
     let beside = beside_acts hand after.view.references rests in
     acts_then hand mid after beside.acts
-    (kept_acts mid after beside.acts.rests kept table carried slots (locked ∙ sym before))
+    (kept_acts mid after beside.acts.rests kept table carried fields (locked ∙ sym before))
 
 module _ (hand after : HandState) (row item old : ℕ) (held : HoldsOne hand.view row)
     (locked : hand.view.actor.locked ≡ Some row) (puts : MayPut hand.view (suc item))
@@ -192,8 +192,8 @@ besides hand after references acts = record {
   rests = acts.rests;
   more = record { layout = acts.more.layout; kinds = acts.more.kinds };
   locked = acts.locked;
-  in_slot = acts.in_slot;
-  slots = acts.slots;
+  in_field = acts.in_field;
+  fields = acts.fields;
 }
 
 -- A hand that rests has nothing to do about any row.
@@ -263,9 +263,9 @@ out_is hand after x cell item old found result swaps is this =
 -- The worker has asked how many cells its list has.
 pub sized_fits : (base : Base) (s : State) (rows : List (Option ℕ)) (hand after : HandState) (x word : ℕ)
     → Fits base s rows hand → KeepsWork hand.view after.view → after.table ≡ hand.table → after.carried ≡ hand.carried
-    → after.slots ≡ hand.slots → after.view.actor.locked ≡ hand.view.actor.locked → after.view
+    → after.fields ≡ hand.fields → after.view.actor.locked ≡ hand.view.actor.locked → after.view
     ≡ view_after (asking hand.view x) word
     → Fits base s rows after
-sized_fits base s rows hand after x word fits kept table carried slots locked view =
-    same_fits base s rows hand after fits (sized_acts hand after x word fits.rests kept table carried slots locked view)
+sized_fits base s rows hand after x word fits kept table carried fields locked view =
+    same_fits base s rows hand after fits (sized_acts hand after x word fits.rests kept table carried fields locked view)
     kept.references

@@ -4,12 +4,12 @@ use Rattle.std.specs.Prelude.{◌||◌, slice_set}
 use Rattle.std.proofs.lemmas.Bool.{false≢true}
 use Rattle.brc_lang.specs.declared.module.Instr.TheVariants as instructions
 use Rattle.brc_model.specs.declared.layout.Layout.{Layout}
-use Rattle.brc_model.specs.declared.state.VarState.{VarState}
-use Rattle.brc_model.specs.declared.state.VarState.TheVariants.{Empty, Owned}
+use Rattle.brc_model.specs.declared.state.Slot.{Slot}
+use Rattle.brc_model.specs.declared.state.Slot.TheVariants.{Empty, Owned}
 use Rattle.brc_model.specs.declared.state.State.{State}
 use Rattle.brc_model.specs.declared.state.Exit.TheVariants.{Success}
 use Rattle.brc_model.specs.Layout.{is_immortal_row}
-use Rattle.brc_model.specs.VarStates.{var_of, kind_of, is_empty, is_owned, is_borrowed, names, put, lowest, after}
+use Rattle.brc_model.specs.SlotStates.{var_of, kind_of, is_empty, is_owned, is_borrowed, names, put, lowest, after}
 use Rattle.brc_model.specs.Threads.{row_of}
 use Rattle.brc_model.proofs.Basics.Lists.{first_false, second_false}
 use Rattle.brc_model.proofs.Dispatch.Grounded.{var_of-put_other}
@@ -42,7 +42,7 @@ given base s rows hand after from x fits can is less =
     let owned = owned_kind (var_of s from) can.owned in
     let held = held_in base.first.view.layout hand x fits.follows.layout
     (owned_one base s rows hand fits from x can.owned is) in
-    subst (λ (w : VarState). Trades base.first.view.layout w Empty (row_of rows from) None hand after) (sym owned.1)
+    subst (λ (w : Slot). Trades base.first.view.layout w Empty (row_of rows from) None hand after) (sym owned.1)
     (subst (λ (w : Option ℕ). Trades base.first.view.layout (Owned owned.0) Empty w None hand after) (sym is)
     (loses base.first.view.layout owned.0 x hand after held less))
 

@@ -16,7 +16,7 @@ use Rattle.brc_model.specs.Layout.{root_row}
 use Rattle.brc_model.specs.Paths.{IsAcceptable}
 use Rattle.brc_model.specs.Tables.{AreTrueWhereReached}
 use Rattle.brc_model.specs.Threads.{function_at, row_of}
-use Rattle.brc_model.specs.VarStates.{var_of, is_empty, lowest, after}
+use Rattle.brc_model.specs.SlotStates.{var_of, is_empty, lowest, after}
 use Rattle.brc_model.specs.declared.state.Exit.TheVariants.{Success, Fault}
 use Rattle.brc_model.specs.declared.state.State.{State}
 use Rattle.brc_model.proofs.Basics.Lists.{all_of_found}

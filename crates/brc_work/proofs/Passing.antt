@@ -2,9 +2,9 @@
 use Rattle.std.proofs.Common.{◌≡◌, ℕ, ◌<◌, List, Option, None, sym, subst}
 use Rattle.std.specs.Prelude.{slice_set}
 use Rattle.brc_lang.specs.declared.module.Instr.{Instr}
-use Rattle.brc_model.specs.declared.state.VarState.TheVariants.{Empty}
+use Rattle.brc_model.specs.declared.state.Slot.TheVariants.{Empty}
 use Rattle.brc_model.specs.declared.state.State.{State}
-use Rattle.brc_model.specs.VarStates.{put}
+use Rattle.brc_model.specs.SlotStates.{put}
 use Rattle.brc_model.proofs.Dispatch.Passing.{AreMet, are_met}
 use Rattle.brc_table.specs.Hands.{TableState, HandState}
 use Rattle.brc_work.specs.Changes.{CanFill}

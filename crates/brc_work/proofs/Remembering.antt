@@ -17,7 +17,7 @@ use Rattle.brc_model.specs.declared.actor.Stage.{Stage}
 use Rattle.brc_model.specs.declared.actor.Stage.TheVariants.{InRange, OutOfRange, Found, Retained, Loaded, Lent, Called, Granted}
 use Rattle.brc_model.specs.declared.address.Address.TheVariants.{KindOf}
 use Rattle.brc_model.specs.declared.duty.Duty.{Duty}
-use Rattle.brc_model.specs.declared.duty.Duty.TheVariants.{KindLoad, LockGate, UnlockGate, CellLoad, LendSlot, ReturnSlot, ReleaseLoad, Settle}
+use Rattle.brc_model.specs.declared.duty.Duty.TheVariants.{KindLoad, LockGate, UnlockGate, CellLoad, LendField, ReturnField, ReleaseLoad, Settle}
 use Rattle.brc_model.specs.declared.duty.Holding.TheVariants.{ByVariable}
 use Rattle.brc_model.specs.declared.layout.Layout.{Layout}
 use Rattle.brc_model.specs.declared.state.Exit.{Exit}
@@ -233,7 +233,7 @@ module _ (layout : Layout) (t : ℕ) (program : Program) (cs : List HostCall) (e
       either Leads (has_room layout t b.used) (lend_action context at variables file)
       (Silent [] (InCall context otherwise (slice_set variables to None)))
       (λ room. row_leads (row_of variables file) _ (λ row.
-      does_leads (LendSlot row) [] (always (Inside context at variables Lent)) refl (λ ds fs c found.
+      does_leads (LendField row) [] (always (Inside context at variables Lent)) refl (λ ds fs c found.
       subst (RemembersInside ds fs c Lent) (sym is) tt))) tt
   instruction_leads context at variables (Some (Write file number otherwise)) is here other clear =
       row_leads (row_of variables number) _ (λ row found. (
@@ -299,8 +299,8 @@ module _ (layout : Layout) (t : ℕ) (program : Program) (cs : List HostCall) (e
       row_leads layout t program cs es b none (Inside context at variables (Called Success)) (row_of variables file) _
       (λ row found. (
         Other refl,
-        subst (RemembersInside cs (es ++ events_of layout t b (ReturnSlot row) found)
-            (actor_by layout t b (ReturnSlot row) [] found) Granted) (sym is) (no_duty b.head, has.1, has.2),
+        subst (RemembersInside cs (es ++ events_of layout t b (ReturnField row) found)
+            (actor_by layout t b (ReturnField row) [] found) Granted) (sym is) (no_duty b.head, has.1, has.2),
       ))
   inside_leads (Called FaultExit) (Some (Read to file most otherwise)) is has =
       row_leads layout t program cs es b none (Inside context at variables (Called FaultExit)) (row_of variables file) _
@@ -311,8 +311,8 @@ module _ (layout : Layout) (t : ℕ) (program : Program) (cs : List HostCall) (e
       row_leads layout t program cs es b none (Inside context at variables Loaded) (row_of variables file) _
       (λ row found. (
         Other refl,
-        subst (RemembersInside cs (es ++ events_of layout t b (LendSlot row) found)
-            (actor_by layout t b (LendSlot row) [] found) Lent) (sym is)
+        subst (RemembersInside cs (es ++ events_of layout t b (LendField row) found)
+            (actor_by layout t b (LendField row) [] found) Lent) (sym is)
             (no_duty b.head, has.1, has.2, append-nil es ∙ has.3),
       ))
   inside_leads Lent (Some (Write file number otherwise)) is has =

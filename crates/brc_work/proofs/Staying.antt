@@ -2,10 +2,10 @@
 use Rattle.std.proofs.Common.{◌≡◌, ℕ, suc, ◌<◌, ◌≤◌, Option, sym, ◌∙◌, subst}
 use Rattle.brc_lang.specs.declared.kind.Kind.{Kind}
 use Rattle.brc_model.specs.declared.layout.Layout.{Layout}
-use Rattle.brc_model.specs.declared.state.VarState.{VarState}
-use Rattle.brc_model.specs.declared.state.VarState.TheVariants.{Empty, Owned, Caller, Locked}
+use Rattle.brc_model.specs.declared.state.Slot.{Slot}
+use Rattle.brc_model.specs.declared.state.Slot.TheVariants.{Empty, Owned, Caller, Locked}
 use Rattle.brc_model.specs.Layout.{row_count, first_immortal_list, first_number, IsCounted}
-use Rattle.brc_model.specs.VarStates.{without_item}
+use Rattle.brc_model.specs.SlotStates.{without_item}
 use Rattle.brc_table.specs.declared.view.View.{View}
 use Rattle.brc_table.specs.Hands.{Borrows}
 use Rattle.brc_work.specs.Acts.{KnowsMore, KeepsCells}
@@ -51,7 +51,7 @@ lent_still held v u kind row more fits = record {
 }
 
 -- What the slot says stays true.
-pub slot_stays : (held : ℕ → ℕ) (v u : View) (slot : VarState) (row : Option ℕ) → Stays v u → SlotFits held v slot row
+pub slot_stays : (held : ℕ → ℕ) (v u : View) (slot : Slot) (row : Option ℕ) → Stays v u → SlotFits held v slot row
     → SlotFits held u slot row
 unfolding names_more
 slot_stays held v u Empty row stays fits = tt
@@ -63,7 +63,7 @@ slot_stays held v u (Locked kind) row stays fits = record {
 }
 
 -- Where nothing is borrowed any more, it stays true whatever became of the list.
-pub slot_bare : (held : ℕ → ℕ) (v u : View) (slot : VarState) (row : Option ℕ) → KnowsMore v u
+pub slot_bare : (held : ℕ → ℕ) (v u : View) (slot : Slot) (row : Option ℕ) → KnowsMore v u
     → SlotFits held v slot row
     → SlotFits held u (without_item slot) row
 slot_bare held v u Empty row more fits = tt

@@ -18,9 +18,9 @@ use Rattle.brc_model.specs.declared.state.State.{State}
 use Rattle.brc_model.specs.declared.state.Exit.{Exit}
 use Rattle.brc_model.specs.Layout.{root_row}
 use Rattle.brc_model.specs.Paths.{At, IsAcceptableFunction}
-use Rattle.brc_model.specs.declared.state.VarState.{VarState}
-use Rattle.brc_model.specs.declared.state.VarState.TheVariants.{Empty, Owned}
-use Rattle.brc_model.specs.VarStates.{var_of, is_owned, put, applies, rising, lowest, after, target, entry_of}
+use Rattle.brc_model.specs.declared.state.Slot.{Slot}
+use Rattle.brc_model.specs.declared.state.Slot.TheVariants.{Empty, Owned}
+use Rattle.brc_model.specs.SlotStates.{var_of, is_owned, put, applies, rising, lowest, after, target, entry_of}
 use Rattle.brc_model.specs.Tables.{Reaches, AreTrueWhereReached}
 use Rattle.brc_model.specs.Threads.{function_of, function_at, row_of, entry_variables}
 use Rattle.brc_model.proofs.Basics.Lists.{some_is, all_of_found}
@@ -80,18 +80,18 @@ goes_to base f at next s i exit rows hand accepted reaches found leads fits =
 -- ---- the end of a call
 
 pub ends : (base : Base) (s : State) (rows : List (Option ℕ)) (hand : HandState) → Fits base s rows hand
-    → list_any is_owned s.vars ≡ false → s.locked ≡ None → HasReturned base hand
+    → list_any is_owned s.slots ≡ false → s.locked ≡ None → HasReturned base hand
 ends base s rows hand fits none unlocked =
     let lock = no_lock base s rows hand fits unlocked in
     record {
       follows = fits.follows;
       rests = fits.rests;
       unlocked = lock.0;
-      slots = lock.1;
-      held = λ y counted. omega (arith, fits.held y counted, sum_none (owns y) (owns_no y) s.vars rows none);
+      fields = lock.1;
+      held = λ y counted. omega (arith, fits.held y counted, sum_none (owns y) (owns_no y) s.slots rows none);
       few =
           let none_listed =
-          sum_none (lists base.first.view.layout) (lists_no base.first.view.layout) s.vars rows none in
+          sum_none (lists base.first.view.layout) (lists_no base.first.view.layout) s.slots rows none in
           omega (arith, fits.few, none_listed);
     }
 
@@ -104,11 +104,11 @@ ends_with base s rows hand from row fits passes names =
     owned_var (var_of s from) (kept _ met.not_empty) (kept _ met.owned) in
     let unlocked = none_is s.locked (kept _ met.no_lock_left) in
     let lock = no_lock base s rows hand fits unlocked in
-    let low = owned_low s from fits.some_vars owned in
-    let sums : (f : VarState → Option ℕ → ℕ) → Counts f
-    → over_variables f s.vars rows ≡ f (Owned kinds.Any) (Some row) = λ f counts.
-    let one = put_sum f counts s rows from (record { vars = fits.some_vars; named = fits.some_rows }) low in
-    let none = sum_none f counts.bare (put s from Empty).vars (slice_set rows from None) (kept _ met.none_left) in
+    let low = owned_low s from fits.some_slots owned in
+    let sums : (f : Slot → Option ℕ → ℕ) → Counts f
+    → over_variables f s.slots rows ≡ f (Owned kinds.Any) (Some row) = λ f counts.
+    let one = put_sum f counts s rows from (record { slots = fits.some_slots; named = fits.some_rows }) low in
+    let none = sum_none f counts.bare (put s from Empty).slots (slice_set rows from None) (kept _ met.none_left) in
     let same : f (var_of s from) (row_of rows from) ≡ f (Owned kinds.Any) (Some row) =
     sym (counts.alike kinds.Any (var_of s from) (row_of rows from) owned) ∙ ap (f (Owned kinds.Any)) names in
     omega (arith, one, none, same) in
@@ -116,7 +116,7 @@ ends_with base s rows hand from row fits passes names =
       follows = fits.follows;
       rests = fits.rests;
       unlocked = lock.0;
-      slots = lock.1;
+      fields = lock.1;
       held = λ y counted.
           let all = sums (owns y) (owns_counts y) in
           let had = fits.held y counted in
@@ -144,7 +144,7 @@ begins_first hand ready = record {
   room = omega (arith, ready.few);
   follows = keeps_later (keeps_first hand.view) (omega arith) refl refl;
   rests = ready.rests;
-  some_vars = refl;
+  some_slots = refl;
   some_rows = refl;
   each = first_slot hand ready;
   held = λ y counted. omega (arith, entry_owned y);

@@ -10,11 +10,11 @@ use Rattle.brc_lang.specs.declared.parameter.Passing.TheVariants.{Borrow, Steal}
 use Rattle.brc_model.specs.Actions.{without_row, argument_rows, passed_variables}
 use Rattle.brc_model.specs.Layout.{root_row}
 use Rattle.brc_model.specs.Threads.{row_of}
-use Rattle.brc_model.specs.VarStates.{var_of, is_owned, put, emptied, steals, is_stolen, stolen, clash, without_stolen, padded, passed_var, parameter_var, entry_of}
+use Rattle.brc_model.specs.SlotStates.{var_of, is_owned, put, emptied, steals, is_stolen, stolen, clash, without_stolen, padded, passed_var, parameter_var, entry_of}
 use Rattle.brc_model.specs.declared.layout.Layout.{Layout}
 use Rattle.brc_model.specs.declared.state.State.{State}
-use Rattle.brc_model.specs.declared.state.VarState.{VarState}
-use Rattle.brc_model.specs.declared.state.VarState.TheVariants.{Empty, Owned, Caller, Locked}
+use Rattle.brc_model.specs.declared.state.Slot.{Slot}
+use Rattle.brc_model.specs.declared.state.Slot.TheVariants.{Empty, Owned, Caller, Locked}
 use Rattle.brc_model.proofs.Dispatch.Calls.{ArgumentsLow, AreSixteen, put_sixteen, ArgumentMet}
 use Rattle.brc_model.proofs.Dispatch.Grounded.{var_of-put_other, row_of-set_other}
 use Rattle.brc_model.proofs.Dispatch.Handing.{AreApart, apart_from}
@@ -26,11 +26,11 @@ use Rattle.brc_work.proofs.Owning.{sum_set, owns_no, lists_no}
 -- ---- what variables own in all
 
 -- The number is one of what a variable owns: without a reference it is 0, and the kind makes no difference.
-pub record Counts (f : VarState → Option ℕ → ℕ) : Type 0 where
-  pub bare : (slot : VarState) (row : Option ℕ) → is_owned slot ≡ false → f slot row ≡ 0
-  pub alike : (k : Kind) (slot : VarState) (row : Option ℕ) → is_owned slot ≡ true → f (Owned k) row ≡ f slot row
+pub record Counts (f : Slot → Option ℕ → ℕ) : Type 0 where
+  pub bare : (slot : Slot) (row : Option ℕ) → is_owned slot ≡ false → f slot row ≡ 0
+  pub alike : (k : Kind) (slot : Slot) (row : Option ℕ) → is_owned slot ≡ true → f (Owned k) row ≡ f slot row
 
-owns_alike : (y : ℕ) (k : Kind) (slot : VarState) (row : Option ℕ) → is_owned slot ≡ true
+owns_alike : (y : ℕ) (k : Kind) (slot : Slot) (row : Option ℕ) → is_owned slot ≡ true
     → owns y (Owned k) row ≡ owns y slot row
 owns_alike y k (Owned j) None owned = refl
 owns_alike y k (Owned j) (Some x) owned = refl
@@ -38,7 +38,7 @@ owns_alike y k Empty row owned = let wrong : false ≡ true = owned in absurd cc
 owns_alike y k (Caller j) row owned = let wrong : false ≡ true = owned in absurd cc
 owns_alike y k (Locked j) row owned = let wrong : false ≡ true = owned in absurd cc
 
-lists_alike : (layout : Layout) (k : Kind) (slot : VarState) (row : Option ℕ) → is_owned slot ≡ true
+lists_alike : (layout : Layout) (k : Kind) (slot : Slot) (row : Option ℕ) → is_owned slot ≡ true
     → lists layout (Owned k) row ≡ lists layout slot row
 lists_alike layout k (Owned j) None owned = refl
 lists_alike layout k (Owned j) (Some x) owned = refl
@@ -52,7 +52,7 @@ owns_counts y = record { bare = owns_no y; alike = owns_alike y }
 pub lists_counts : (layout : Layout) → Counts (lists layout)
 lists_counts layout = record { bare = lists_no layout; alike = lists_alike layout }
 
-module _ (f : VarState → Option ℕ → ℕ) (counts : Counts f) where
+module _ (f : Slot → Option ℕ → ℕ) (counts : Counts f) where
   -- what the call steals from these variables
   abbrev stolen_sum : State → List (Option ℕ) → List Argument → ℕ
   stolen_sum s rows [] = 0
@@ -61,10 +61,10 @@ module _ (f : VarState → Option ℕ → ℕ) (counts : Counts f) where
 
   -- A variable that becomes empty takes away what it owned.
   pub put_sum : (s : State) (rows : List (Option ℕ)) (x : ℕ) → AreSixteen s rows → x < 16
-      → over_variables f (put s x Empty).vars (slice_set rows x None) + f (var_of s x) (row_of rows x)
-      ≡ over_variables f s.vars rows
+      → over_variables f (put s x Empty).slots (slice_set rows x None) + f (var_of s x) (row_of rows x)
+      ≡ over_variables f s.slots rows
   put_sum s rows x all low =
-      let sums = sum_set f x s.vars rows Empty None (omega (arith, low, all.vars)) (omega (arith, low, all.named)) in
+      let sums = sum_set f x s.slots rows Empty None (omega (arith, low, all.slots)) (omega (arith, low, all.named)) in
       omega (arith, sums, counts.bare Empty None refl)
 
   -- Another variable's becoming empty changes nothing of what is stolen.
@@ -77,7 +77,7 @@ module _ (f : VarState → Option ℕ → ℕ) (counts : Counts f) where
       let rest = stolen_still s rows a others steals free.1 in
       let one : f (var_of (put s a.from Empty) b.from) (row_of (slice_set rows a.from None) b.from)
       ≡ f (var_of s b.from) (row_of rows b.from) =
-      ap (λ (w : VarState). f w (row_of (slice_set rows a.from None) b.from))
+      ap (λ (w : Slot). f w (row_of (slice_set rows a.from None) b.from))
       (var_of-put_other s a.from b.from Empty ne)
       ∙ ap (f (var_of s b.from)) (row_of-set_other rows a.from b.from None ne) in
       ap (λ (n : ℕ). cond (is_stolen b) n 0
@@ -87,17 +87,17 @@ module _ (f : VarState → Option ℕ → ℕ) (counts : Counts f) where
   -- The variables own the rest.
   pub emptied_sum : (s : State) (rows : List (Option ℕ)) (arguments : List Argument) → AreSixteen s rows
       → ArgumentsLow arguments → AreApart arguments
-      → over_variables f (without_stolen s arguments).vars (fold without_row rows (stolen arguments))
-      + stolen_sum s rows arguments ≡ over_variables f s.vars rows
+      → over_variables f (without_stolen s arguments).slots (fold without_row rows (stolen arguments))
+      + stolen_sum s rows arguments ≡ over_variables f s.slots rows
   emptied_sum s rows [] all low apart = omega arith
   emptied_sum s rows (a ∷ others) all low apart =
       let froms : List Argument → List ℕ = λ l. map (λ (x : Argument). x.from) l in
       let fs = filter is_stolen others in
       elim (is_stolen a) as (λ c. is_stolen a ≡ c
-      → over_variables f (fold emptied s (froms (cond c (a ∷ fs) fs))).vars
+      → over_variables f (fold emptied s (froms (cond c (a ∷ fs) fs))).slots
       (fold without_row rows (froms (cond c (a ∷ fs) fs)))
       + (cond c (f (var_of s a.from) (row_of rows a.from)) 0 + stolen_sum s rows others)
-      ≡ over_variables f s.vars rows) [
+      ≡ over_variables f s.slots rows) [
         | true ↦ λ steals.
             let rest =
             emptied_sum (put s a.from Empty) (slice_set rows a.from None) others (put_sixteen s rows a.from all) low.1
@@ -109,7 +109,7 @@ module _ (f : VarState → Option ℕ → ℕ) (counts : Counts f) where
       ] refl
 
   -- What a parameter's variable owns is what was stolen for it.
-  passed_one : (p : Passing) (kind : Kind) (slot : VarState) (row : Option ℕ)
+  passed_one : (p : Passing) (kind : Kind) (slot : Slot) (row : Option ℕ)
       → (steals p ≡ true → is_owned slot ≡ true) → f (passed_var p kind) row ≡ cond (steals p) (f slot row) 0
   passed_one Borrow kind slot row owned = counts.bare (Caller kind) row refl
   passed_one Steal kind slot row owned = counts.alike kind slot row (owned refl)
@@ -129,7 +129,7 @@ module _ (f : VarState → Option ℕ → ℕ) (counts : Counts f) where
 
   pub entry_sum : (s : State) (rows : List (Option ℕ)) (arguments : List Argument) → length arguments ≤ 15
       → AllByRecursion (ArgumentMet s) arguments
-      → over_variables f (entry_of (map (λ a. a.parameter) arguments)).vars (passed_variables rows arguments)
+      → over_variables f (entry_of (map (λ a. a.parameter) arguments)).slots (passed_variables rows arguments)
       ≡ stolen_sum s rows arguments
   entry_sum s rows arguments few met =
       let rest = padded_sum 15 s rows arguments few met in

@@ -5,10 +5,10 @@ use Rattle.std.specs.List.{list_any, slice_index_or}
 use Rattle.std.proofs.lemmas.Bool.{cases_Bool}
 use Rattle.std.proofs.lemmas.List.{length-set}
 use Rattle.std.proofs.Math.Nat.{eq-or-lt_of_le}
-use Rattle.brc_model.specs.declared.state.VarState.{VarState}
-use Rattle.brc_model.specs.declared.state.VarState.TheVariants.{Empty}
+use Rattle.brc_model.specs.declared.state.Slot.{Slot}
+use Rattle.brc_model.specs.declared.state.Slot.TheVariants.{Empty}
 use Rattle.brc_model.specs.declared.state.State.{State}
-use Rattle.brc_model.specs.VarStates.{var_of, is_owned, put}
+use Rattle.brc_model.specs.SlotStates.{var_of, is_owned, put}
 use Rattle.brc_model.proofs.Basics.Lists.{either}
 use Rattle.brc_model.proofs.Dispatch.Grounded.{var_of-put_same, var_of-put_other}
 use Rattle.brc_free.specs.Works.{HasReleased}
@@ -21,12 +21,12 @@ use Rattle.brc_work.proofs.CallsBelow.{keeps_acts, none_aside}
 
 -- A reference is given up, and what died is left in the chain.
 pub loosened_acts : (hand after : HandState) (x : ℕ) → Rests (unchained hand) → HasReleased x hand.view after.view
-    → after.table ≡ hand.table → after.carried ≡ hand.carried → after.slots ≡ hand.slots
+    → after.table ≡ hand.table → after.carried ≡ hand.carried → after.fields ≡ hand.fields
     → ActsElsewhere (unchained hand) (unchained after)
-loosened_acts hand after x rests released table carried slots =
+loosened_acts hand after x rests released table carried fields =
     let keeps = released.keeps in
     keeps_acts (unchained hand) (unchained after) (keeps_rest {ds = []} keeps keeps.aside keeps.references keeps.given)
-    (omega arith) rests.running released.agenda (none_aside (unchained hand) x rests) refl table carried slots
+    (omega arith) rests.running released.agenda (none_aside (unchained hand) x rests) refl table carried fields
 
 -- ---- the states in between
 
@@ -43,13 +43,13 @@ emptied_later (suc k) i s past =
     either (λ (t : State). var_of t i ≡ var_of s i) (is_owned (var_of s k)) (put (emptied k s) k Empty) (emptied k s)
     (λ is. var_of-put_other (emptied k s) k i Empty (λ same. omega (arith, same, past)) ∙ before) before
 
-emptied_long : (k : ℕ) (s : State) → length (emptied k s).vars ≡ length s.vars
+emptied_long : (k : ℕ) (s : State) → length (emptied k s).slots ≡ length s.slots
 emptied_long zero s = refl
 emptied_long (suc k) s =
     let before = emptied_long k s in
-    either (λ (t : State). length t.vars ≡ length s.vars) (is_owned (var_of s k)) (put (emptied k s) k Empty)
+    either (λ (t : State). length t.slots ≡ length s.slots) (is_owned (var_of s k)) (put (emptied k s) k Empty)
     (emptied k s)
-    (λ is. length-set (emptied k s).vars k Empty ∙ before) before
+    (λ is. length-set (emptied k s).slots k Empty ∙ before) before
 
 pub emptied_locked : (k : ℕ) (s : State) → (emptied k s).locked ≡ s.locked
 emptied_locked zero s = refl
@@ -59,7 +59,7 @@ emptied_locked (suc k) s =
     (λ is. before) before
 
 -- They own nothing any more.
-emptied_bare : (k i : ℕ) (s : State) → i < k → i < length s.vars → is_owned (var_of (emptied k s) i) ≡ false
+emptied_bare : (k i : ℕ) (s : State) → i < k → i < length s.slots → is_owned (var_of (emptied k s) i) ≡ false
 emptied_bare zero i s low there = absurd (omega (arith, low))
 emptied_bare (suc k) i s low there = elim (eq-or-lt_of_le {n = i} {m = k} (omega (arith, low))) [
   | inl this ↦ elim (cases_Bool (is_owned (var_of s k))) [
@@ -81,15 +81,15 @@ emptied_bare (suc k) i s low there = elim (eq-or-lt_of_le {n = i} {m = k} (omega
       before
 ]
 
-none_owned : (slots : List VarState) → ((i : ℕ) → i < length slots → is_owned (slice_index_or slots i Empty) ≡ false)
+none_owned : (slots : List Slot) → ((i : ℕ) → i < length slots → is_owned (slice_index_or slots i Empty) ≡ false)
     → list_any is_owned slots ≡ false
 none_owned [] each = refl
 none_owned (slot ∷ slots) each =
     ap (λ (b : Bool). b || list_any is_owned slots) (each zero (omega arith))
     ∙ none_owned slots (λ i low. each (suc i) (omega (arith, low)))
 
-pub all_emptied : (s : State) → length s.vars ≡ 16 → list_any is_owned (emptied 16 s).vars ≡ false
+pub all_emptied : (s : State) → length s.slots ≡ 16 → list_any is_owned (emptied 16 s).slots ≡ false
 all_emptied s long =
-    none_owned (emptied 16 s).vars (λ i low.
+    none_owned (emptied 16 s).slots (λ i low.
     let same = emptied_long 16 s in
     emptied_bare 16 i s (omega (arith, low, same, long)) (omega (arith, low, same)))

@@ -7,10 +7,10 @@ use Rattle.std.proofs.lemmas.List.Sums.{sum_by-cons}
 use Rattle.brc_lang.specs.declared.kind.Kind.{Kind}
 use Rattle.brc_model.specs.References.{one_if}
 use Rattle.brc_model.specs.declared.layout.Layout.{Layout}
-use Rattle.brc_model.specs.declared.state.VarState.{VarState}
-use Rattle.brc_model.specs.declared.state.VarState.TheVariants.{Empty, Owned, Caller, Locked}
+use Rattle.brc_model.specs.declared.state.Slot.{Slot}
+use Rattle.brc_model.specs.declared.state.Slot.TheVariants.{Empty, Owned, Caller, Locked}
 use Rattle.brc_model.specs.Layout.{is_immortal_row, IsCounted}
-use Rattle.brc_model.specs.VarStates.{is_owned}
+use Rattle.brc_model.specs.SlotStates.{is_owned}
 use Rattle.brc_table.specs.Views.{holds, without_one, with_reference, without_reference}
 use Rattle.brc_table.specs.Hands.{HandState}
 use Rattle.brc_table.proofs.Accounts.{count_with_reference, count_without_reference, immortal_apart}
@@ -59,7 +59,7 @@ length_without layout x rows kind (inr some) = elim (cases_Bool (is_immortal_row
 
 -- ---- owned slots
 
-pub owned_kind : (slot : VarState) → is_owned slot ≡ true → (kind : Kind) × (slot ≡ Owned kind)
+pub owned_kind : (slot : Slot) → is_owned slot ≡ true → (kind : Kind) × (slot ≡ Owned kind)
 owned_kind Empty owned = let wrong : false ≡ true = owned in absurd cc
 owned_kind (Owned k) owned = (k, refl)
 owned_kind (Caller k) owned = let wrong : false ≡ true = owned in absurd cc
@@ -73,7 +73,7 @@ pub uncounted : (layout : Layout) (x : ℕ) (rows : List ℕ) → is_immortal_ro
 uncounted layout x rows immortal = ap (λ (b : Bool). cond b rows (x ∷ rows)) immortal
 
 -- The hand has a reference more, which the variable now owns.
-pub gains : (layout : Layout) (old : VarState) (before : Option ℕ) (kind : Kind) (x : ℕ) (hand after : HandState)
+pub gains : (layout : Layout) (old : Slot) (before : Option ℕ) (kind : Kind) (x : ℕ) (hand after : HandState)
     → is_owned old ≡ false → after.view.references ≡ with_reference layout x hand.view.references
     → Trades layout old (Owned kind) before (Some x) hand after
 gains layout old before kind x hand after free more = record {
@@ -123,7 +123,7 @@ loses layout kind x hand after held less = record {
 }
 
 -- The hand has what it had, and so has the variable.
-pub nothing : (layout : Layout) (old new : VarState) (before row : Option ℕ) (hand after : HandState)
+pub nothing : (layout : Layout) (old new : Slot) (before row : Option ℕ) (hand after : HandState)
     → is_owned old ≡ false → is_owned new ≡ false → after.view.references ≡ hand.view.references
     → Trades layout old new before row hand after
 nothing layout old new before row hand after free bare same = record {
@@ -144,7 +144,7 @@ nothing layout old new before row hand after free bare same = record {
 }
 
 -- The variable takes over the reference that another one had.
-pub regains : (layout : Layout) (old : VarState) (before : Option ℕ) (kind : Kind) (x : ℕ) (hand after : HandState)
+pub regains : (layout : Layout) (old : Slot) (before : Option ℕ) (kind : Kind) (x : ℕ) (hand after : HandState)
     → is_owned old ≡ false → (is_immortal_row layout x ≡ true) ⊎ (1 ≤ holds after.view x)
     → hand.view.references ≡ without_reference layout x after.view.references
     → Trades layout old (Owned kind) before (Some x) hand after

@@ -21,8 +21,8 @@ pub record Acts (hand after : HandState) : Type 0 where
   pub rests : Rests after
   pub more : KnowsMore hand.view after.view
   pub locked : after.view.actor.locked ≡ hand.view.actor.locked
-  pub in_slot : after.view.in_slot ≡ hand.view.in_slot
-  pub slots : after.slots ≡ hand.slots
+  pub in_field : after.view.in_field ≡ hand.view.in_field
+  pub fields : after.fields ≡ hand.fields
 
 -- Besides, what it has seen in the locked list is still there.
 pub record ActsElsewhere (hand after : HandState) : Type 0 where

@@ -143,7 +143,7 @@ pub record StopsMakeAsHands (functions : List Function) (states : ℕ → ℕ �
       → states (number_under function context.outer) at ≡ Some s → MakesStep functions states layout t
       (thread_at function (InCall context at variables) a) []
       (thread_at function (stopping (row_locked s.locked variables)
-      (owned_rows s.vars variables ∷ given_up functions states function context.outer)) a)
+      (owned_rows s.slots variables ∷ given_up functions states function context.outer)) a)
   pub between : (left : ℕ) → MakesStep functions states layout t (thread_at function (Idle (suc left)) a) []
       (thread_at function (Idle 0) a)
 

@@ -7,7 +7,7 @@ use Rattle.brc_lang.specs.declared.kind.Kind.TheVariants as kinds
 use Rattle.brc_lang.specs.declared.module.Function.{Function}
 use Rattle.brc_lang.specs.declared.module.Instr.{Instr}
 use Rattle.brc_lang.specs.declared.module.Instr.TheVariants.{Call, Ret, Fail}
-use Rattle.brc_model.specs.VarStates.{target, birth_var, entry_of}
+use Rattle.brc_model.specs.SlotStates.{target, birth_var, entry_of}
 use Rattle.brc_model.specs.declared.state.Exit.{Exit}
 use Rattle.brc_model.specs.declared.state.Exit.TheVariants.{Success}
 use Rattle.brc_model.specs.declared.state.State.{State}
@@ -78,7 +78,7 @@ pub record HasReturned (base : Base) (hand : HandState) : Type 0 where
   pub follows : IsLater base.first hand
   pub rests : Rests hand
   pub unlocked : hand.view.actor.locked ≡ None
-  pub slots : hand.slots ≡ base.first.slots
+  pub fields : hand.fields ≡ base.first.fields
   pub held : (y : ℕ) → IsCounted base.first.view.layout y → holds hand.view y ≡ base.held y
   pub few : length hand.view.references ≤ base.most
 
@@ -87,7 +87,7 @@ pub record Returns (base : Base) (row : ℕ) (hand : HandState) : Type 0 where
   pub follows : IsLater base.first hand
   pub rests : Rests hand
   pub unlocked : hand.view.actor.locked ≡ None
-  pub slots : hand.slots ≡ base.first.slots
+  pub fields : hand.fields ≡ base.first.fields
   pub held : (y : ℕ) → IsCounted base.first.view.layout y
       → holds hand.view y ≡ base.held y + owns y (birth_var kinds.Any Success) (Some row)
   pub few : length hand.view.references

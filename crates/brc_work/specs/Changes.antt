@@ -1,7 +1,7 @@
 -- What the parts of instructions ask of variables and hand, and what they leave of them.
 use Rattle.std.specs.Prelude.{◌≡◌, ℕ, true, false, List, Option}
 use Rattle.brc_model.specs.declared.state.State.{State}
-use Rattle.brc_model.specs.VarStates.{var_of, is_owned, names}
+use Rattle.brc_model.specs.SlotStates.{var_of, is_owned, names}
 use Rattle.brc_table.specs.Hands.{TableState, HandState, IsOf}
 use Rattle.brc_work.specs.Fits.{Base, Fits}
 

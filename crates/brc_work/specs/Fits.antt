@@ -8,15 +8,15 @@ use Rattle.brc_lang.specs.declared.module.Instr.{Instr}
 use Rattle.brc_lang.specs.declared.module.Instr.TheVariants.{List as ListObject, Take}
 use Rattle.brc_lang.specs.declared.module.Module.{Module}
 use Rattle.brc_model.specs.declared.actor.Status.TheVariants.{Running}
-use Rattle.brc_model.specs.declared.state.VarState.{VarState}
-use Rattle.brc_model.specs.declared.state.VarState.TheVariants.{Empty, Owned, Caller, Locked}
+use Rattle.brc_model.specs.declared.state.Slot.{Slot}
+use Rattle.brc_model.specs.declared.state.Slot.TheVariants.{Empty, Owned, Caller, Locked}
 use Rattle.brc_model.specs.declared.state.State.{State}
 use Rattle.brc_model.specs.declared.state.Exit.{Exit}
 use Rattle.brc_model.specs.Kinds.{kind_of_word}
 use Rattle.brc_model.specs.declared.layout.Layout.{Layout}
 use Rattle.brc_model.specs.Layout.{none_row, root_row, first_immortal_list, first_number, is_immortal_row, IsCounted}
 use Rattle.brc_model.specs.Items.{borrows_item}
-use Rattle.brc_model.specs.VarStates.{var_of, kind_of, is_empty, is_one_of, with_resource, lowest, after}
+use Rattle.brc_model.specs.SlotStates.{var_of, kind_of, is_empty, is_one_of, with_resource, lowest, after}
 use Rattle.brc_model.specs.Threads.{row_of}
 use Rattle.brc_table.specs.declared.view.View.{View}
 use Rattle.brc_table.specs.Hands.{TableState, HandState, IsOf, Borrows, most_references}
@@ -53,7 +53,7 @@ pub record NamesLent (held : ℕ → ℕ) (v : View) (kind : Kind) (row : Option
   pub lent : IsCounted v.layout names.object → 1 ≤ held names.object
 
 -- What the slot says of its variable is true. A slot that is empty says nothing.
-abbrev pub SlotFits : (ℕ → ℕ) → View → VarState → Option ℕ → Type 0
+abbrev pub SlotFits : (ℕ → ℕ) → View → Slot → Option ℕ → Type 0
 SlotFits held v Empty row = Unit {0}
 SlotFits held v (Owned kind) row = Names v kind row
 SlotFits held v (Caller kind) row = NamesLent held v kind row
@@ -62,23 +62,23 @@ SlotFits held v (Locked kind) row = NamesItem v kind row
 -- ---- what they own
 
 -- how many references to object y a variable with this slot owns, if it names this row
-abbrev pub owns : ℕ → VarState → Option ℕ → ℕ
+abbrev pub owns : ℕ → Slot → Option ℕ → ℕ
 owns y (Owned kind) (Some x) = if x == y then 1 else 0
 owns y _ _ = 0
 
 -- how many references to counted objects it owns
-abbrev pub lists : Layout → VarState → Option ℕ → ℕ
+abbrev pub lists : Layout → Slot → Option ℕ → ℕ
 lists layout (Owned kind) (Some x) = if is_immortal_row layout x then 0 else 1
 lists layout _ _ = 0
 
 -- the sum of a number over all variables
-abbrev pub over_variables : (VarState → Option ℕ → ℕ) → List VarState → List (Option ℕ) → ℕ
+abbrev pub over_variables : (Slot → Option ℕ → ℕ) → List Slot → List (Option ℕ) → ℕ
 over_variables f (slot ∷ slots) (row ∷ rows) = f slot row + over_variables f slots rows
 over_variables f _ _ = 0
 
 -- ---- the lock
 
--- The hand has locked the object of the variable, and has its slot, which holds a resource if the object is known to
+-- The hand has locked the object of the variable, and has its field, which holds a resource if the object is known to
 -- have one. The variable doesn't borrow it from a list.
 pub record LockFits (first : List (ℕ × ℕ)) (s : State) (rows : List (Option ℕ)) (hand : HandState) (i : ℕ)
     : Type 0 where
@@ -87,12 +87,12 @@ pub record LockFits (first : List (ℕ × ℕ)) (s : State) (rows : List (Option
   pub lasting : borrows_item (var_of s i) ≡ false
   pub used : is_empty (var_of s i) ≡ false
   pub locked : hand.view.actor.locked ≡ Some object
-  pub slots : hand.slots ≡ (object, hand.view.in_slot) ∷ first
-  pub resource : is_one_of (kind_of (var_of s i)) with_resource ≡ true → hand.view.in_slot ≡ 1
+  pub fields : hand.fields ≡ (object, hand.view.in_field) ∷ first
+  pub resource : is_one_of (kind_of (var_of s i)) with_resource ≡ true → hand.view.in_field ≡ 1
 
--- What the state says of the lock is true. Without a lock the hand has the slots that it had first.
+-- What the state says of the lock is true. Without a lock the hand has the fields that it had first.
 abbrev pub LocksAs : Option ℕ → List (ℕ × ℕ) → State → List (Option ℕ) → HandState → Type 0
-LocksAs None first s rows hand = (hand.view.actor.locked ≡ None) × (hand.slots ≡ first)
+LocksAs None first s rows hand = (hand.view.actor.locked ≡ None) × (hand.fields ≡ first)
 LocksAs (Some i) first s rows hand = LockFits first s rows hand i
 
 -- ---- the hand
@@ -143,14 +143,14 @@ pub record Fits (base : Base) (s : State) (rows : List (Option ℕ)) (hand : Han
   pub room : base.most + 17 < most_references
   pub follows : IsLater base.first hand
   pub rests : Rests hand
-  pub some_vars : length s.vars ≡ 16
+  pub some_slots : length s.slots ≡ 16
   pub some_rows : length rows ≡ 16
   pub each : (i : ℕ) → SlotFits base.held hand.view (var_of s i) (row_of rows i)
   pub held : (y : ℕ) → IsCounted base.first.view.layout y
-      → holds hand.view y ≡ base.held y + over_variables (owns y) s.vars rows
+      → holds hand.view y ≡ base.held y + over_variables (owns y) s.slots rows
   pub few : length hand.view.references
-      ≤ base.most + over_variables (lists base.first.view.layout) s.vars rows
-  pub lock : LocksAs s.locked base.first.slots s rows hand
+      ≤ base.most + over_variables (lists base.first.view.layout) s.slots rows
+  pub lock : LocksAs s.locked base.first.fields s rows hand
 
 -- ---- the module
 

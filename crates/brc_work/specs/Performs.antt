@@ -16,7 +16,7 @@ use Rattle.brc_model.specs.declared.duty.Holding.{Holding}
 use Rattle.brc_model.specs.declared.layout.Layout.{Layout}
 use Rattle.brc_model.specs.declared.state.Exit.{Exit}
 use Rattle.brc_model.specs.Actions.{Does, always, with_row, number_word, dispatch_instruction}
-use Rattle.brc_model.specs.VarStates.{target}
+use Rattle.brc_model.specs.SlotStates.{target}
 use Rattle.brc_model.specs.Threads.{row_of}
 use Rattle.brc_table.specs.declared.view.View.{View}
 use Rattle.brc_table.specs.Views.{next_row}

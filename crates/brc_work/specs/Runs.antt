@@ -61,7 +61,7 @@ pub record StopsWithin (program : Program) (place : Place) (context : Context) (
   pub outer : (further : List (List (Option ℕ))) → OuterGiveUp program context.outer further
       → OuterGiveUp program inner.outer (between ++ further)
   pub gives_up : (further : List (List (Option ℕ))) → GivesUpTo program
-      (stopping (row_locked state.locked variables) (owned_rows state.vars variables ∷ (between ++ further))) there
+      (stopping (row_locked state.locked variables) (owned_rows state.slots variables ∷ (between ++ further))) there
       further u
 
 -- The hand's thread has run the call up to its end, by a hand that may begin `may` instructions, and `left` after the
@@ -106,7 +106,7 @@ pub record StopsInCall (program : Program) (begun : ℕ) (calls : List HostCall)
   pub calls_are : calls ≡ before ++ closes
   pub comes : MakesTrace begun before program (Idle 1) v (InCall context at variables) there
   pub gives_up : MakesTrace 0 closes program
-      (stopping (row_locked state.locked variables) (owned_rows state.vars variables ∷ further)) there (Idle 0) u
+      (stopping (row_locked state.locked variables) (owned_rows state.slots variables ∷ further)) there (Idle 0) u
 
 -- A call by a hand that may begin `may` instructions, and `left` after the call. It has ended, or the hand has stopped
 -- in it.

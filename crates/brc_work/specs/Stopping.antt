@@ -10,7 +10,7 @@ use Rattle.brc_model.specs.declared.state.Exit.TheVariants.{Fault}
 use Rattle.brc_model.specs.declared.state.State.{State}
 use Rattle.brc_model.specs.Duties.{ready}
 use Rattle.brc_model.specs.Tables.{Reaches}
-use Rattle.brc_model.specs.VarStates.{var_of, is_owned, after}
+use Rattle.brc_model.specs.SlotStates.{var_of, is_owned, after}
 use Rattle.brc_model.specs.Stops.{row_locked, owned_rows, holds_some, give_up, stopping}
 use Rattle.brc_model.specs.Threads.{row_of}
 use Rattle.brc_table.specs.declared.view.View.{View}
@@ -83,12 +83,12 @@ pub record GivesUpTo (program : Program) (p : Place) (v : View) (calls : List (L
 -- to where it has the calls further out to give up, whatever they hold.
 abbrev pub MakesStop : State → List (Option ℕ) → View → View → Type 0
 MakesStop s rows v u = (program : Program) (outer : List (List (Option ℕ)))
-    → GivesUpTo program (stopping (row_locked s.locked rows) (owned_rows s.vars rows ∷ outer)) v outer u
+    → GivesUpTo program (stopping (row_locked s.locked rows) (owned_rows s.slots rows ∷ outer)) v outer u
 
 -- The hand has done what its thread does that gives up what a call owns in the state s. Nothing is locked.
 abbrev pub MakesReleases : State → List (Option ℕ) → View → View → Type 0
 MakesReleases s rows v u = (program : Program) (p : Place) (w : View) (outer : List (List (Option ℕ)))
-    → GivesUpTo program p w (owned_rows s.vars rows ∷ outer) v → GivesUpTo program p w outer u
+    → GivesUpTo program p w (owned_rows s.slots rows ∷ outer) v → GivesUpTo program p w outer u
 
 -- ---- the calls further out
 
@@ -99,4 +99,4 @@ pub data OuterGiveUp (program : Program) : List OpenCall → List (List (Option 
   OneOuter : (o : OpenCall) (outer : List OpenCall) (calls : List (List (Option ℕ))) (i : Instr) (s : State)
       → slice_get (function_under program outer).code o.at ≡ Some i
       → Reaches (function_under program outer) o.at s → OuterGiveUp program outer calls
-      → OuterGiveUp program (o ∷ outer) (owned_rows (after i Fault s).vars o.variables ∷ calls)
+      → OuterGiveUp program (o ∷ outer) (owned_rows (after i Fault s).slots o.variables ∷ calls)

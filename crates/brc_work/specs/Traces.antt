@@ -2,7 +2,7 @@
 -- that the hand has found.
 --
 -- Two things that set a hand apart from such a thread show in no event. A thread holds a reference by a variable or in
--- flight where a hand holds it as its caller. And a thread does a duty on a slot or on a resource where a hand takes
+-- flight where a hand holds it as its caller. And a thread does a duty on a field or on a resource where a hand takes
 -- what is there, without a step on a word. A close is a call of the host, as are those that instructions ask for.
 use Rattle.std.specs.Prelude.{◌≡◌, ℕ, zero, suc, ◌+◌, ◌≤◌, Bool, true, false, ◌&&◌, ◌==◌, if◌then◌else◌, List, [], ◌∷◌, ◌++◌, Option, None, Some, slice_get, slice_set}
 use Rattle.std.specs.Fmt.{decimal}

@@ -20,22 +20,25 @@ use Rattle.brc_work.specs.declared.ran.Ran.{Ran}
 -- ---- what a worker has to do
 
 -- The worker of the thread makes this many calls of the program's function over the heap.
-pub record Job : Type 0 where
+pub record Job (S : Type 0) : Type 0 where
   pub heap : TableState
   pub program : Program
   pub times : ℕ
   -- how many instructions it may begin in all its calls
   pub steps : ℕ
   pub thread : ℕ
+  -- its host, as it was before
+  pub host : S
 
 -- the job with the module's function of this number
-abbrev pub job : TableState → Module → ℕ → ℕ → ℕ → ℕ → Job
-job heap m function times steps thread = record {
+abbrev pub job : {S : Type 0} → TableState → Module → ℕ → ℕ → ℕ → ℕ → S → Job S
+job heap m function times steps thread host = record {
   heap = heap;
   program = program_of m function;
   times = times;
   steps = steps;
   thread = thread;
+  host = host;
 }
 
 -- A worker may call the function of this number from outside: it is there, and has no parameters.
@@ -49,7 +52,7 @@ pub record MayBeCalled (m : Module) (function : ℕ) : Type 0 where
 pub record IsFresh (heap : TableState) (thread : ℕ) (hand : HandState) : Type 0 where
   pub of : IsOf heap hand
   pub view_is : hand.view ≡ worker_view heap.layout thread
-  pub no_slot : hand.slots ≡ []
+  pub no_field : hand.fields ≡ []
 
 -- The hand has made its calls of the function, or has stopped; then it has left, and has done nothing else. Its host
 -- was asked for these calls.
@@ -63,31 +66,31 @@ pub record CallsAndLeaves (program : Program) (times steps : ℕ) (done : Bool) 
   pub leaves : HasLeft closes called u
 
 -- The hand is the worker's, its thread is gone, and it has taken no slot.
-pub record IsGone (j : Job) (hand : HandState) : Type 0 where
+pub record IsGone {S : Type 0} (j : Job S) (hand : HandState) : Type 0 where
   pub of : IsOf j.heap hand
   pub thread_is : hand.view.thread ≡ j.thread
   pub gone : hand.view.actor.status ≡ Gone
-  pub no_slot : hand.slots ≡ []
+  pub no_field : hand.fields ≡ []
 
 -- The worker's hand has done its job: it has made the calls, or was stopped by its bound, is gone, and holds nothing.
 -- The worker has counted the objects that it has given birth to, and the faults of its host.
-pub record HasGone {S : Type 0} (answers : S → HostCall → S → Type 0) (counts : S → HostCounts) (j : Job)
+pub record HasGone {S : Type 0} (answers : S → HostCall → S → Type 0) (counts : S → HostCounts) (j : Job S)
     (hand : HandState) (ran : Ran) : Type 0 where
   pub hand_is : IsGone j hand
   pub idle : (hand.view.actor.agenda ≡ []) × (hand.view.actor.aside ≡ []) × (hand.view.actor.head ≡ 0)
   pub holds_none : hand.view.references ≡ []
   pub created : (totals_of ran).created ≡ hand.view.actor.used
-  -- the host before, and once the worker is gone
-  pub first : S
+  -- the host, once the worker is gone
   pub later : S
-  pub asked : Asked answers counts first later no_totals (totals_of ran)
+  pub asked : Asked answers counts j.host later no_totals (totals_of ran)
       (λ calls. CallsAndLeaves j.program j.times j.steps (is_done ran) calls (worker_view j.heap.layout j.thread)
       hand.view)
   -- a bound above the limit of all its calls stops no worker
   pub unbounded : j.times * call_limit j.program.functions j.program.first < j.steps → is_done ran ≡ true
 
 -- A worker's thread leaves a hand that is gone. If the worker began, the hand has done its job.
-abbrev pub Ends : {S : Type 0} → (S → HostCall → S → Type 0) → (S → HostCounts) → Job → HandState → Ran → Bool → Type 0
+abbrev pub Ends : {S : Type 0} → (S → HostCall → S → Type 0) → (S → HostCounts) → Job S → HandState → Ran → Bool
+    → Type 0
 Ends answers counts j hand ran called =
     IsGone j hand × (called ≡ true → HasGone answers counts j hand ran)
 

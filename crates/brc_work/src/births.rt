@@ -2,10 +2,10 @@
 
 ghost use Rattle.std.specs.Prelude.{◌≡◌, true, []};
 ghost use Rattle.brc_lang.specs.declared.module.Instr.TheVariants as instructions;
-ghost use Rattle.brc_model.specs.declared.state.VarState.TheVariants.{Owned};
+ghost use Rattle.brc_model.specs.declared.state.Slot.TheVariants.{Owned};
 ghost use Rattle.brc_model.specs.Duties.{resources_of};
 ghost use Rattle.brc_model.specs.Machine.{has_room};
-ghost use Rattle.brc_model.specs.VarStates.{put};
+ghost use Rattle.brc_model.specs.SlotStates.{put};
 ghost use Rattle.std.specs.Prelude.{◌≤◌};
 ghost use Rattle.brc_table.specs.Hands.{IsOf};
 ghost use Rattle.brc_table.specs.Homes.{resources};

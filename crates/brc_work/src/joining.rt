@@ -13,10 +13,10 @@ use brc_heap::{Hand, Heap};
 pub fn join_hands<T: Drop>(heap: &Heap<T>, main: &mut Hand<T>, gone: Vec<(Hand<T>, Ran)>)
     requires of { IsOf heap.now main.old }
     requires gone { (k : ℕ) (w : _) → k < vec_len gone → let hand = (slice_index_or gone.items k w).0 in
-        IsOf heap.now hand × (hand.view.actor.status ≡ Gone) × (hand.slots ≡ []) }
+        IsOf heap.now hand × (hand.view.actor.status ≡ Gone) × (hand.fields ≡ []) }
     ensures of { IsOf heap.now main.new }
     ensures carried { main.new.carried ≡ main.old.carried }
-    ensures slots { main.new.slots ≡ main.old.slots }
+    ensures fields { main.new.fields ≡ main.old.fields }
     ensures more { JoinsMore main.old.view main.new.view }
     ensures each { (k : ℕ) (w : _) → k < vec_len gone → let hand = (slice_index_or gone.items k w).0 in
         HasJoined main.new.view (record { thread = hand.view.thread; used = hand.view.actor.used }) }

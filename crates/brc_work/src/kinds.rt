@@ -2,30 +2,16 @@
 
 ghost use Rattle.std.specs.Prelude.{◌≡◌, []};
 ghost use Rattle.brc_lang.specs.declared.module.Instr.TheVariants as instructions;
-ghost use Rattle.brc_model.specs.Kinds.{kind_number};
 ghost use Rattle.brc_table.specs.Hands.{IsOf};
 ghost use Rattle.brc_work.specs.Fits.{MayDo, HasDone};
 ghost use Rattle.brc_work.specs.Performs.{Performs};
 
 use crate::variables::{Variables, row_in};
 use crate::worker::Worker;
+use brc_effect::kinds::same_kind;
 use brc_heap::Hand;
 use brc_lang::{Kind, Variable};
 use brc_model::Exit;
-
-/// Returns the number that names the kind in kind words.
-fn kind_number(kind: Kind) -> u8
-    ensures { result ≡ kind_number kind }
-{
-    match kind {
-        Kind::Any => 0,
-        Kind::None => 1,
-        Kind::Num => 2,
-        Kind::List => 3,
-        Kind::File => 4,
-        Kind::Sock => 5,
-    }
-}
 
 impl<'h, T: Drop> Worker<'h, T> {
     /// `as`: asks whether an object is of the kind.
@@ -44,7 +30,7 @@ impl<'h, T: Drop> Worker<'h, T> {
             hand.new.view }
     {
         let row = row_in(rows, from);
-        if kind_number(self.heap.kind_of(hand, row)) == kind_number(kind) {
+        if same_kind(self.heap.kind_of(hand, row), kind) {
             Exit::Success
         } else {
             Exit::Fault

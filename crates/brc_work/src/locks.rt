@@ -10,7 +10,7 @@ ghost use Rattle.brc_work.specs.Performs.{Performs, Waits};
 
 use crate::variables::{Variables, row_in};
 use crate::worker::Worker;
-use brc_free::Backoff;
+use brc_free::Waits;
 use brc_heap::Hand;
 use brc_lang::Variable;
 use brc_list::Lists;
@@ -30,13 +30,12 @@ impl<'h, T: Drop> Worker<'h, T> {
         ensures done { HasDone (instructions.Lock object) Success rows.now hand.old rows.now hand.new }
         ensures made { Performs [] (instructions.Lock object) Success rows.now hand.old.view rows.now hand.new.view }
     {
-        let mut backoff = Backoff::new();
         for _ in rt.forever() {
             if self.tries_lock(rows, hand, object) {
                 return;
             }
             // The thread that has the lock may need this processor.
-            backoff.wait();
+            self.queue.wait();
         }
         unreachable!()
     }

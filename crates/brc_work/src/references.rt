@@ -4,8 +4,8 @@ ghost use Rattle.std.specs.Prelude.{◌≡◌, ◌+◌, ◌<◌, []};
 ghost use Rattle.brc_lang.specs.declared.module.Instr.TheVariants as instructions;
 ghost use Rattle.brc_model.specs.Layout.{first_immortal_list};
 ghost use Rattle.brc_model.specs.declared.state.Exit.TheVariants.{Success};
-ghost use Rattle.brc_model.specs.declared.state.VarState.TheVariants.{Empty};
-ghost use Rattle.brc_model.specs.VarStates.{put};
+ghost use Rattle.brc_model.specs.declared.state.Slot.TheVariants.{Empty};
+ghost use Rattle.brc_model.specs.SlotStates.{put};
 ghost use Rattle.brc_table.specs.Hands.{IsOf, HoldsOne, KeepsLock};
 ghost use Rattle.brc_work.specs.Acts.{ActsElsewhere, HasLess};
 ghost use Rattle.brc_work.specs.Changes.{CanGive, IsIn, ChangesTo};
@@ -16,17 +16,12 @@ ghost use Rattle.brc_work.specs.Totals.{Asked};
 use crate::totals::Totals;
 use crate::variables::{Variables, name, row_in};
 use crate::worker::Worker;
+use brc_effect::rows::NONE_ROW;
 use brc_free::Finaliser;
 use brc_heap::Hand;
 use brc_host::Host;
 use brc_lang::Variable;
 use std::sync::Wait;
-
-/// The row of none.
-const NONE: u32 = 0;
-
-/// The rows in front of the workers': none's and the root's.
-const FRONT_ROWS: u32 = 2;
 
 impl<'h, T: Drop> Worker<'h, T> {
     /// `none`: owns a reference to none.
@@ -35,7 +30,7 @@ impl<'h, T: Drop> Worker<'h, T> {
         ensures done { HasDone (instructions.NoneObject to) Success rows.old hand.now rows.new hand.now }
         ensures made { Performs [] (instructions.NoneObject to) Success rows.old hand.now.view rows.new hand.now.view }
     {
-        name(rows, to, Some(NONE));
+        name(rows, to, Some(NONE_ROW));
     }
 
     /// `take`: owns a reference to a static list, which is immortal: nothing is counted.
@@ -53,9 +48,7 @@ impl<'h, T: Drop> Worker<'h, T> {
     fn static_list(&self, list: u8) -> u32
         ensures { result ≡ first_immortal_list self.now.layout + list }
     {
-        let words = self.heap.words();
-        words.layout_is_plain();
-        FRONT_ROWS + u32::from(words.workers()) * words.block_size(1) + u32::from(list)
+        self.heap.words().static_list(list)
     }
 
     /// `newref`: makes a reference to an object that a variable owns or borrows.

@@ -1,9 +1,9 @@
 //! A worker that stops between two instructions of a call.
 
 ghost use Rattle.std.specs.Prelude.{◌≡◌, ℕ, None};
-ghost use Rattle.brc_model.specs.declared.state.VarState.TheVariants.{Empty};
+ghost use Rattle.brc_model.specs.declared.state.Slot.TheVariants.{Empty};
 ghost use Rattle.brc_model.specs.declared.state.State.{State};
-ghost use Rattle.brc_model.specs.VarStates.{is_owned, put};
+ghost use Rattle.brc_model.specs.SlotStates.{is_owned, put};
 ghost use Rattle.brc_table.specs.Hands.{IsOf};
 ghost use Rattle.brc_work.specs.Calls.{HasReturned};
 ghost use Rattle.brc_work.specs.Changes.{CanGive, IsIn};
@@ -15,13 +15,13 @@ use crate::worker::Worker;
 use brc_free::Finaliser;
 use brc_heap::Hand;
 use brc_lang::Variable;
-use brc_model::{State, VarState};
+use brc_model::{Slot, State};
 use std::sync::Wait;
 
-fn is_owned(slot: VarState) -> bool
-    ensures { result ≡ is_owned slot }
+fn is_owned(var: Slot) -> bool
+    ensures { result ≡ is_owned var }
 {
-    matches!(slot, VarState::Owned(_))
+    matches!(var, Slot::Owned(_))
 }
 
 impl<'h, T: Drop> Worker<'h, T> {
@@ -63,7 +63,7 @@ impl<'h, T: Drop> Worker<'h, T> {
         ensures made { MakesReleases state.now rows.old hand.old.view hand.new.view }
     {
         for number in 0..Variable::COUNT {
-            if is_owned(state.vars[number]) {
+            if is_owned(state.slots[number]) {
                 self.loosen(rt, rows, hand, Variable::new(number as u8));
             }
         }

@@ -17,7 +17,6 @@ use brc_check::Checked;
 use brc_heap::{Hand, Heap};
 use brc_host::Host;
 use brc_queue::Queue;
-use std::marker::PhantomData;
 use std::snapshot::Snapshot;
 use std::sync::Wait;
 use std::sync::atomic::{AtomicBool, Ordering};
@@ -59,12 +58,12 @@ pub(crate) struct WorkerPromise<T: Drop, H> {
     pub(crate) times: u32,
     pub(crate) steps: u64,
     pub(crate) thread: u8,
-    pub(crate) host: PhantomData<H>,
+    pub(crate) host: Snapshot<H>,
 }
 
 impl<T: Drop, H: Host<Res = T>> Promise<Remains<T>> for WorkerPromise<T, H> {
     ghost kept_by = { λ p done. Ends H.answers H.counts
-        (job p.heap.value p.checked.value.«module» p.function p.times p.steps p.thread)
+        (job p.heap.value p.checked.value.«module» p.function p.times p.steps p.thread p.host.value)
         done.hand done.ran done.called };
 }
 
@@ -72,8 +71,8 @@ impl<'a, T: Drop, H: Host<Res = T>, G: Gate> Task<'a, T, H, G> {
     /// Makes the calls, unless the workers are called off, and lets the hand leave.
     pub(crate) fn work<R: Wait>(self, rt: &R, called_off: &AtomicBool) -> Remains<T>
         ensures { Ends H.answers H.counts (job self.entry.heap.now self.entry.checked.now.module
-            self.entry.function self.entry.times self.entry.steps self.entry.thread) result.hand result.ran
-            result.called }
+            self.entry.function self.entry.times self.entry.steps self.entry.thread self.entry.host.now) result.hand
+            result.ran result.called }
     {
         let Task {
             heap,
@@ -123,7 +122,7 @@ fn calls_and_leaves<R: Wait, T: Drop, H: Host<Res = T>, G: Gate>(
     requires parameters { (function_at checked.now.module.functions function).parameters ≡ [] }
     requires heap { IsHeapOf checked.now.module heap.now }
     ensures gone { HasGone H.answers H.counts
-        (job heap.now checked.now.module function times steps hand.old.view.thread) hand.new result }
+        (job heap.now checked.now.module function times steps hand.old.view.thread host.old) hand.new result }
 {
     let queue = Queue::new(heap);
     let worker = Worker::new(heap, &queue);
@@ -145,7 +144,7 @@ fn leaves_at_once<R: Wait, T: Drop, H: Host<Res = T>>(
     ensures of { IsOf heap.now hand.new }
     ensures thread { hand.new.view.thread ≡ hand.old.view.thread }
     ensures gone { hand.new.view.actor.status ≡ Gone }
-    ensures no_slot { hand.new.slots ≡ [] }
+    ensures no_field { hand.new.fields ≡ [] }
     ensures asked { Asked H.answers H.counts host.old host.new no_totals result
         (λ calls. HasLeft calls hand.old.view hand.new.view) }
 {

@@ -38,12 +38,12 @@ pub(crate) fn tasks_of<'w, T: Drop, H: Host<Res = T>, G: Gate>(
     ensures of { IsOf heap.now main.new }
     ensures kept { KeepsMain main.old.view main.new.view }
     ensures carried { main.new.carried ≡ main.old.carried }
-    ensures slots { main.new.slots ≡ main.old.slots }
+    ensures fields { main.new.fields ≡ main.old.fields }
     ensures given { (t : ℕ) → is_given t main.new.view ≡ true → (k : ℕ) × (k < vec_len result) × (k + 1 ≡ t) }
     ensures one_each { vec_len result ≡ length hosts.old }
-    ensures tasks { (k : ℕ) (t : _) → k < vec_len result → let task = slice_index_or result.items k t in
-        job task.heap.now task.checked.now.module task.function task.times task.steps task.thread
-        ≡ job heap.now checked.now.module function times steps (k + 1) }
+    ensures tasks { (k : ℕ) (t : _) (h : _) → k < vec_len result → let task = slice_index_or result.items k t in
+        job task.heap.now task.checked.now.module task.function task.times task.steps task.thread task.host.now
+        ≡ job heap.now checked.now.module function times steps (k + 1) (slice_index_or hosts.old k h) }
 {
     heap.words().layout_is_plain();
     let mut thread: u8 = 1;

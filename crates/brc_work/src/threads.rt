@@ -1,6 +1,6 @@
 //! Workers on threads of their own.
 
-ghost use Rattle.std.specs.Prelude.{◌≡◌, ℕ, ◌+◌, ◌<◌, ◌≤◌, [], length, vec_len, vec_capacity, slice_index_or, IfOk, IfErr, OnErr};
+ghost use Rattle.std.specs.Prelude.{◌≡◌, ℕ, ◌+◌, ◌<◌, ◌≤◌, false, [], length, vec_len, vec_capacity, slice_index_or, IfOk, IfErr, OnErr};
 ghost use Rattle.brc_model.specs.Threads.{function_at};
 ghost use Rattle.brc_table.specs.Hands.{IsOf};
 ghost use Rattle.brc_work.specs.Fits.{IsHeapOf};
@@ -17,16 +17,15 @@ use brc_check::Checked;
 use brc_heap::{Hand, Heap};
 use brc_host::Host;
 use std::alloc::Global;
-use std::marker::PhantomData;
 use std::snapshot::Snapshot;
 use std::sync::Wait;
 use std::sync::atomic::{AtomicBool, Ordering};
 use std::thread;
 use std::thread::{PromisedHandle, Threads};
 
-/// The thread of a worker, whose hand will be gone when the thread ends; or what the worker has left, if its thread
-/// couldn't be started.
-type Refl<T, H> = Result<PromisedHandle<Remains<T>, WorkerPromise<T, H>>, Remains<T>>;
+/// The thread of a worker, whose hand will be gone when the thread ends; or what the worker has left in main's thread,
+/// if its own couldn't be started.
+type Started<T, H> = Result<PromisedHandle<Remains<T>, WorkerPromise<T, H>>, Remains<T>>;
 
 /// Lets a worker for each host call the accepted module's function with this number, which has no parameters, `times`
 /// times, each in a thread of its own; each begins at most `steps` instructions, and stops where it has begun as many,
@@ -68,10 +67,11 @@ pub fn fan_out<
     ensures of { IsOf heap.now main.new }
     ensures kept { KeepsMain main.old.view main.new.view }
     ensures carried { main.new.carried ≡ main.old.carried }
-    ensures slots { main.new.slots ≡ main.old.slots }
+    ensures fields { main.new.fields ≡ main.old.fields }
     ensures one_each { IfOk result (λ gone. vec_len gone ≡ length hosts.old) }
-    ensures gone { IfOk result (λ gone. (k : ℕ) (w : _) → k < vec_len gone
-        → HasGone H.answers H.counts (job heap.now checked.now.module function times steps (k + 1))
+    ensures gone { IfOk result (λ gone. (k : ℕ) (w : _) (h : _) → k < vec_len gone
+        → HasGone H.answers H.counts
+        (job heap.now checked.now.module function times steps (k + 1) (slice_index_or hosts.old k h))
         (slice_index_or gone.items k w).0 (slice_index_or gone.items k w).1) }
     ensures joined { OnErr result (HasJoinedAll main.new.view) }
 {
@@ -82,9 +82,7 @@ pub fn fan_out<
     let tasks = tasks_of(
         heap, main, checked, function, times, steps, hosts, gate, tasks,
     );
-    let (gone, called) = run_all(
-        rt, heap, checked, function, times, steps, tasks, threads, answer,
-    );
+    let (gone, called) = run_all(rt, tasks, threads, answer);
     if called {
         Ok(gone)
     } else {
@@ -94,28 +92,22 @@ pub fn fan_out<
 }
 
 /// Lets each worker do its task in a thread of its own. Returns what the workers leave, and whether each has made its
-/// calls. If a thread can't be started, the workers are called off: those that haven't begun leave without a call.
+/// calls in such a thread. If a thread can't be started, the workers are called off: those that haven't begun leave
+/// without a call.
 fn run_all<'w, R: Threads + Wait + Sync, T: Send + Drop, H: Host<Res = T> + Send, G: Gate + Sync>(
     rt: &R,
-    heap: &'w Heap<T>,
-    checked: &'w Checked,
-    function: usize,
-    times: u32,
-    steps: u64,
     tasks: Vec<Task<'w, T, H, G>>,
-    mut threads: Vec<Refl<T, H>>,
+    mut threads: Vec<Started<T, H>>,
     answer: Vec<(Hand<T>, Ran)>,
 ) -> (Vec<(Hand<T>, Ran)>, bool)
-    requires tasks { (k : ℕ) (t : _) → k < vec_len tasks → let task = slice_index_or tasks.items k t in
-        job task.heap.now task.checked.now.module task.function task.times task.steps task.thread
-        ≡ job heap.now checked.now.module function times steps (k + 1) }
     requires no_threads { threads.items ≡ [] }
     requires room { vec_len tasks ≤ vec_capacity threads }
     requires empty { answer.items ≡ [] }
     requires answer_room { vec_len tasks ≤ vec_capacity answer }
     ensures one_each { vec_len result.0 ≡ vec_len tasks.entry }
-    ensures ends { (k : ℕ) (w : _) → k < vec_len result.0
-        → Ends H.answers H.counts (job heap.now checked.now.module function times steps (k + 1))
+    ensures ends { (k : ℕ) (w : _) (t : _) → k < vec_len result.0 → let task = slice_index_or tasks.entry.items k t in
+        Ends H.answers H.counts (job task.heap.now task.checked.now.module task.function task.times task.steps
+        task.thread task.host.now)
         (slice_index_or result.0.items k w).0 (slice_index_or result.0.items k w).1 result.1 }
 {
     let called_off = AtomicBool::new(false);
@@ -124,16 +116,15 @@ fn run_all<'w, R: Threads + Wait + Sync, T: Send + Drop, H: Host<Res = T> + Send
         thread::scope_env(),
         rt,
         move |scope| -> (Vec<(Hand<T>, Ran)>, bool)
-            requires { ((k : ℕ) (t : _) → k < vec_len tasks → let task = slice_index_or tasks.items k t in
-                job task.heap.now task.checked.now.module task.function task.times task.steps task.thread
-                ≡ job heap.now checked.now.module function times steps (k + 1)) × (threads.items ≡ [])
-                × (vec_len tasks ≤
-                vec_capacity threads)
+            requires { (threads.items ≡ []) × (vec_len tasks ≤ vec_capacity threads)
                 × (answer.items ≡ []) × (vec_len tasks ≤ vec_capacity answer) }
-            ensures { (vec_len result.0 ≡ vec_len tasks.entry) × ((k : ℕ) (w : _) → k < vec_len result.0
-                → Ends H.answers H.counts (job heap.entry.now checked.entry.now.module function times steps (k + 1))
+            ensures { (vec_len result.0 ≡ vec_len tasks.entry) × ((k : ℕ) (w : _) (t : _) → k < vec_len result.0
+                → let task = slice_index_or tasks.entry.items k t in
+                Ends H.answers H.counts (job task.heap.now task.checked.now.module task.function task.times task.steps
+                task.thread task.host.now)
                 (slice_index_or result.0.items k w).0 (slice_index_or result.0.items k w).1 result.1) }
         {
+            let were = Snapshot::of(&tasks);
             for task in tasks {
                 let promise = WorkerPromise {
                     heap: Snapshot::of(task.heap),
@@ -142,14 +133,14 @@ fn run_all<'w, R: Threads + Wait + Sync, T: Send + Drop, H: Host<Res = T> + Send
                     times: task.times,
                     steps: task.steps,
                     thread: task.thread,
-                    host: PhantomData,
+                    host: Snapshot::of(&*task.host),
                 };
                 let begun = match scope.spawn_with(
                     promise,
                     move || -> Remains<T>
                         ensures { Ends H.answers H.counts (job task.entry.heap.now task.entry.checked.now.module
-                            task.entry.function task.entry.times task.entry.steps task.entry.thread) result.hand
-                            result.ran result.called }
+                            task.entry.function task.entry.times task.entry.steps task.entry.thread
+                            task.entry.host.now) result.hand result.ran result.called }
                     { task.work(rt, shared) },
                 ) {
                     Ok(started) => Ok(started),
@@ -162,36 +153,39 @@ fn run_all<'w, R: Threads + Wait + Sync, T: Send + Drop, H: Host<Res = T> + Send
                     unreachable!()
                 };
             }
-            join_all(rt, heap, checked, function, times, steps, threads, answer)
+            join_all(rt, were, threads, answer)
         },
     )
 }
 
-/// Joins the workers' threads. Returns what the workers leave, in their order, and whether each has made its calls.
-fn join_all<'w, R: Threads, T: Send + Drop, H: Host<Res = T>>(
+/// Joins the threads of the workers that had these tasks. Returns what the workers leave, in their order, and whether
+/// each has made its calls in a thread of its own.
+fn join_all<'w, R: Threads, T: Send + Drop, H: Host<Res = T>, G: Gate>(
     rt: &R,
-    heap: &'w Heap<T>,
-    checked: &'w Checked,
-    function: usize,
-    times: u32,
-    steps: u64,
-    threads: Vec<Refl<T, H>>,
+    were: Snapshot<Vec<Task<'w, T, H, G>>>,
+    threads: Vec<Started<T, H>>,
     mut answer: Vec<(Hand<T>, Ran)>,
 ) -> (Vec<(Hand<T>, Ran)>, bool)
     requires empty { answer.items ≡ [] }
     requires room { vec_len threads ≤ vec_capacity answer }
-    requires begun { (k : ℕ) (b : _) → k < vec_len threads
-        → IfOk (slice_index_or threads.items k b) (λ s. let promise = s.promise in
+    requires begun { (k : ℕ) (b : _) (t : _) → k < vec_len threads → let task = slice_index_or were.value.items k t in
+        IfOk (slice_index_or threads.items k b) (λ s. let promise = s.promise in
         job promise.heap.value promise.checked.value.«module» promise.function promise.times promise.steps
-        promise.thread
-        ≡ job heap.now checked.now.module function times steps (k + 1))
+        promise.thread promise.host.value
+        ≡ job task.heap.now task.checked.now.module task.function task.times task.steps task.thread task.host.now)
         × IfErr (slice_index_or threads.items k b) (λ done. Ends H.answers H.counts
-        (job heap.now checked.now.module function times steps (k + 1)) done.hand done.ran done.called) }
+        (job task.heap.now task.checked.now.module task.function task.times task.steps task.thread task.host.now)
+        done.hand done.ran done.called) }
     ensures one_each { vec_len result.0 ≡ vec_len threads }
-    ensures ends { (k : ℕ) (w : _) → k < vec_len result.0
-        → Ends H.answers H.counts (job heap.now checked.now.module function times steps (k + 1))
+    ensures started { (k : ℕ) (b : _) → k < vec_len threads
+        → IfErr (slice_index_or threads.items k b) (λ _. result.1 ≡ false) }
+    ensures ends { (k : ℕ) (w : _) (t : _) → k < vec_len result.0
+        → let task = slice_index_or were.entry.value.items k t in
+        Ends H.answers H.counts (job task.heap.now task.checked.now.module task.function task.times task.steps
+        task.thread task.host.now)
         (slice_index_or result.0.items k w).0 (slice_index_or result.0.items k w).1 result.1 }
 {
+    let _ = were;
     let mut called = true;
     for begun in threads {
         let done = left_by(rt, begun);
@@ -203,16 +197,22 @@ fn join_all<'w, R: Threads, T: Send + Drop, H: Host<Res = T>>(
     (answer, called)
 }
 
-/// Returns what the worker leaves: if it has a thread, once that has ended.
-fn left_by<R: Threads, T: Send + Drop, H: Host<Res = T>>(rt: &R, begun: Refl<T, H>) -> Remains<T>
-    ensures { (j : Job) → IfOk begun (λ s. let promise = s.promise in
+/// Returns what the worker leaves: if it has a thread, once that has ended. What a worker did in main's thread doesn't
+/// count as calls.
+fn left_by<R: Threads, T: Send + Drop, H: Host<Res = T>>(rt: &R, begun: Started<T, H>) -> Remains<T>
+    ensures started { IfErr begun (λ _. result.called ≡ false) }
+    ensures ends { (j : Job H) → IfOk begun (λ s. let promise = s.promise in
         job promise.heap.value promise.checked.value.«module» promise.function promise.times promise.steps
-        promise.thread ≡ j)
+        promise.thread promise.host.value ≡ j)
         → IfErr begun (λ done. Ends H.answers H.counts j done.hand done.ran done.called)
         → Ends H.answers H.counts j result.hand result.ran result.called }
 {
     match begun {
         Ok(started) => started.join(rt),
-        Err(done) => done,
+        Err(done) => Remains {
+            hand: done.hand,
+            ran: done.ran,
+            called: false,
+        },
     }
 }

@@ -7,7 +7,7 @@ ghost use Rattle.brc_work_tests.specs.Ready.{HoldsRoot};
 ghost use Rattle.brc_host.specs.FakeHost.{AnswersByPlan};
 
 use crate::calls::{makes_calls, opened, worker_hand};
-use crate::hearing::{Hearing, ORDERS, heard_after};
+use crate::hearing::{Hearing, ORDERS, WORKER, heard_after};
 use crate::runs::MOST_ROWS;
 use bitflags::Flags;
 use brc_check::Checked;
@@ -122,8 +122,8 @@ fn noted_of<R: Wait>(
     asked: Asked<'_>,
 ) -> Result<Notes, Fail> {
     let function = last_function(checked)?;
-    let (heap, mut main) = opened(alloc, checked, MOST_ROWS)?;
-    let mut hand = worker_hand(&heap, &mut main)?;
+    let (heap, mut main) = opened(alloc, checked, 1, MOST_ROWS)?;
+    let mut hand = worker_hand(&heap, &mut main, WORKER)?;
     Ok(notes_of(rt, &heap, checked, function, &mut hand, asked))
 }
 

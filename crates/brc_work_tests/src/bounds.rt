@@ -1,6 +1,7 @@
 //! Workers that are stopped by a bound: they have given up what they held, and everything that isn't in a cycle is
 //! closed.
 
+use crate::beside::beside;
 use crate::faults::{COPY, FILE_IN_CALLS};
 use crate::hearing::Hearing;
 use crate::runs::{MOST_ROWS, run_apart, run_in_thread, run_over};
@@ -183,8 +184,8 @@ fn both_stop<R: Threads + Wait + Sync>(
     Ok((one.is_done() || other.is_done(), objects))
 }
 
-/// A stopped worker has given up what it owned; a run is done unless its bound is met; and of two workers both stop, as
-/// their four calls begin more instructions than any of the bounds.
+/// A stopped worker has given up what it owned; a run is done unless its bound is met; and of two workers both stop,
+/// whether they call one function or one each, as their four calls begin more instructions than any of the bounds.
 #[test]
 fn bounds_stop_workers(rt: HostRuntime) -> Result<(), Fail> {
     for (name, text, instructions, wants) in CASES {
@@ -223,6 +224,14 @@ fn bounds_stop_workers(rt: HostRuntime) -> Result<(), Fail> {
                 "function {function}, {steps} steps"
             );
         }
+        let created = 1 + steps.div_ceil(OWN_STEPS);
+        let (done, objects) = beside(&rt, rt.alloc(), TWO_FUNCTIONS, steps)?;
+        assert!(rt; !done, "own beside other, {steps} steps");
+        assert_eq!(rt;
+            objects,
+            [created, created, 0],
+            "own beside other, {steps} steps"
+        );
     }
     Ok(())
 }

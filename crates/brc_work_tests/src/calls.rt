@@ -1,13 +1,13 @@
-//! Calls over a heap of one worker. The contract of each carries what the next one requires.
+//! Calls over a heap. The contract of each carries what the next one requires.
 
 ghost use Rattle.std.specs.Prelude.{◌≡◌, ◌<◌, ◌≤◌, [], length, IfOk, OnOk};
-ghost use Rattle.brc_model.specs.Limits.{row_limit};
+ghost use Rattle.brc_model.specs.Limits.{row_limit, worker_limit};
 ghost use Rattle.brc_model.specs.Threads.{function_at};
 ghost use Rattle.brc_table.specs.Hands.{IsOf};
 ghost use Rattle.brc_work.specs.Fits.{IsHeapOf};
 ghost use Rattle.brc_work_tests.specs.Ready.{HoldsRoot};
 
-use crate::hearing::{Hearing, WORKER};
+use crate::hearing::Hearing;
 use brc_check::Checked;
 use brc_heap::{Final, Hand, Heap, Taken};
 use brc_host::{FakeResource, Host};
@@ -17,25 +17,28 @@ use std::alloc::Global;
 use std::sync::Wait;
 use std::test::*;
 
-/// Returns a heap of the module for one worker that has `rows` rows, and main's hand.
+/// Returns a heap of the module for workers that have `rows` rows each, and main's hand.
 #[tactic(auto, using(crate::proofs::Opening::lists_have_rows, crate::proofs::Opening::is_heap_of))]
 pub fn opened(
     alloc: Global,
     checked: &Checked,
+    threads: u8,
     rows: u16,
 ) -> Result<(Heap<FakeResource>, Hand<FakeResource>), Fail>
+    requires threads { (0 < threads) × (threads ≤ worker_limit) }
     requires rows { (0 < rows) × (rows ≤ row_limit) }
     ensures heap { IfOk result (λ made. IsHeapOf checked.now.module made.0) }
     ensures main { IfOk result (λ made. HoldsRoot made.0 made.1) }
     ensures thread { IfOk result (λ made. made.1.view.thread ≡ 0) }
 {
-    Ok(Heap::new(alloc, 1, rows, checked.module())?)
+    Ok(Heap::new(alloc, threads, rows, checked.module())?)
 }
 
-/// Gives out the worker's hand.
+/// Gives out a worker's hand.
 pub fn worker_hand(
     heap: &Heap<FakeResource>,
     main: &mut Hand<FakeResource>,
+    thread: u8,
 ) -> Result<Hand<FakeResource>, Taken>
     requires main { HoldsRoot heap.now main.old }
     requires thread { main.old.view.thread ≡ 0 }
@@ -43,7 +46,7 @@ pub fn worker_hand(
     ensures thread { OnOk result (main.new.view.thread ≡ 0) }
     ensures worker { IfOk result (λ hand. HoldsRoot heap.now hand) }
 {
-    heap.hand_out(main, WORKER)
+    heap.hand_out(main, thread)
 }
 
 /// Calls the function `times` times, and begins at most `steps` instructions. Returns how the run has ended.

@@ -7,7 +7,7 @@ ghost use Rattle.brc_work.specs.Fits.{IsHeapOf};
 ghost use Rattle.brc_work_tests.specs.Ready.{HoldsRoot};
 
 use crate::calls::{leaves, makes_calls, opened, worker_hand};
-use crate::hearing::Hearing;
+use crate::hearing::{Hearing, WORKER};
 use crate::runs::{MOST_ROWS, objects_left};
 use crate::worked::FOUR_PASSES;
 use brc_check::Checked;
@@ -96,7 +96,7 @@ fn in_rounds_of<R: Wait>(
     if !is_callable(checked, 0) {
         return Err("the first function has no parameters")?;
     }
-    let (heap, main) = opened(alloc, checked, MOST_ROWS)?;
+    let (heap, main) = opened(alloc, checked, 1, MOST_ROWS)?;
     match rounds_in(rt, heap, main, checked) {
         Some(ends) => Ok(ends),
         None => Err("a thread isn't gone")?,
@@ -134,7 +134,7 @@ fn rounds<R: Wait>(
     ensures table { OnSome result (IsOf heap.now main.new) }
     ensures thread { OnSome result (main.new.view.thread ≡ 0) }
 {
-    let Ok(mut hand) = worker_hand(heap, main) else {
+    let Ok(mut hand) = worker_hand(heap, main, WORKER) else {
         return None;
     };
     let mut host = FakeHost::new(&[]);
@@ -172,8 +172,8 @@ fn two_runs_of<R: Wait>(
     steps: u64,
 ) -> Result<[Run; 2], Fail> {
     let function = last_function(checked)?;
-    let (heap, mut main) = opened(alloc, checked, MOST_ROWS)?;
-    let mut hand = worker_hand(&heap, &mut main)?;
+    let (heap, mut main) = opened(alloc, checked, 1, MOST_ROWS)?;
+    let mut hand = worker_hand(&heap, &mut main, WORKER)?;
     let first = run_of(rt, &heap, checked, function, times, steps, &mut hand);
     let second = run_of(rt, &heap, checked, function, 1, u64::MAX, &mut hand);
     Ok([first, second])

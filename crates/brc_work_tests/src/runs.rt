@@ -10,7 +10,7 @@ ghost use Rattle.brc_work.specs.Mains.{MayFanOut};
 ghost use Rattle.brc_work_tests.specs.Ready.{HoldsRoot};
 
 use crate::calls::{ended, leaves, makes_calls, opened, worker_hand};
-use crate::hearing::Hearing;
+use crate::hearing::{Hearing, WORKER};
 use brc_check::Checked;
 use brc_fixtures::{accepted, is_callable, last_function};
 use brc_heap::{Final, Hand, Heap, ROOT};
@@ -64,7 +64,7 @@ fn objects(end: &Final<FakeResource>) -> [u64; 3] {
 
 /// Returns whether an object was born in the row, and whether it is closed. An immortal one counts as neither.
 fn born_and_closed(end: &Final<FakeResource>, row: u32) -> (bool, bool)
-    requires { row < row_count end.now.layout }
+    requires { row < row_count end.now.state.layout }
 {
     if end.is_immortal(row) {
         return (false, false);
@@ -107,7 +107,7 @@ fn run_checked<R: Wait>(
     requires rows { (0 < rows) × (rows ≤ row_limit) }
 {
     let function = last_function(checked)?;
-    let (heap, main) = opened(alloc, checked, rows)?;
+    let (heap, main) = opened(alloc, checked, 1, rows)?;
     match run_heap(rt, heap, main, checked, function, times, steps, plan) {
         Some(outcome) => Ok(outcome),
         None => Err("a thread isn't gone")?,
@@ -169,7 +169,7 @@ fn run_worker<R: Wait>(
     ensures table { OnSome result (IsOf heap.now main.new) }
     ensures thread { OnSome result (main.new.view.thread ≡ 0) }
 {
-    let Ok(mut hand) = worker_hand(heap, main) else {
+    let Ok(mut hand) = worker_hand(heap, main, WORKER) else {
         return None;
     };
     let ran = makes_calls(

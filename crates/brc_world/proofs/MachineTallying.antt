@@ -22,7 +22,8 @@ use Rattle.brc_model.specs.World.{world_of, IsReachable}
 use Rattle.brc_model.specs.StepMachine.{StepMachine}
 use Rattle.brc_world.specs.Tallies.{used_of, is_born, is_closed_row, rows_born, rows_closed, rows_left}
 use Rattle.brc_world.specs.Tallies.{left_in, tally_of}
-use Rattle.brc_world.specs.MachineTallies.{IsMachineOf, is_left, objects_left, left_object, machine_tally}
+use Rattle.brc_machine.specs.MachineTallies.{is_left, objects_left, left_object, machine_tally}
+use Rattle.brc_world.specs.MachineTallies.{IsMachineOf}
 use Rattle.brc_world.proofs.Tallying.{parts}
 use Rattle.brc_effect.proofs.Indices.{block_there, counted_above}
 use Rattle.brc_model.specs.Layout.{row_count, block_of, index_of, is_immortal_row}

@@ -21,6 +21,7 @@ use Rattle.brc_world.specs.Answers.{IsAnswer}
 use Rattle.brc_world.specs.Actors.{actor_of}
 use Rattle.brc_machine.specs.Storage.{Columns, word_in, AreOf}
 use Rattle.brc_world.specs.Worlds.{Contents, model_of, IsWorld}
+use Rattle.brc_world.specs.Doing.{Turned}
 use Rattle.brc_world.proofs.Stepping.{with_words}
 use Rattle.brc_model.specs.declared.layout.Layout.{Layout}
 use Rattle.brc_model.specs.Layout.{row_count}
@@ -45,21 +46,6 @@ are_of p c world few workers = record {
   few_lists = world.few_lists;
   few_numbers = world.few_numbers;
 }
-
--- the contract of one step: the words, the thread and the counts of faults after it, or the same ones if memory was
--- refused
-pub record Turned (old new : Columns) (a b : StepActor) (f g : Faults) (r : Result Did NoMemory) (memory : Address → ℕ)
-    (next : StepActor) (faults : Faults) :
-    Type 0 where
-  pub words : OnOk r (word_in new ≡ memory)
-  pub actor : OnOk r (b ≡ next)
-  pub faults_are : OnOk r (g ≡ faults)
-  pub same_words : OnErr r (new ≡ old)
-  pub same_actor : OnErr r (b ≡ a)
-  pub same_faults : OnErr r (g ≡ f)
-  pub rows : length new.local ≡ length old.local
-  pub threads : length new.thread ≡ length old.thread
-  pub cells : new.width ≡ old.width
 
 -- ---- the model's view
 

@@ -1,19 +1,17 @@
 -- The born rows of a world, row by row, and the number of closed ones among them.
 use Rattle.std.proofs.Common.{◌≡◌, ℕ, ◌+◌, ◌-◌, ◌<◌, ◌≤◌, Bool, true, false, cond, List, [], ◌∷◌, ◌++◌, length, map, inl, inr, refl, sym, ap, ◌∙◌, subst, arith}
-use Rattle.std.specs.Prelude.{filter, not, sum_by, count_by, drop}
-use Rattle.std.specs.List.{All, range_with_len, slice_index_or}
+use Rattle.std.specs.Prelude.{filter, not, count_by}
+use Rattle.std.specs.List.{All, range_with_len}
 use Rattle.std.proofs.lemmas.Bool.{cases_Bool}
-use Rattle.std.proofs.lemmas.List.{map-id, append-nil, length-map, drop_more, drop_all}
+use Rattle.std.proofs.lemmas.List.{map-id, append-nil, length-map}
 use Rattle.std.proofs.lemmas.List.FromFn.{map-range_with_len_more, length-range_with_len, get_or-range_with_len}
 use Rattle.std.proofs.lemmas.List.Elements.{filter-append, All-filter}
-use Rattle.std.proofs.lemmas.List.Sums.{sum_by-cons}
 use Rattle.brc_model.specs.World.{World}
 use Rattle.brc_report.specs.declared.tally.Tally.{Tally}
 use Rattle.brc_report.specs.declared.tally.Left.{Left}
-use Rattle.brc_world.specs.Tallies.{still_runs, is_born, is_closed_row, born_below, rows_born, rows_closed, rows_left, left_in, tally_of}
+use Rattle.brc_machine.specs.MachineTallies.{still_runs}
+use Rattle.brc_world.specs.Tallies.{is_born, is_closed_row, born_below, rows_born, rows_closed, rows_left, left_in, tally_of}
 use Rattle.brc_model.specs.Layout.{row_count}
-use Rattle.brc_world.specs.declared.thread.Thread.{Thread}
-use Rattle.brc_world.specs.Actors.{actor_of}
 
 more_rows : (a n : ℕ) → range_with_len a (n + 1) ≡ range_with_len a n ++ (a + n) ∷ []
 more_rows a n =
@@ -69,19 +67,6 @@ born_there w some =
     (subst (λ (m : ℕ). All (λ row. row < m) (range_with_len 1 (row_count w.layout - 1))) all
     (rows_there 1 (row_count w.layout - 1)))
 
--- ---- counts over a mapped list
-
-sum_over : {X Y : Type 0} (f : Y → ℕ) (g : X → Y) (xs : List X) → sum_by f (map g xs) ≡ sum_by (λ x. f (g x)) xs
-sum_over f g [] = refl
-sum_over f g (x ∷ xs) =
-    sum_by-cons f (g x) (map g xs) ∙ ap (λ (n : ℕ). f (g x) + n) (sum_over f g xs)
-    ∙ sym (sum_by-cons (λ y. f (g y)) x xs)
-
--- Counting the elements of a mapped list is counting the list's elements by the mapped test.
-pub count_over : {X Y : Type 0} (p : Y → Bool) (g : X → Y) (xs : List X)
-    → count_by (λ x. p (g x)) xs ≡ count_by p (map g xs)
-count_over p g xs = sym (sum_over (λ y. cond (p y) 1 0) g xs)
-
 -- ---- the tally
 
 -- The tally that the code puts together is the tally of the world.
@@ -109,20 +94,3 @@ tally_as w all running created closed alive calls closes left born all_is runnin
     let closed_now : closed ≡ length (rows_closed w) =
     closed_is ∙ (rw (created_now, left_many) (passed (is_closed_row w) (rows_born w))) in
     rw (all_is, running_is, created_now, closed_now, alive_now, left_now, calls_is, closes_is) refl
-
--- ---- running threads
-
--- the thread isn't gone
-abbrev pub runs_still : Thread → Bool
-runs_still a = still_runs (actor_of a)
-
-pub counted_more : (threads : List Thread) (k : ℕ) (a : Thread) → k < length threads
-    → a ≡ slice_index_or threads k a
-    → count_by runs_still (drop k threads) ≡ cond (runs_still a) 1 0 + count_by runs_still (drop (k + 1) threads)
-counted_more threads k a lt is =
-    ap (count_by runs_still)
-    (drop_more threads k a lt ∙ ap (λ (x : Thread). x ∷ drop (k + 1) threads) (sym is))
-    ∙ sum_by-cons (λ (x : Thread). cond (runs_still x) 1 0) a (drop (k + 1) threads)
-
-pub counted_all : (threads : List Thread) (k : ℕ) → length threads ≤ k → count_by runs_still (drop k threads) ≡ 0
-counted_all threads k past = ap (count_by runs_still) (drop_all k threads past)

@@ -1,5 +1,6 @@
 pub mod OpenCalls
 pub mod Actors
+pub mod Doing
 pub mod Questions
 pub mod Starts
 pub mod Sights

@@ -4,17 +4,12 @@ use Rattle.std.specs.List.{range_with_len}
 use Rattle.brc_word.specs.Words.{closed_word, kind_part}
 use Rattle.brc_model.specs.declared.address.Address.TheVariants.{Gate, KindOf}
 use Rattle.brc_model.specs.Kinds.{kind_numbered}
-use Rattle.brc_model.specs.Safety.{has_gone}
 use Rattle.brc_model.specs.World.{World}
 use Rattle.brc_model.specs.Actions.{StepActor}
 use Rattle.brc_report.specs.declared.tally.Tally.{Tally}
 use Rattle.brc_report.specs.declared.tally.Left.{Left}
+use Rattle.brc_machine.specs.MachineTallies.{still_runs}
 use Rattle.brc_model.specs.Layout.{row_count, block_of, index_of, is_immortal_row}
-
--- ---- threads
-
-abbrev pub still_runs : StepActor → Bool
-still_runs a = not (has_gone a.actor.status)
 
 -- ---- rows
 

@@ -140,7 +140,7 @@ pub fn stop(checked: &Checked, thread: &mut Thread) -> Did
                     Some(variable) => thread.row_of(variable),
                     None => None,
                 };
-                thread.variables = owned_rows(&state.vars, &thread.variables);
+                thread.variables = owned_rows(&state.slots, &thread.variables);
                 keep_owned(checked, thread.function, &mut thread.outer);
                 thread.stop(locked);
             }
@@ -161,7 +161,7 @@ fn keep_owned(checked: &Checked, first: usize, outer: &mut OpenCalls)
     for index in 0..count {
         let call = outer.calls[index];
         if let Some(state) = waiting_state(checked, number, &call) {
-            outer.calls[index].variables = owned_rows(&state.vars, &call.variables);
+            outer.calls[index].variables = owned_rows(&state.slots, &call.variables);
         }
         number = usize::from(call.callee);
     }

@@ -1,18 +1,15 @@
 //! The next step of one thread, which does a duty or dispatches: it changes a word, the thread, or both.
 
-ghost use Rattle.std.specs.Prelude.{◌≡◌, ◌≢◌, ◌+◌, ◌≤◌, ◌==◌, false, if◌then◌else◌, length, OnOk, OnErr, IfOk, IfErr};
-ghost use Rattle.std.specs.Prelude.{[], reverse, vec_len, vec_capacity};
+ghost use Rattle.std.specs.Prelude.{◌≡◌, ◌≢◌, ◌≤◌, ◌==◌, false, if◌then◌else◌, length, IfOk, IfErr};
+ghost use Rattle.std.specs.Prelude.{[], reverse, vec_capacity};
 ghost use Rattle.brc_word.specs.Words.{free_word};
 ghost use Rattle.brc_model.specs.declared.actor.Status.TheVariants.{Gone};
-ghost use Rattle.brc_model.specs.Duties.{address_of, new_word};
-ghost use Rattle.brc_model.specs.Machine.{is_running, used_by};
 ghost use Rattle.brc_model.specs.Dispatch.{status_action};
 ghost use Rattle.brc_model.specs.Limits.{worker_limit, total_limit};
 ghost use Rattle.brc_model.specs.StepMachine.{at_place};
-ghost use Rattle.brc_model.specs.Within.{IsThere, Suits};
-ghost use Rattle.brc_machine.specs.Storage.{word_in, AreOf, IsStored};
-ghost use Rattle.brc_machine.specs.Sights.{found_by};
-ghost use Rattle.brc_world.specs.Actors.{actor_of, context_in, actor_after, memory_by, actor_by, faults_by, waits, answer_by, CanAct};
+ghost use Rattle.brc_machine.specs.Storage.{word_in, AreOf};
+ghost use Rattle.brc_world.specs.Actors.{actor_of, context_in, memory_by, actor_by, faults_by, waits, answer_by, CanAct};
+ghost use Rattle.brc_world.specs.Doing.{DutyDone, HasDuty, Turned};
 ghost use Rattle.brc_world.specs.Starts.{let_in};
 
 use crate::did::Did;
@@ -39,26 +36,8 @@ pub fn do_duty(
     thread: &mut Thread,
     duty: &Duty,
 ) -> u64
-    requires columns { AreOf blocks memory.old }
-    requires small { length memory.old.local ≤ total_limit }
-    requires known { number ≤ worker_limit }
-    requires there { IsThere blocks (address_of blocks number thread.old.head duty.now) }
-    requires suits { Suits number (is_running thread.old.status) (length memory.old.local) duty.now
-        (found_by blocks number (word_in memory.old) (actor_of thread.old) duty.now) }
-    requires uses { used_by thread.old.used duty.now ≤ length memory.old.local }
-    requires room { vec_len thread.old.agenda + 4 ≤ vec_capacity thread.old.agenda }
-    ensures word { IsStored memory.old (address_of blocks number thread.old.head duty.now)
-        (new_word blocks number thread.old.head duty.now
-        (found_by blocks number (word_in memory.old) (actor_of thread.old) duty.now)) memory.new }
-    ensures actor { actor_of thread.new ≡ actor_after blocks number (word_in memory.old) (actor_of thread.old)
-        duty.now }
-    ensures found { result ≡ found_by blocks number (word_in memory.old) (actor_of thread.old) duty.now }
-    ensures calls { thread.new.left ≡ thread.old.left }
-    ensures point { thread.new.at ≡ thread.old.at }
-    ensures variables { thread.new.variables ≡ thread.old.variables }
-    ensures turns { thread.new.turns ≡ thread.old.turns }
-    ensures outer { thread.new.outer ≡ thread.old.outer }
-    ensures mode { thread.new.mode ≡ thread.old.mode }
+    requires { HasDuty blocks number memory.old thread.old duty.now }
+    ensures { DutyDone blocks number memory.old memory.new thread.old thread.new duty.now result }
 {
     match duty {
         Duty::RetainLoad { .. } => do_known_duty(memory, blocks, number, thread, duty),
@@ -79,7 +58,7 @@ pub fn do_duty(
         Duty::Settle => do_known_duty(memory, blocks, number, thread, duty),
         Duty::SettleKind { .. } => do_known_duty(memory, blocks, number, thread, duty),
         Duty::SettleCell { .. } => do_known_duty(memory, blocks, number, thread, duty),
-        Duty::TakeSlot { .. } => do_known_duty(memory, blocks, number, thread, duty),
+        Duty::TakeField { .. } => do_known_duty(memory, blocks, number, thread, duty),
         Duty::CloseResource { .. } => do_known_duty(memory, blocks, number, thread, duty),
         Duty::SettleEnd { .. } => do_known_duty(memory, blocks, number, thread, duty),
         Duty::Leave { .. } => do_known_duty(memory, blocks, number, thread, duty),
@@ -89,15 +68,15 @@ pub fn do_duty(
         Duty::ClaimMark { .. } => do_known_duty(memory, blocks, number, thread, duty),
         Duty::MarksLoad { .. } => do_known_duty(memory, blocks, number, thread, duty),
         Duty::BirthKind { .. } => do_known_duty(memory, blocks, number, thread, duty),
-        Duty::BirthSlot { .. } => do_known_duty(memory, blocks, number, thread, duty),
+        Duty::BirthField { .. } => do_known_duty(memory, blocks, number, thread, duty),
         Duty::BirthLocal { .. } => do_known_duty(memory, blocks, number, thread, duty),
         Duty::KindLoad { .. } => do_known_duty(memory, blocks, number, thread, duty),
         Duty::LockGate { .. } => do_known_duty(memory, blocks, number, thread, duty),
         Duty::UnlockGate { .. } => do_known_duty(memory, blocks, number, thread, duty),
         Duty::CellLoad { .. } => do_known_duty(memory, blocks, number, thread, duty),
         Duty::CellSwap { .. } => do_known_duty(memory, blocks, number, thread, duty),
-        Duty::LendSlot { .. } => do_known_duty(memory, blocks, number, thread, duty),
-        Duty::ReturnSlot { .. } => do_known_duty(memory, blocks, number, thread, duty),
+        Duty::LendField { .. } => do_known_duty(memory, blocks, number, thread, duty),
+        Duty::ReturnField { .. } => do_known_duty(memory, blocks, number, thread, duty),
     }
 }
 
@@ -110,26 +89,8 @@ fn do_known_duty(
     thread: &mut Thread,
     duty: &Duty,
 ) -> u64
-    requires columns { AreOf blocks memory.old }
-    requires small { length memory.old.local ≤ total_limit }
-    requires known { number ≤ worker_limit }
-    requires there { IsThere blocks (address_of blocks number thread.old.head duty.now) }
-    requires suits { Suits number (is_running thread.old.status) (length memory.old.local) duty.now
-        (found_by blocks number (word_in memory.old) (actor_of thread.old) duty.now) }
-    requires uses { used_by thread.old.used duty.now ≤ length memory.old.local }
-    requires room { vec_len thread.old.agenda + 4 ≤ vec_capacity thread.old.agenda }
-    ensures word { IsStored memory.old (address_of blocks number thread.old.head duty.now)
-        (new_word blocks number thread.old.head duty.now
-        (found_by blocks number (word_in memory.old) (actor_of thread.old) duty.now)) memory.new }
-    ensures actor { actor_of thread.new ≡ actor_after blocks number (word_in memory.old) (actor_of thread.old)
-        duty.now }
-    ensures found { result ≡ found_by blocks number (word_in memory.old) (actor_of thread.old) duty.now }
-    ensures calls { thread.new.left ≡ thread.old.left }
-    ensures point { thread.new.at ≡ thread.old.at }
-    ensures variables { thread.new.variables ≡ thread.old.variables }
-    ensures turns { thread.new.turns ≡ thread.old.turns }
-    ensures outer { thread.new.outer ≡ thread.old.outer }
-    ensures mode { thread.new.mode ≡ thread.old.mode }
+    requires { HasDuty blocks number memory.old thread.old duty.now }
+    ensures { DutyDone blocks number memory.old memory.new thread.old thread.new duty.now result }
 {
     // A copy: behind a reference the compiler would read and test the duty again after each store.
     let own = *duty;
@@ -203,21 +164,15 @@ pub fn act(
         (actor_of thread.old) (status_action functions.now blocks number (actor_of thread.old) thread.old.status) }
     ensures did { IfOk result (λ did. did ≡ answer_by (word_in memory.old) (reverse thread.old.agenda.items)
         (status_action functions.now blocks number (actor_of thread.old) thread.old.status)) }
-    ensures words { OnOk result (word_in memory.new ≡ memory_by blocks number (word_in memory.old) (actor_of thread.old)
-        (status_action functions.now blocks number (actor_of thread.old) thread.old.status)) }
-    ensures actor { OnOk result (actor_of thread.new ≡ actor_by blocks number (word_in memory.old) (actor_of thread.old)
-        exit (status_action functions.now blocks number (actor_of thread.old) thread.old.status)) }
-    ensures faults { OnOk result (faults.new ≡ faults_by exit
-        (status_action functions.now blocks number (actor_of thread.old) thread.old.status) faults.old) }
+    ensures turned { Turned memory.old memory.new (actor_of thread.old) (actor_of thread.new) faults.old faults.new result
+        (memory_by blocks number (word_in memory.old) (actor_of thread.old)
+        (status_action functions.now blocks number (actor_of thread.old) thread.old.status))
+        (actor_by blocks number (word_in memory.old) (actor_of thread.old) exit
+        (status_action functions.now blocks number (actor_of thread.old) thread.old.status))
+        (faults_by exit (status_action functions.now blocks number (actor_of thread.old) thread.old.status) faults.old) }
     ensures refused { IfErr result (λ _. (thread.old.status ≢ Gone)
         × (waits (word_in memory.old) (reverse thread.old.agenda.items)
         (status_action functions.now blocks number (actor_of thread.old) thread.old.status) ≡ false)) }
-    ensures same_words { OnErr result (memory.new ≡ memory.old) }
-    ensures same_actor { OnErr result (actor_of thread.new ≡ actor_of thread.old) }
-    ensures same_faults { OnErr result (faults.new ≡ faults.old) }
-    ensures as_many_rows { length memory.new.local ≡ length memory.old.local }
-    ensures as_many_threads { length memory.new.thread ≡ length memory.old.thread }
-    ensures as_many_cells { memory.new.width ≡ memory.old.width }
 {
     if let Status::Gone = thread.status {
         return Ok(Did::Gone);
@@ -256,15 +211,12 @@ fn act_by_dispatch(
         (actor_of thread.old) (status_action functions.now blocks number (actor_of thread.old) thread.old.status) }
     ensures did { result ≡ answer_by (word_in memory.old) (reverse thread.old.agenda.items)
         (status_action functions.now blocks number (actor_of thread.old) thread.old.status) }
-    ensures words { word_in memory.new ≡ memory_by blocks number (word_in memory.old) (actor_of thread.old)
-        (status_action functions.now blocks number (actor_of thread.old) thread.old.status) }
-    ensures actor { actor_of thread.new ≡ actor_by blocks number (word_in memory.old) (actor_of thread.old) exit
-        (status_action functions.now blocks number (actor_of thread.old) thread.old.status) }
-    ensures faults { faults.new ≡ faults_by exit
-        (status_action functions.now blocks number (actor_of thread.old) thread.old.status) faults.old }
-    ensures as_many_rows { length memory.new.local ≡ length memory.old.local }
-    ensures as_many_threads { length memory.new.thread ≡ length memory.old.thread }
-    ensures as_many_cells { memory.new.width ≡ memory.old.width }
+    ensures turned { Turned memory.old memory.new (actor_of thread.old) (actor_of thread.new) faults.old faults.new (Ok result)
+        (memory_by blocks number (word_in memory.old) (actor_of thread.old)
+        (status_action functions.now blocks number (actor_of thread.old) thread.old.status))
+        (actor_by blocks number (word_in memory.old) (actor_of thread.old) exit
+        (status_action functions.now blocks number (actor_of thread.old) thread.old.status))
+        (faults_by exit (status_action functions.now blocks number (actor_of thread.old) thread.old.status) faults.old) }
 {
     let mut start = Start::Stuck;
     dispatch(functions, blocks.layout(), number, thread, &mut start);

@@ -9,7 +9,8 @@ ghost use Rattle.brc_model.specs.World.{world_of};
 ghost use Rattle.brc_world.specs.Runs.{world_after};
 ghost use Rattle.brc_world.specs.Sights.{words_seen};
 ghost use Rattle.brc_world.specs.Tallies.{tally_of};
-ghost use Rattle.brc_world.specs.MachineTallies.{IsMachineOf, machine_tally};
+ghost use Rattle.brc_machine.specs.MachineTallies.{machine_tally};
+ghost use Rattle.brc_world.specs.MachineTallies.{IsMachineOf};
 
 use brc_model::{
     a_row_is_finalised_once, accepted_is_safe, an_object_is_born_once, born_rows_are_listed,

@@ -14,16 +14,15 @@ ghost use Rattle.brc_check.specs.Tables.{states_of};
 use crate::claim_and_stop::{may_claim, stops};
 use crate::dispatch::{Start, first_duty};
 use crate::scratch::copy_thread;
-use crate::tally::kind_numbered;
 use crate::thread::{Mode, Thread};
 use crate::world::exit_of;
 use brc_check::Checked;
+use brc_effect::kinds::kind_of_word;
 use brc_effect::{Blocks, access_of, address_of};
 use brc_lang::{Function, Kind};
 use brc_machine::exits::exit_part;
 use brc_machine::{Event, ExitPart, Memory, NoMemory, Part, Sight};
 use brc_model::{Address, Choice, Duty, Layout, Status};
-use brc_word::kind_number;
 
 /// Returns the sight of the thread's step by the choice, or `None` if it takes no step: it is gone, may not claim the
 /// row, or can't stop where it is. `copy` becomes a copy of the thread whose step has started. Returns `NoMemory` if
@@ -52,7 +51,7 @@ pub fn peek(
             let functions = checked.module().functions.as_slice();
             peek_ahead(functions, memory, blocks, number, thread, choice, copy)
         }
-        Choice::Claim { row } => {
+        Choice::Claim(row) => {
             if !may_claim(blocks, number, thread, row) {
                 return Ok(None);
             }
@@ -174,7 +173,7 @@ fn kind_born(
     match *duty {
         Duty::BirthLocal { row, .. } => {
             let word = memory.load(Address::KindOf { row });
-            Some(kind_numbered(kind_number(word)))
+            Some(kind_of_word(word))
         }
         _ => None,
     }
@@ -219,7 +218,7 @@ fn begins_at(thread: &Thread, choice: Choice) -> Option<Part>
 {
     match choice {
         Choice::Ok | Choice::Fault => next_part(thread),
-        Choice::Claim { row } => Some(Part::Claim { row }),
+        Choice::Claim(row) => Some(Part::Claim { row }),
         Choice::Stop => Some(Part::Stop),
     }
 }

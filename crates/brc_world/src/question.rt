@@ -1,18 +1,15 @@
 //! What a step asks of the word that its duty finds, and where the thread goes on by the answer.
 
 ghost use Rattle.std.specs.Prelude.{◌≡◌, ◌≤◌};
-ghost use Rattle.brc_model.specs.Kinds.{same_kind, kind_of_word};
 ghost use Rattle.brc_model.specs.Limits.{total_limit};
 ghost use Rattle.brc_model.specs.StepMachine.{at_place};
 ghost use Rattle.brc_world.specs.Actors.{actor_of, context_in};
 ghost use Rattle.brc_world.specs.Questions.{outside_of, place_answered, IsAnswerable, item_in};
 
-use crate::tally::kind_numbered;
 use crate::thread::{Mode, Thread};
-use brc_effect::kinds::cells_of;
+use brc_effect::kinds::{cells_of, kind_of_word, same_kind};
 use brc_lang::{Kind, Variable};
 use brc_model::Stage;
-use brc_word::kind_number;
 use brc_word::values::EMPTY;
 
 /// What a step asks of the word that its duty finds. The answer decides where the thread goes on.
@@ -53,7 +50,7 @@ pub fn answer(thread: &mut Thread, question: &Question, found: u64)
     let here = thread.at;
     match *question {
         Question::Kind { kind, otherwise } => {
-            let is_of_kind = is_of_kind(found, kind);
+            let is_of_kind = same_kind(kind_of_word(found), kind);
             thread.go_to(
                 left,
                 if is_of_kind {
@@ -107,13 +104,6 @@ fn miss(thread: &mut Thread, outside: Outside)
         Outside::Releases => thread.mode = Mode::Inside(Stage::OutOfRange),
         Outside::GoesOn { otherwise } => thread.go_to(left, usize::from(otherwise)),
     }
-}
-
-/// Returns whether a kind word is of the kind.
-fn is_of_kind(word: u64, kind: Kind) -> bool
-    ensures { result ≡ same_kind (kind_of_word word) kind }
-{
-    kind_numbered(kind_number(word)) == kind
 }
 
 /// Returns the row that a cell's word names, or `None` if the cell is empty.

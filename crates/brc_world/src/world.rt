@@ -20,9 +20,10 @@ use crate::first::first_threads;
 use crate::laws::tallies_follow_machines;
 use crate::peek::peek;
 use crate::scratch::Scratch;
-use crate::tally::{kind_numbered, running_in};
+use crate::tally::running_in;
 use crate::thread::Thread;
 use brc_check::Checked;
+use brc_effect::kinds::kind_of_word;
 use brc_effect::rows::is_immortal_row;
 use brc_effect::{Blocks, layout_of};
 use brc_lang::Sequence;
@@ -32,7 +33,7 @@ use brc_model::{
     worlds_are_small, worlds_lead_on,
 };
 use brc_report::{Left, Tally};
-use brc_word::{is_closed, kind_number};
+use brc_word::is_closed;
 use std::alloc::Global;
 use std::marker::Model;
 
@@ -126,14 +127,14 @@ impl<'a> World<'a> {
 
     /// Returns the tally of the world: how many threads run, how many objects were created and closed, and which are
     /// left. Returns `NoMemory` if memory is refused.
-    pub fn tally(&self, alloc: Global) -> Result<Tally, NoMemory>
+    pub fn tally(&self) -> Result<Tally, NoMemory>
         ensures counted { IfOk result (λ tally. tally ≡ tally_of (model_of self.now)) }
         ensures machine { IfOk result (IsMachineTally (model_of self.now)) }
     {
         worlds_are_small();
         tallies_follow_machines();
-        let born = self.rows_born(alloc)?;
-        let left = self.left_of(alloc, &born)?;
+        let born = self.rows_born()?;
+        let left = self.left_of(&born)?;
         Ok(Tally {
             threads: self.threads.len() as u64 - 1,
             running: running_in(&self.threads) as u64,
@@ -147,11 +148,11 @@ impl<'a> World<'a> {
     }
 
     /// Returns the rows of all counted objects that have been born, in rising order.
-    fn rows_born(&self, alloc: Global) -> Result<Vec<u32>, NoMemory>
+    fn rows_born(&self) -> Result<Vec<u32>, NoMemory>
         ensures { IfOk result (λ born. born.items ≡ rows_born (model_of self.now)) }
     {
         worlds_are_small();
-        let mut born = Vec::new(alloc);
+        let mut born = Vec::new(*self.threads.allocator());
         for row in 1..self.memory.rows() as u32 {
             if self.is_born(row) {
                 born.push(row)?;
@@ -161,12 +162,12 @@ impl<'a> World<'a> {
     }
 
     /// Returns the rows of `born` whose objects aren't closed, with the objects' kinds.
-    fn left_of(&self, alloc: Global, born: &[u32]) -> Result<Sequence<Left>, NoMemory>
+    fn left_of(&self, born: &[u32]) -> Result<Sequence<Left>, NoMemory>
         requires { All (λ row. row < row_count self.now.layout) born.now }
         ensures { IfOk result (λ left. left ≡ map (left_in (model_of self.now))
             (filter (λ row. not (is_closed_row (model_of self.now) row)) born.now)) }
     {
-        let mut left = Sequence::new(alloc);
+        let mut left = Sequence::new(*self.threads.allocator());
         for row in born {
             if !self.is_closed(*row) {
                 left.push(self.left_in(*row))?;
@@ -208,7 +209,7 @@ impl<'a> World<'a> {
     {
         Left {
             row,
-            kind: kind_numbered(kind_number(self.memory.load(Address::KindOf { row }))),
+            kind: kind_of_word(self.memory.load(Address::KindOf { row })),
         }
     }
 
@@ -253,7 +254,7 @@ impl<'a> World<'a> {
     {
         match choice {
             Choice::Ok | Choice::Fault => self.go_on(thread, exit_of(choice)),
-            Choice::Claim { row } => self.look_for(thread, row),
+            Choice::Claim(row) => self.look_for(thread, row),
             Choice::Stop => Ok(self.stop(thread)),
         }
     }
@@ -323,7 +324,7 @@ pub fn exit_of(choice: Choice) -> Exit
     ensures { result ≡ exit_of choice }
 {
     match choice {
-        Choice::Ok | Choice::Claim { .. } | Choice::Stop => Exit::Success,
+        Choice::Ok | Choice::Claim(_) | Choice::Stop => Exit::Success,
         Choice::Fault => Exit::Fault,
     }
 }

@@ -19,16 +19,16 @@ impl Doer {
         ensures { (found : ℕ) → IsEffect self (duties.BirthKind row holding word) found result }
     {
         if has_resource(word) {
-            self.then(Next::One(Duty::BirthSlot { row, holding }))
+            self.then(Next::One(Duty::BirthField { row, holding }))
         } else {
             self.then(Next::One(Duty::BirthLocal { row, holding }))
         }
     }
 
-    /// Puts the resource into its slot (`slot_left_empty`), before the object is born. Rule `SlotFilled`.
+    /// Puts the resource into its field (`field_left_empty`), before the object is born. Rule `FieldFilled`.
     #[inline(always)]
-    pub(super) fn birth_slot(self, row: u32, holding: Holding) -> Effect
-        ensures { (found : ℕ) → IsEffect self (duties.BirthSlot row holding) found result }
+    pub(super) fn birth_field(self, row: u32, holding: Holding) -> Effect
+        ensures { (found : ℕ) → IsEffect self (duties.BirthField row holding) found result }
     {
         self.then(Next::One(Duty::BirthLocal { row, holding }))
     }

@@ -46,7 +46,7 @@ impl Doer {
         ensures { IsEffect self (duties.SettleKind row) found result }
     {
         if has_resource(found) {
-            self.then(Next::One(Duty::TakeSlot { row }))
+            self.then(Next::One(Duty::TakeField { row }))
         } else {
             self.then(Next::One(cell_or_end(row, 0, cells_of(found))))
         }
@@ -68,11 +68,11 @@ impl Doer {
         self.then(Next::Release { row, then })
     }
 
-    /// Takes the resource out of its slot, so that no other thread finds it there while the host closes it. The host's
-    /// close comes next (`resource_left_open`). Rule `SlotEmptied`.
+    /// Takes the resource out of its field, so that no other thread finds it there while the host closes it. The host's
+    /// close comes next (`resource_left_open`). Rule `FieldEmptied`.
     #[inline(always)]
-    pub(super) fn take_slot(self, row: u32) -> Effect
-        ensures { (found : ℕ) → IsEffect self (duties.TakeSlot row) found result }
+    pub(super) fn take_field(self, row: u32) -> Effect
+        ensures { (found : ℕ) → IsEffect self (duties.TakeField row) found result }
     {
         self.then(Next::One(Duty::CloseResource { row }))
     }

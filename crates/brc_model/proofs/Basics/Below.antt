@@ -18,7 +18,7 @@ get_before [] ys i d low = absurd (omega (arith, low))
 get_before (x ∷ xs) ys zero d low = refl
 get_before (x ∷ xs) ys (suc i) d low = get_before xs ys i d (omega (arith, low))
 
--- The item behind a list is its last one then.
+-- An item that is added to a list is its last one.
 pub get_next : {A : Type 0} (xs : List A) (x d : A) → slice_index_or (xs ++ x ∷ []) (length xs) d ≡ x
 get_next [] x d = refl
 get_next (y ∷ xs) x d = get_next xs x d
@@ -40,14 +40,14 @@ pub next_length : {A : Type 0} (xs : List A) (x : A) → length (xs ++ x ∷ [])
 next_length [] x = refl
 next_length (y ∷ xs) x = ap suc (next_length xs x)
 
--- An item behind a list, and others behind it.
+-- An item added to a list, and then others.
 pub next_then : {A : Type 0} (xs : List A) (x : A) (ys : List A) → (xs ++ x ∷ []) ++ ys ≡ xs ++ x ∷ ys
 next_then [] x ys = refl
 next_then {A = A} (y ∷ xs) x ys = ap (λ (l : List A). y ∷ l) (next_then xs x ys)
 
 -- ---- a number for each function
 
--- the numbers of these functions, behind those of the functions above
+-- the numbers of these functions, after those of the functions above
 abbrev pub made : (List ℕ → List Instr → ℕ) → List ℕ → List Function → List ℕ
 made step numbers [] = numbers
 made step numbers (f ∷ fs) = made step (numbers ++ step numbers f.code ∷ []) fs
@@ -70,7 +70,7 @@ made_stays step numbers (f ∷ fs) i low =
     made_stays step (numbers ++ n ∷ []) fs i (omega (arith, low, next_length numbers n))
     ∙ get_before numbers (n ∷ []) i 0 low
 
--- The numbers of more functions come behind those of the first ones.
+-- The numbers of more functions come after those of the first ones.
 made_then : (step : List ℕ → List Instr → ℕ) (numbers : List ℕ) (fs gs : List Function)
     → made step numbers (fs ++ gs) ≡ made step (made step numbers fs) gs
 made_then step numbers [] gs = refl

@@ -26,7 +26,7 @@ and_false : (b c : Bool) → c ≡ false → (b && c) ≡ false
 and_false true c e = e
 and_false false c e = refl
 
--- Main's rows are in front of the workers' and behind them.
+-- Main's rows are before the workers' and after them.
 pub data IsMains (layout : Layout) (x : ℕ) : Type 0 where
   InFront : x < front_rows → IsMains layout x
   InRear : front_rows + worker_rows layout ≤ x → IsMains layout x
@@ -68,14 +68,14 @@ workers_block layout x worker =
 
 -- ---- a thread's rows by their indices
 
--- Main's row at an index, in front and behind.
+-- Main's row at an index, before the workers' rows and after them.
 front_row : (layout : Layout) (i : ℕ) → i < front_rows → row_at layout 0 i ≡ i
 front_row layout i front = ap (λ (b : Bool). cond b i (worker_rows layout + i)) (lt-ltb i front_rows front)
 
 rear_row : (layout : Layout) (i : ℕ) → front_rows ≤ i → row_at layout 0 i ≡ worker_rows layout + i
 rear_row layout i rear = ap (λ (b : Bool). cond b i (worker_rows layout + i)) (le-ltb i front_rows rear)
 
--- The index of a row of main's, in front and behind.
+-- The index of a row of main's, before the workers' rows and after them.
 front_index : (layout : Layout) (x : ℕ) → x < front_rows → index_of layout 0 x ≡ x
 front_index layout x front = ap (λ (b : Bool). cond b x (x - worker_rows layout)) (lt-ltb x front_rows front)
 
@@ -193,7 +193,7 @@ block_within layout x some =
 pub front_block : (layout : Layout) (x : ℕ) → x < front_rows → block_of layout x ≡ 0
 front_block layout x front = mains_block layout x (InFront front)
 
--- Main's other rows are behind the workers', and a worker's rows are between.
+-- Main's other rows are after the workers', and a worker's rows are between.
 pub rear_block : (layout : Layout) (x : ℕ) → first_immortal_list layout ≤ x → block_of layout x ≡ 0
 rear_block layout x rear = mains_block layout x (InRear rear)
 
@@ -239,7 +239,7 @@ list_immortal layout x low high =
     (ap (λ (b : Bool). b && nat_lt x (first_number layout)) (le-leb (first_immortal_list layout) x low)
     ∙ lt-ltb x (first_number layout) high)
 
--- The other rows behind none's are counted.
+-- The other rows after none's are counted.
 pub others_counted : (layout : Layout) (x : ℕ) → 0 < x → (x < first_immortal_list layout) ⊎ (first_number layout ≤ x)
     → IsCounted layout x
 others_counted layout x some (inl low) =

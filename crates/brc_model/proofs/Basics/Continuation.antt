@@ -8,7 +8,7 @@ use Rattle.brc_model.specs.declared.duty.Holding.{Holding}
 use Rattle.brc_model.specs.declared.duty.Holding.TheVariants.{InFlight}
 use Rattle.brc_model.specs.declared.duty.Reason.TheVariants.{Own, Handed}
 use Rattle.brc_model.specs.declared.duty.Duty.{Duty}
-use Rattle.brc_model.specs.declared.duty.Duty.TheVariants.{RetainLoad, RetainStore, RetainAdd, ReleaseLoad, ReleaseStore, DecideAtZero, SharedLoad, SharedExchange, SetMark, Look, TakeMark, MergeSwap, MergeLoad, MergeExchange, Die, Settle, SettleKind, SettleCell, TakeSlot, CloseResource, SettleEnd, Leave, Scan, TakeFound, Finish, ClaimMark, BirthKind, BirthSlot, BirthLocal, KindLoad, LockGate, UnlockGate, CellLoad, CellSwap, LendSlot, ReturnSlot}
+use Rattle.brc_model.specs.declared.duty.Duty.TheVariants.{RetainLoad, RetainStore, RetainAdd, ReleaseLoad, ReleaseStore, DecideAtZero, SharedLoad, SharedExchange, SetMark, Look, TakeMark, MergeSwap, MergeLoad, MergeExchange, Die, Settle, SettleKind, SettleCell, TakeField, CloseResource, SettleEnd, Leave, Scan, TakeFound, Finish, ClaimMark, BirthKind, BirthField, BirthLocal, KindLoad, LockGate, UnlockGate, CellLoad, CellSwap, LendField, ReturnField}
 use Rattle.brc_model.specs.declared.layout.Layout.{Layout}
 use Rattle.brc_model.specs.Layout.{mark_bit}
 use Rattle.brc_model.specs.Duties.{found_row, continuation, counts_locally, claimed, has_resource, cells_of}
@@ -29,14 +29,14 @@ leaves_chain (TakeFound w marks) = true
 leaves_chain Finish = true
 leaves_chain (ClaimMark x) = true
 leaves_chain (BirthKind x h w) = true
-leaves_chain (BirthSlot x h) = true
+leaves_chain (BirthField x h) = true
 leaves_chain (BirthLocal x h) = true
 leaves_chain (KindLoad x) = true
 leaves_chain (LockGate x) = true
 leaves_chain (UnlockGate x) = true
 leaves_chain (CellLoad x i) = true
-leaves_chain (LendSlot x) = true
-leaves_chain (ReturnSlot x) = true
+leaves_chain (LendField x) = true
+leaves_chain (ReturnField x) = true
 leaves_chain _ = false
 
 -- Settling empties the chain; all other duties may let a row die.
@@ -107,8 +107,8 @@ Origin d found (LockGate x) = ⊥
 Origin d found (UnlockGate x) = ⊥
 Origin d found (CellLoad x i) = ⊥
 Origin d found (CellSwap x i y h) = ⊥
-Origin d found (LendSlot x) = ⊥
-Origin d found (ReturnSlot x) = ⊥
+Origin d found (LendField x) = ⊥
+Origin d found (ReturnField x) = ⊥
 Origin d found _ = Unit {0}
 
 -- The duty e goes on with the work of d, whose step found this word.
@@ -236,14 +236,14 @@ continues layout t running head (MergeExchange x c w Handed) found =
     on (found == w) (goes (SharedLoad x Handed) refl (λ e. cc) tt) (goes (MergeLoad x c Handed) refl (λ e. cc) tt)
 continues layout t running head Settle found = SettlesRow
 continues layout t running head (SettleKind x) found =
-    on (has_resource found) (goes (TakeSlot x) refl (λ e. cc) tt)
+    on (has_resource found) (goes (TakeField x) refl (λ e. cc) tt)
     (on (nat_lt 0 (cells_of found)) (goes (SettleCell x 0 (cells_of found)) refl (λ e. cc) refl)
     (goes (SettleEnd x) refl (λ e. cc) tt))
 continues layout t running head (SettleCell x i n) zero =
     on (nat_lt (i + 1) n) (goes (SettleCell x (i + 1) n) refl (next_cell x i n) refl)
     (goes (SettleEnd x) refl (λ e. cc) tt)
 continues layout t running head (SettleCell x i n) (suc y) = frees x i n y (nat_lt (i + 1) n)
-continues layout t running head (TakeSlot x) found = goes (CloseResource x) refl (λ e. cc) tt
+continues layout t running head (TakeField x) found = goes (CloseResource x) refl (λ e. cc) tt
 continues layout t running head (CloseResource x) found = goes (SettleEnd x) refl (λ e. cc) tt
 continues layout t running head Finish found = Finishes
 continues layout t running head (Leave i n) found = Exits i n
@@ -254,8 +254,8 @@ continues layout t running head (TakeFound w marks) found =
 continues layout t running head (ClaimMark x) found =
     claims (ClaimMark x) x (mark_at found (mark_bit layout x)) _ (Claims x) (ClaimsNone x)
 continues layout t running head (BirthKind x h w) found =
-    on (has_resource w) (goes (BirthSlot x h) refl (λ e. cc) tt) (goes (BirthLocal x h) refl (λ e. cc) tt)
-continues layout t running head (BirthSlot x h) found = goes (BirthLocal x h) refl (λ e. cc) tt
+    on (has_resource w) (goes (BirthField x h) refl (λ e. cc) tt) (goes (BirthLocal x h) refl (λ e. cc) tt)
+continues layout t running head (BirthField x h) found = goes (BirthLocal x h) refl (λ e. cc) tt
 continues layout t running head (CellSwap x i y h) zero = Ends refl
 continues layout t running head (CellSwap x i y h) (suc z) = FreesOld x i y z h refl
 continues layout t running head _ found = Ends refl

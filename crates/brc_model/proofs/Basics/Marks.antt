@@ -66,7 +66,7 @@ module _ (layout : Layout) where
   pub bit_low : (x : ℕ) → mark_bit layout x < marks_of_word
   bit_low x = omega arith
 
-  -- The word and the bit tell the row.
+  -- The word and the bit determine the row.
   pub marks_row : (x : ℕ) → row_at layout (block_of layout x)
       (mark_word layout x * marks_of_word + mark_bit layout x) ≡ x
   marks_row x =

@@ -3,7 +3,7 @@ use Rattle.std.proofs.Common.{◌≡◌, ℕ, Bool, true, false, cond, refl, ap,
 use Rattle.std.specs.Prelude.{◌==◌, ◌&&◌}
 use Rattle.std.proofs.lemmas.Bool.{eqb-true, eq-eqb, ne_eqb}
 use Rattle.brc_model.specs.declared.address.Address.{Address}
-use Rattle.brc_model.specs.declared.address.Address.TheVariants.{Local, Shared, Gate, KindOf, Marks, Cell, Slot, Resource, ThreadWord}
+use Rattle.brc_model.specs.declared.address.Address.TheVariants.{Local, Shared, Gate, KindOf, Marks, Cell, Field, Resource, ThreadWord}
 use Rattle.brc_model.specs.declared.duty.Duty.{Duty}
 use Rattle.brc_model.specs.declared.duty.Duty.TheVariants.{RetainLoad, RetainAdd}
 use Rattle.brc_model.specs.declared.layout.Layout.{Layout}
@@ -25,7 +25,7 @@ same_address-true (KindOf x) (KindOf y) e = ap KindOf (eqb-true x y e)
 same_address-true (Marks t w) (Marks u v) e = λ k. Marks ((same_marks t w u v e).0 k) ((same_marks t w u v e).1 k)
 same_address-true (Cell x i) (Cell y j) e =
     λ k. Cell (eqb-true x y (and_first (x == y) (i == j) e) k) (eqb-true i j (and_second (x == y) (i == j) e) k)
-same_address-true (Slot x) (Slot y) e = ap Slot (eqb-true x y e)
+same_address-true (Field x) (Field y) e = ap Field (eqb-true x y e)
 same_address-true (Resource x) (Resource y) e = ap Resource (eqb-true x y e)
 same_address-true (ThreadWord x) (ThreadWord y) e = ap ThreadWord (eqb-true x y e)
 same_address-true _ _ e = absurd cc
@@ -37,7 +37,7 @@ same_address-refl (Gate x) = eq-eqb x x refl
 same_address-refl (KindOf x) = eq-eqb x x refl
 same_address-refl (Marks t w) = ap (λ (b : Bool). b && (w == w)) (eq-eqb t t refl) ∙ eq-eqb w w refl
 same_address-refl (Cell x i) = ap (λ (b : Bool). b && (i == i)) (eq-eqb x x refl) ∙ eq-eqb i i refl
-same_address-refl (Slot x) = eq-eqb x x refl
+same_address-refl (Field x) = eq-eqb x x refl
 same_address-refl (Resource x) = eq-eqb x x refl
 same_address-refl (ThreadWord x) = eq-eqb x x refl
 

@@ -86,7 +86,7 @@ stop_at p n m t a (InCall context at variables) whole found rest is before fits 
     (record { exits = fits.1.exits; reaches = fits.1.arrived }) in
     let lock = row_locked s.locked variables in
     let outer = given_up m.functions m.states a.function context.outer in
-    let calls = owned_rows s.vars variables ∷ outer in
+    let calls = owned_rows s.slots variables ∷ outer in
     subst (λ (o : Option State). ActionFits whole.accounts n m t a (stop_in_call outer variables o)) (sym known)
     (silent_fits p n m t a [] (stopping lock calls) whole found rest
     (stop_taken program (scene_of (counting m) t a.actor) context at variables s fits.1 fits.2 fits.3)

@@ -7,7 +7,7 @@ use Rattle.std.proofs.lemmas.Option.{slice_get_within}
 use Rattle.brc_lang.specs.declared.module.Module.{Module}
 use Rattle.brc_model.specs.AbstractState.{Move}
 use Rattle.brc_model.specs.declared.duty.Duty.{Duty}
-use Rattle.brc_model.specs.declared.duty.Duty.TheVariants.{LendSlot}
+use Rattle.brc_model.specs.declared.duty.Duty.TheVariants.{LendField}
 use Rattle.brc_model.specs.declared.actor.Status.{Status}
 use Rattle.brc_model.specs.declared.actor.Status.TheVariants.{Running, Leaving, Gone}
 use Rattle.brc_model.specs.declared.actor.Place.{Place}
@@ -241,13 +241,13 @@ silent_fits p n m t a moves place whole found at taken lent =
       };
     }
 
--- A duty that lends a resource finds it in its slot, as the invariant says.
+-- A duty that lends a resource finds it in its field, as the invariant says.
 finds_full : (c : Accounts) (n : ℕ) (m : StepMachine) (t : ℕ) (a : StepActor) (d : Duty) (rest : List Duty)
     → Doing c n (with_actor (counting m) t (sitting a.actor (d ∷ rest))) t (sitting a.actor (d ∷ rest)) d rest
     → FindsFull d (found_by (counting m) t a.actor d)
-finds_full c n m t a (LendSlot x) rest doing =
-    lending_finds c n (with_actor (counting m) t (sitting a.actor (LendSlot x ∷ rest))) t
-    (sitting a.actor (LendSlot x ∷ rest)) x rest
+finds_full c n m t a (LendField x) rest doing =
+    lending_finds c n (with_actor (counting m) t (sitting a.actor (LendField x ∷ rest))) t
+    (sitting a.actor (LendField x ∷ rest)) x rest
     (record { core = doing.kept.core; found = doing.found; agenda = doing.agenda })
 finds_full c n m t a _ rest doing = tt
 

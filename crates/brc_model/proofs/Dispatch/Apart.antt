@@ -6,9 +6,9 @@ use Rattle.std.proofs.lemmas.Bool.{eq-eqb, false≢true}
 use Rattle.std.proofs.lemmas.List.{length-set}
 use Rattle.brc_model.proofs.Dispatch.OneMoreOrLess.{still_free}
 use Rattle.brc_lang.specs.declared.parameter.Argument.{Argument}
-use Rattle.brc_model.specs.declared.state.VarState.TheVariants.{Empty}
+use Rattle.brc_model.specs.declared.state.Slot.TheVariants.{Empty}
 use Rattle.brc_model.specs.declared.state.State.{State}
-use Rattle.brc_model.specs.VarStates.{var_of, is_owned, put, emptied, is_stolen, stolen, clash, are_given_once}
+use Rattle.brc_model.specs.SlotStates.{var_of, is_owned, put, emptied, is_stolen, stolen, clash, are_given_once}
 use Rattle.brc_model.specs.Threads.{row_of}
 use Rattle.brc_model.specs.Actions.{without_row}
 use Rattle.brc_model.proofs.Basics.Lists.{first_false, second_false, and_first, and_second, or_second}
@@ -47,7 +47,7 @@ apart_behind a b steals free e =
     ap (λ (c : Bool). c && (a.from == b.from)) some ∙ eq-eqb a.from b.from (sym e) in
     false≢true (sym free ∙ wrong)
 
--- If the first argument clashes with none behind it, no stolen variable behind it is its own.
+-- If the first argument clashes with none after it, no variable that a later one steals is its own.
 kept_behind : (a : Argument) (others : List Argument) → AllByRecursion (λ b. clash a b ≡ false) others
     → IsKeptBy others a.from
 kept_behind a [] free = tt
@@ -109,9 +109,9 @@ kept_row rows (y ∷ xs) x kept =
     kept_row (slice_set rows y None) xs x kept.1 ∙ row_of-set_other rows y x None (λ e. kept.0 (sym e))
 
 -- Emptying variables gives none of them a reference.
-pub still_unowned : (s : State) (xs : List ℕ) (x : ℕ) → AllByRecursion (λ y. y < 16) xs → length s.vars ≡ 16
+pub still_unowned : (s : State) (xs : List ℕ) (x : ℕ) → AllByRecursion (λ y. y < 16) xs → length s.slots ≡ 16
     → is_owned (var_of s x) ≡ false → is_owned (var_of (fold emptied s xs) x) ≡ false
-still_unowned s [] x low vars free = free
-still_unowned s (y ∷ xs) x low vars free =
-    still_unowned (put s y Empty) xs x low.1 (length-set s.vars y Empty ∙ vars)
-    (still_free s y x (omega (arith, low.0, vars)) free)
+still_unowned s [] x low slots free = free
+still_unowned s (y ∷ xs) x low slots free =
+    still_unowned (put s y Empty) xs x low.1 (length-set s.slots y Empty ∙ slots)
+    (still_free s y x (omega (arith, low.0, slots)) free)

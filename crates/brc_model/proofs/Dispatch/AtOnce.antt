@@ -5,7 +5,7 @@ use Rattle.std.specs.Prelude.{sum_by}
 use Rattle.std.proofs.lemmas.List.Sums.{sum_by-cons, sum_by-append}
 use Rattle.brc_model.specs.declared.duty.Holding.TheVariants.{InFlight}
 use Rattle.brc_model.specs.declared.duty.Duty.{Duty}
-use Rattle.brc_model.specs.declared.duty.Duty.TheVariants.{ReleaseLoad, LockGate, UnlockGate, CellSwap, LendSlot, ReturnSlot}
+use Rattle.brc_model.specs.declared.duty.Duty.TheVariants.{ReleaseLoad, LockGate, UnlockGate, CellSwap, LendField, ReturnField}
 use Rattle.brc_model.specs.declared.layout.Layout.{Layout}
 use Rattle.brc_model.specs.Duties.{continuation, new_head}
 use Rattle.brc_model.specs.declared.actor.Actor.{Actor}
@@ -25,8 +25,8 @@ origin_plain : (d : Duty) (found : ℕ) (e : Duty) → Origin d found e → at_o
 origin_plain d found (LockGate x) origin = absurd origin
 origin_plain d found (UnlockGate x) origin = absurd origin
 origin_plain d found (CellSwap x i y h) origin = absurd origin
-origin_plain d found (LendSlot x) origin = absurd origin
-origin_plain d found (ReturnSlot x) origin = absurd origin
+origin_plain d found (LendField x) origin = absurd origin
+origin_plain d found (ReturnField x) origin = absurd origin
 origin_plain d found _ origin = refl
 
 next_plain : {layout : Layout} {t head found : ℕ} (d : Duty) (next : List Duty)
@@ -42,7 +42,7 @@ next_plain {found = found} d next (Frees x i n y e some leads) =
     )
 next_plain d next _ = refl
 
--- After a step none of the thread's duties is one of these, if none of those behind its duty is.
+-- After a step none of the thread's duties is one of these, if none of those after its duty is.
 pub plain_after : (layout : Layout) (t : ℕ) (a : Actor) (d : Duty) (rest : List Duty) (found : ℕ)
     → sum_by at_once rest ≡ 0 → sum_by at_once (actor_by layout t a d rest found).agenda ≡ 0
 plain_after layout t a d rest found none =
@@ -68,8 +68,8 @@ plain_locked locked _ found none = refl
 
 -- It leaves what the thread has lent as it is.
 pub plain_lent : (lent : Option ℕ) (d : Duty) (found : ℕ) → at_once d ≡ 0 → lent_by lent d found ≡ lent
-plain_lent lent (LendSlot x) found none = absurd (omega (arith, none))
-plain_lent lent (ReturnSlot x) found none = absurd (omega (arith, none))
+plain_lent lent (LendField x) found none = absurd (omega (arith, none))
+plain_lent lent (ReturnField x) found none = absurd (omega (arith, none))
 plain_lent lent _ found none = refl
 
 -- It takes no items away from its thread.

@@ -13,11 +13,11 @@ use Rattle.brc_lang.specs.declared.parameter.Argument.{Argument}
 use Rattle.brc_lang.specs.declared.parameter.Parameter.{Parameter}
 use Rattle.brc_lang.specs.declared.parameter.Passing.{Passing}
 use Rattle.brc_lang.specs.declared.parameter.Passing.TheVariants.{Borrow, Steal}
-use Rattle.brc_model.specs.declared.state.VarState.{VarState}
-use Rattle.brc_model.specs.declared.state.VarState.TheVariants.{Empty, Caller}
+use Rattle.brc_model.specs.declared.state.Slot.{Slot}
+use Rattle.brc_model.specs.declared.state.Slot.TheVariants.{Empty, Caller}
 use Rattle.brc_model.specs.declared.state.State.{State}
 use Rattle.brc_model.specs.declared.actor.OpenCall.{OpenCall}
-use Rattle.brc_model.specs.VarStates.{var_of, is_empty, is_owned, kind_of, is_one_of, put, emptied, stolen, steals, is_stolen, are_given_once, Condition, IsOneOf, breaks, passed_by, of_kind, of_argument, padded, parameter_var, entry_of}
+use Rattle.brc_model.specs.SlotStates.{var_of, is_empty, is_owned, kind_of, is_one_of, put, emptied, stolen, steals, is_stolen, are_given_once, Condition, IsOneOf, breaks, passed_by, of_kind, of_argument, padded, parameter_var, entry_of}
 use Rattle.brc_model.specs.Actions.{without_row, kept_rows, argument_rows, passed_variables}
 use Rattle.brc_model.specs.Threads.{row_of}
 use Rattle.brc_model.specs.Layout.{root_row}
@@ -51,14 +51,14 @@ stolen_low (a ∷ others) low =
 
 -- State and variables, which are sixteen.
 pub record AreSixteen (s : State) (rows : List (Option ℕ)) : Type 0 where
-  pub vars : length s.vars ≡ 16
+  pub slots : length s.slots ≡ 16
   pub named : length rows ≡ 16
 
 -- A variable that becomes empty leaves sixteen.
 pub put_sixteen : (s : State) (rows : List (Option ℕ)) (x : ℕ) → AreSixteen s rows
     → AreSixteen (put s x Empty) (slice_set rows x None)
 put_sixteen s rows x all =
-    record { vars = length-set s.vars x Empty ∙ all.vars; named = length-set rows x None ∙ all.named }
+    record { slots = length-set s.slots x Empty ∙ all.slots; named = length-set rows x None ∙ all.named }
 
 -- What stays true where one variable becomes empty stays so where several do.
 pub emptied_keeps : (P : State → List (Option ℕ) → Type 0)
@@ -96,8 +96,8 @@ set_twice (x ∷ xs) zero one two = refl
 set_twice {A = A} (x ∷ xs) (suc i) one two = ap (λ (l : List A). x ∷ l) (set_twice xs i one two)
 
 -- The success exit leaves the result beside what the fault exit leaves.
-pub put_twice : (s : State) (x : ℕ) (one two : VarState) → put (put s x one) x two ≡ put s x two
-put_twice s x one two = λ i. record s { vars = set_twice s.vars x one two i }
+pub put_twice : (s : State) (x : ℕ) (one two : Slot) → put (put s x one) x two ≡ put s x two
+put_twice s x one two = λ i. record s { slots = set_twice s.slots x one two i }
 
 -- ---- the conditions of a call
 
@@ -200,7 +200,7 @@ call_met s to callee otherwise arguments met = record {
 -- ---- the callee's variables
 
 -- What holds of the variables that no parameter has, and of each parameter's, holds of all those from v1 on.
-padded_each : (P : VarState → Option ℕ → Type 0) → P Empty None → (n v : ℕ) (rows : List (Option ℕ))
+padded_each : (P : Slot → Option ℕ → Type 0) → P Empty None → (n v : ℕ) (rows : List (Option ℕ))
     (arguments : List Argument)
     → AllByRecursion (λ a. P (parameter_var a.parameter) (row_of rows a.from)) arguments
     → P (slice_index_or (padded n Empty (map parameter_var (map (λ a. a.parameter) arguments))) v Empty)
@@ -213,7 +213,7 @@ padded_each P none (suc n) (suc v) rows (a ∷ others) each = padded_each P none
 
 -- What holds of the root, of the variables that no parameter has, and of each parameter's, holds of all variables of
 -- the callee at its entry.
-pub passed_each : (P : VarState → Option ℕ → Type 0) → P (Caller kinds.List) (Some root_row) → P Empty None
+pub passed_each : (P : Slot → Option ℕ → Type 0) → P (Caller kinds.List) (Some root_row) → P Empty None
     → (rows : List (Option ℕ)) (arguments : List Argument)
     → AllByRecursion (λ a. P (parameter_var a.parameter) (row_of rows a.from)) arguments
     → (v : ℕ) → P (var_of (entry_of (map (λ a. a.parameter) arguments)) v) (row_of (passed_variables rows arguments) v)
@@ -226,7 +226,7 @@ padded_length zero item xs = refl
 padded_length (suc n) item [] = ap suc (padded_length n item [])
 padded_length (suc n) item (x ∷ xs) = ap suc (padded_length n item xs)
 
-pub entry_length : (ps : List Parameter) → length (entry_of ps).vars ≡ 16
+pub entry_length : (ps : List Parameter) → length (entry_of ps).slots ≡ 16
 entry_length ps = ap suc (padded_length 15 Empty (map parameter_var ps))
 
 pub passed_length : (rows : List (Option ℕ)) (arguments : List Argument)

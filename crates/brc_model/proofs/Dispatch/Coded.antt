@@ -5,8 +5,8 @@ use Rattle.std.specs.Prelude.{◌==◌, ◌&&◌, ◌||◌, is_some, slice_get, 
 use Rattle.std.proofs.lemmas.Bool.{ne_eqb}
 use Rattle.std.proofs.lemmas.Bool.Decides.{eqb_tells}
 use Rattle.std.proofs.lemmas.List.{get_or_past}
-use Rattle.brc_model.specs.declared.state.VarState.TheVariants.{Empty}
-use Rattle.brc_model.specs.VarStates.{var_of, is_owned, names}
+use Rattle.brc_model.specs.declared.state.Slot.TheVariants.{Empty}
+use Rattle.brc_model.specs.SlotStates.{var_of, is_owned, names}
 use Rattle.brc_model.specs.Threads.{row_of}
 use Rattle.brc_lang.specs.declared.module.Instr.{Instr}
 use Rattle.brc_model.specs.declared.state.State.{State}
@@ -250,8 +250,8 @@ nothing_bounded layout = record {
 }
 
 -- A variable past the sixteenth owns nothing.
-past_owns_none : (s : State) (v : ℕ) → length s.vars ≡ 16 → 16 ≤ v → is_owned (var_of s v) ≡ false
-past_owns_none s v vars past = ap is_owned (get_or_past s.vars v Empty (omega (arith, vars, past)))
+past_owns_none : (s : State) (v : ℕ) → length s.slots ≡ 16 → 16 ≤ v → is_owned (var_of s v) ≡ false
+past_owns_none s v slots past = ap is_owned (get_or_past s.slots v Empty (omega (arith, slots, past)))
 
 -- Outside the call the thread holds nothing by a variable that isn't one of the sixteen of a call further out.
 outside_none : (call : Activation) (depth v object : ℕ) → IsActivation call
@@ -265,14 +265,14 @@ outside_none call depth v object is none =
 
 -- A variable past the sixteenth holds nothing, and neither does one of a call that is too deep.
 past_holds_none : (call : Activation) (s : State) (variables : List (Option ℕ)) (depth v object : ℕ)
-    → IsActivation call → length s.vars ≡ 16 → 16 ≤ v
+    → IsActivation call → length s.slots ≡ 16 → 16 ≤ v
     → of_variables call s variables (ByVariable depth v) object ≡ false
-past_holds_none call s variables depth v object is vars past =
+past_holds_none call s variables depth v object is slots past =
     elim (eqb_tells depth call.depth) [
       | inl this ↦
           subst (λ (d : ℕ). of_variables call s variables (ByVariable d v) object ≡ false) (sym this.1)
           (own_depth call s variables v object
-          ∙ ap (λ (b : Bool). b && names (row_of variables v) object) (past_owns_none s v vars past))
+          ∙ ap (λ (b : Bool). b && names (row_of variables v) object) (past_owns_none s v slots past))
       | inr apart ↦
           other_depth call s variables depth v object apart.0
           ∙ outside_none call depth v object is (λ low. omega (arith, low.1, past))
@@ -287,22 +287,22 @@ deep_holds_none call s variables depth v object is deep =
     ∙ outside_none call depth v object is (λ low. omega (arith, low.0, deep, is.shallow))
 
 variables_bounded : (layout : Layout) (call : Activation) (s : State) (variables : List (Option ℕ))
-    → IsActivation call → length s.vars ≡ 16
+    → IsActivation call → length s.slots ≡ 16
     → IsBounded layout (once_each (of_variables call s variables))
-variables_bounded layout call s variables is vars = record {
+variables_bounded layout call s variables is slots = record {
   by_variable = λ depth v object. one_if_low (of_variables call s variables (ByVariable depth v) object);
-  sixteen = λ depth v object past. ap one_if (past_holds_none call s variables depth v object is vars past);
+  sixteen = λ depth v object past. ap one_if (past_holds_none call s variables depth v object is slots past);
   shallow = λ depth v object deep. ap one_if (deep_holds_none call s variables depth v object is deep);
   lent = λ object counted. omega (arith, one_if_low (call.outside AsCaller object));
   in_flight = λ object. omega arith;
 }
 
 inside_bounded : (layout : Layout) (call : Activation) (flight : Option ℕ) (s : State) (variables : List (Option ℕ))
-    → IsActivation call → length s.vars ≡ 16
+    → IsActivation call → length s.slots ≡ 16
     → IsBounded layout (once_each (of_inside call flight s variables))
-inside_bounded layout call flight s variables is vars = record {
+inside_bounded layout call flight s variables is slots = record {
   by_variable = λ depth v object. one_if_low (of_variables call s variables (ByVariable depth v) object);
-  sixteen = λ depth v object past. ap one_if (past_holds_none call s variables depth v object is vars past);
+  sixteen = λ depth v object past. ap one_if (past_holds_none call s variables depth v object is slots past);
   shallow = λ depth v object deep. ap one_if (deep_holds_none call s variables depth v object is deep);
   lent = λ object counted. omega (arith, one_if_low (call.outside AsCaller object));
   in_flight = λ object. one_if_low (names flight object);
@@ -314,11 +314,11 @@ says_bounded layout program (Idle left) locked account says =
     subst (IsBounded layout) (sym says.1) (root_bounded layout)
 says_bounded layout program (InCall context at variables) locked account says =
     subst (IsBounded layout) (sym says.3) (variables_bounded layout (call_of program context) says.0 variables
-    says.1.is_call says.1.vars)
+    says.1.is_call says.1.slots)
 says_bounded layout program (Inside context at variables stage) locked account says =
     let flight = in_flight (slice_get (code_in program context) at) stage variables in
     subst (IsBounded layout) (sym says.3)
-    (inside_bounded layout (call_of program context) flight says.0 variables says.1.is_call says.1.vars)
+    (inside_bounded layout (call_of program context) flight says.0 variables says.1.is_call says.1.slots)
 says_bounded layout program (Stopping lock calls) locked account says =
     subst (IsBounded layout) (sym says.3) (stopped_bounded layout lock calls says.1)
 says_bounded layout program Exiting locked account says =

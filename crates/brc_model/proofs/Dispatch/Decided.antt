@@ -51,7 +51,7 @@ stop_decides Q functions states first (InCall context at variables) skips stuck 
     let outer = given_up functions states first context.outer in
     elim (states (number_under first context.outer) at) as (λ o. Q (stop_in_call outer variables o)) [
       | None ↦ stuck
-      | Some s ↦ stops (row_locked s.locked variables) (owned_rows s.vars variables ∷ outer)
+      | Some s ↦ stops (row_locked s.locked variables) (owned_rows s.slots variables ∷ outer)
     ]
 stop_decides Q functions states first (Inside context at variables stage) skips stuck stops ends = skips
 stop_decides Q functions states first (Stopping lock calls) skips stuck stops ends = skips

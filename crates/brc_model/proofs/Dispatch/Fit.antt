@@ -19,7 +19,7 @@ use Rattle.brc_model.specs.declared.address.Address.TheVariants.{KindOf}
 use Rattle.brc_model.specs.declared.duty.Duty.{Duty}
 use Rattle.brc_model.specs.declared.thread.Choice.{Choice}
 use Rattle.brc_model.specs.declared.thread.Choice.TheVariants.{Ok, Fault, Claim, Stop}
-use Rattle.brc_model.specs.VarStates.{var_of, is_empty, kind_of, names, is_one_of, lockable, with_resource, entry_of}
+use Rattle.brc_model.specs.SlotStates.{var_of, is_empty, kind_of, names, is_one_of, lockable, with_resource, entry_of}
 use Rattle.brc_model.specs.Threads.{row_of, entry_variables}
 use Rattle.brc_model.specs.KnownKinds.{IsTrueKind, HaveTrueKinds, kind_words}
 use Rattle.brc_model.specs.Needs.{kind_at, suits_kind, has_its_kind, has_locked, has_needs, lacks_needs, starts_unfit}

@@ -12,12 +12,12 @@ use Rattle.brc_lang.specs.declared.module.Instr.{Instr}
 use Rattle.brc_lang.specs.declared.module.Instr.TheVariants.{Call}
 use Rattle.brc_lang.specs.declared.parameter.Argument.{Argument}
 use Rattle.brc_lang.specs.declared.parameter.Parameter.{Parameter}
-use Rattle.brc_model.specs.declared.state.VarState.{VarState}
-use Rattle.brc_model.specs.declared.state.VarState.TheVariants.{Empty, Owned, Caller, Locked}
+use Rattle.brc_model.specs.declared.state.Slot.{Slot}
+use Rattle.brc_model.specs.declared.state.Slot.TheVariants.{Empty, Owned, Caller, Locked}
 use Rattle.brc_model.specs.declared.state.State.{State}
 use Rattle.brc_model.specs.declared.state.Exit.{Exit}
 use Rattle.brc_model.specs.declared.state.Exit.TheVariants.{Fault}
-use Rattle.brc_model.specs.VarStates.{var_of, is_empty, is_owned, is_borrowed, with_kind, names, put, after, entry_of, without_item, without_items}
+use Rattle.brc_model.specs.SlotStates.{var_of, is_empty, is_owned, is_borrowed, with_kind, names, put, after, entry_of, without_item, without_items}
 use Rattle.brc_model.specs.Paths.{At, path_end, IsAcceptableFunction}
 use Rattle.brc_model.specs.declared.duty.Holding.{Holding}
 use Rattle.brc_model.specs.declared.duty.Holding.TheVariants.{ByVariable, AsCaller, InFlight}
@@ -36,7 +36,7 @@ use Rattle.brc_model.specs.AbstractState.{Reference}
 
 -- What a variable's state says of the row in its variable. What a variable borrows from its caller the thread holds
 -- outside the call. (Python/C API manual, Reference Count Details: the caller lends its arguments for the whole call.)
-abbrev pub IsGrounded : Activation → VarState → Option ℕ → Type 0
+abbrev pub IsGrounded : Activation → Slot → Option ℕ → Type 0
 IsGrounded call Empty row = Unit {0}
 IsGrounded call (Owned k) row = (r : ℕ) × (row ≡ Some r)
 IsGrounded call (Caller k) row =
@@ -63,7 +63,7 @@ pub record IsWaiting (call : Activation) (o : OpenCall) : Type 0 where
   pub arrived : path_end (function_of_call call) exits ≡ At o.at state
   pub known : call.program.states (number_of call.program call.outer) o.at ≡ Some state
   pub low : o.to < 16
-  pub vars : length (left_by o arguments state).vars ≡ 16
+  pub slots : length (left_by o arguments state).slots ≡ 16
   pub rows : length o.variables ≡ 16
   pub unlocked : state.locked ≡ None
   pub grounded : (v : ℕ) → IsGrounded call (var_of (left_by o arguments state) v) (row_of o.variables v)
@@ -96,17 +96,17 @@ pub record IsInside (call : Activation) (at : ℕ) (variables : List (Option ℕ
   pub is_call : IsActivation call
   pub exits : List Exit
   pub arrived : path_end (function_of_call call) exits ≡ At at s
-  pub vars : length s.vars ≡ 16
+  pub slots : length s.slots ≡ 16
   pub rows : length variables ≡ 16
   pub grounded : (v : ℕ) → IsGrounded call (var_of s v) (row_of variables v)
 
 -- ---- a variable changes
 
-pub var_of-put_same : (s : State) (x : ℕ) (var : VarState) → x < length s.vars → var_of (put s x var) x ≡ var
-var_of-put_same s x var h = get_or-set_same s.vars x var Empty h
+pub var_of-put_same : (s : State) (x : ℕ) (var : Slot) → x < length s.slots → var_of (put s x var) x ≡ var
+var_of-put_same s x var h = get_or-set_same s.slots x var Empty h
 
-pub var_of-put_other : (s : State) (x v : ℕ) (var : VarState) → v ≢ x → var_of (put s x var) v ≡ var_of s v
-var_of-put_other s x v var ne = get_or-set_other s.vars x v var Empty ne
+pub var_of-put_other : (s : State) (x v : ℕ) (var : Slot) → v ≢ x → var_of (put s x var) v ≡ var_of s v
+var_of-put_other s x v var ne = get_or-set_other s.slots x v var Empty ne
 
 pub row_of-set_same : (rows : List (Option ℕ)) (x : ℕ) (row : Option ℕ) → x < length rows
     → row_of (slice_set rows x row) x ≡ row
@@ -116,23 +116,23 @@ pub row_of-set_other : (rows : List (Option ℕ)) (x v : ℕ) (row : Option ℕ)
     → row_of (slice_set rows x row) v ≡ row_of rows v
 row_of-set_other rows x v row ne = get_or-set_other rows x v row None ne
 
-pub grounded-put : (call : Activation) (s : State) (rows : List (Option ℕ)) (x : ℕ) (var : VarState) (row : Option ℕ)
+pub grounded-put : (call : Activation) (s : State) (rows : List (Option ℕ)) (x : ℕ) (var : Slot) (row : Option ℕ)
     → x
-    < length s.vars
+    < length s.slots
     → x < length rows → IsGrounded call var row
     → ((v : ℕ) → IsGrounded call (var_of s v) (row_of rows v)) → (v : ℕ)
     → IsGrounded call (var_of (put s x var) v) (row_of (slice_set rows x row) v)
-grounded-put call s rows x var row in_vars in_rows new old v =
+grounded-put call s rows x var row in_slots in_rows new old v =
     elim (eqb_tells v x) [
       | inl this ↦
           let P : ℕ → Type 0 = λ w. IsGrounded call (var_of (put s x var) w) (row_of (slice_set rows x row) w) in
           let there : IsGrounded call (var_of (put s x var) x) row =
-          subst (λ (w : VarState). IsGrounded call w row) (sym (var_of-put_same s x var in_vars)) new in
+          subst (λ (w : Slot). IsGrounded call w row) (sym (var_of-put_same s x var in_slots)) new in
           subst P (sym this.1) (subst (λ (w : Option ℕ). IsGrounded call (var_of (put s x var) x) w)
           (sym (row_of-set_same rows x row in_rows)) there)
       | inr other ↦
           let there : IsGrounded call (var_of (put s x var) v) (row_of rows v) =
-          subst (λ (w : VarState). IsGrounded call w (row_of rows v)) (sym (var_of-put_other s x v var other.1)) (old v)
+          subst (λ (w : Slot). IsGrounded call w (row_of rows v)) (sym (var_of-put_other s x v var other.1)) (old v)
           in
           subst (λ (w : Option ℕ). IsGrounded call (var_of (put s x var) v) w)
           (sym (row_of-set_other rows x v row other.1)) there
@@ -140,7 +140,7 @@ grounded-put call s rows x var row in_vars in_rows new old v =
 
 -- ---- a variable's kind becomes known
 
-kind_grounded : (call : Activation) (var : VarState) (k : Kind) (row : Option ℕ) → IsGrounded call var row
+kind_grounded : (call : Activation) (var : Slot) (k : Kind) (row : Option ℕ) → IsGrounded call var row
     → IsGrounded call (with_kind var k) row
 kind_grounded call Empty k row grounded = tt
 kind_grounded call (Owned old) k row grounded = grounded
@@ -148,52 +148,52 @@ kind_grounded call (Caller old) k row grounded = grounded
 kind_grounded call (Locked old) k row grounded = grounded
 
 pub grounded-with_kind : (call : Activation) (s : State) (rows : List (Option ℕ)) (x : ℕ) (k : Kind) → x
-    < length s.vars
+    < length s.slots
     → ((v : ℕ) → IsGrounded call (var_of s v) (row_of rows v)) → (v : ℕ)
     → IsGrounded call (var_of (put s x (with_kind (var_of s x) k)) v) (row_of rows v)
-grounded-with_kind call s rows x k in_vars old v =
+grounded-with_kind call s rows x k in_slots old v =
     let var = with_kind (var_of s x) k in
     elim (eqb_tells v x) [
       | inl this ↦
           let P : ℕ → Type 0 = λ w. IsGrounded call (var_of (put s x var) w) (row_of rows w) in
-          subst P (sym this.1) (subst (λ (w : VarState). IsGrounded call w (row_of rows x))
-          (sym (var_of-put_same s x var in_vars)) (kind_grounded call (var_of s x) k (row_of rows x) (old x)))
+          subst P (sym this.1) (subst (λ (w : Slot). IsGrounded call w (row_of rows x))
+          (sym (var_of-put_same s x var in_slots)) (kind_grounded call (var_of s x) k (row_of rows x) (old x)))
       | inr other ↦
-          subst (λ (w : VarState). IsGrounded call w (row_of rows v)) (sym (var_of-put_other s x v var other.1)) (old v)
+          subst (λ (w : Slot). IsGrounded call w (row_of rows v)) (sym (var_of-put_other s x v var other.1)) (old v)
     ]
 
-kind_owned : (var : VarState) (k : Kind) → is_owned (with_kind var k) ≡ is_owned var
+kind_owned : (var : Slot) (k : Kind) → is_owned (with_kind var k) ≡ is_owned var
 kind_owned Empty k = refl
 kind_owned _ k = cc
 
-var-with_kind : (s : State) (x v : ℕ) (k : Kind) → x < length s.vars
+var-with_kind : (s : State) (x v : ℕ) (k : Kind) → x < length s.slots
     → is_owned (var_of (put s x (with_kind (var_of s x) k)) v) ≡ is_owned (var_of s v)
-var-with_kind s x v k in_vars =
+var-with_kind s x v k in_slots =
     let var = with_kind (var_of s x) k in
     elim (eqb_tells v x) [
       | inl this ↦
           subst (λ (w : ℕ). is_owned (var_of (put s x var) w) ≡ is_owned (var_of s w)) (sym this.1)
-          (ap is_owned (var_of-put_same s x var in_vars) ∙ kind_owned (var_of s x) k)
+          (ap is_owned (var_of-put_same s x var in_slots) ∙ kind_owned (var_of s x) k)
       | inr other ↦ ap is_owned (var_of-put_other s x v var other.1)
     ]
 
 -- Another kind for a variable doesn't change what the thread is to hold.
 pub says-with_kind : (call : Activation) (s : State) (variables : List (Option ℕ)) (x : ℕ) (k : Kind) (h : Holding)
-    (object : ℕ) → x < length s.vars
+    (object : ℕ) → x < length s.slots
     → of_variables call s variables h object
     ≡ of_variables call (put s x (with_kind (var_of s x) k)) variables h object
-says-with_kind call s variables x k AsCaller object in_vars = refl
-says-with_kind call s variables x k InFlight object in_vars = refl
-says-with_kind call s variables x k (ByVariable depth v) object in_vars =
+says-with_kind call s variables x k AsCaller object in_slots = refl
+says-with_kind call s variables x k InFlight object in_slots = refl
+says-with_kind call s variables x k (ByVariable depth v) object in_slots =
     ap (λ (b : Bool). cond (depth == call.depth) (b && names (row_of variables v) object)
-    (call.outside (ByVariable depth v) object)) (sym (var-with_kind s x v k in_vars))
+    (call.outside (ByVariable depth v) object)) (sym (var-with_kind s x v k in_slots))
 
 -- ---- the variables that borrow from the locked list become empty
 
 pub var_of-without : (s : State) (v : ℕ) → var_of (without_items s) v ≡ without_item (var_of s v)
-var_of-without s v = get_or-map without_item s.vars v Empty
+var_of-without s v = get_or-map without_item s.slots v Empty
 
-without_grounded : (call : Activation) (var : VarState) (row : Option ℕ) → IsGrounded call var row
+without_grounded : (call : Activation) (var : Slot) (row : Option ℕ) → IsGrounded call var row
     → IsGrounded call (without_item var) row
 without_grounded call Empty row grounded = tt
 without_grounded call (Owned k) row grounded = grounded
@@ -205,10 +205,10 @@ pub grounded-without : (call : Activation) (s : State) (rows : List (Option ℕ)
     → ((v : ℕ) → IsGrounded call (var_of s v) (row_of rows v))
     → (v : ℕ) → IsGrounded call (var_of (without_items s) v) (row_of rows v)
 grounded-without call s rows old v =
-    subst (λ (var : VarState). IsGrounded call var (row_of rows v)) (sym (var_of-without s v))
+    subst (λ (var : Slot). IsGrounded call var (row_of rows v)) (sym (var_of-without s v))
     (without_grounded call (var_of s v) (row_of rows v) (old v))
 
-without_owned : (var : VarState) → is_owned (without_item var) ≡ is_owned var
+without_owned : (var : Slot) → is_owned (without_item var) ≡ is_owned var
 without_owned Empty = refl
 without_owned _ = cc
 
@@ -225,18 +225,18 @@ says-without call s variables (ByVariable depth v) object =
 -- ---- what a variable's state says
 
 -- A variable that owns a reference is one of the sixteen.
-pub owned_low : (s : State) (v : ℕ) → length s.vars ≡ 16 → is_owned (var_of s v) ≡ true → v < 16
-owned_low s v vars owned =
+pub owned_low : (s : State) (v : ℕ) → length s.slots ≡ 16 → is_owned (var_of s v) ≡ true → v < 16
+owned_low s v slots owned =
     elim (cases_lt v 16) [
       | inl lt ↦ lt
       | inr past ↦
-          let empty : var_of s v ≡ Empty = get_or_past s.vars v Empty (omega (arith, vars, past)) in
+          let empty : var_of s v ≡ Empty = get_or_past s.slots v Empty (omega (arith, slots, past)) in
           let no : false ≡ true = sym (ap is_owned empty) ∙ owned in
           absurd cc
     ]
 
 -- A variable that isn't empty names a row.
-pub named_row : (call : Activation) (var : VarState) (row : Option ℕ) → is_empty var ≡ false → IsGrounded call var row
+pub named_row : (call : Activation) (var : Slot) (row : Option ℕ) → is_empty var ≡ false → IsGrounded call var row
     → (x : ℕ) × (row ≡ Some x)
 named_row call Empty row some grounded = absurd cc
 named_row call (Owned k) row some grounded = grounded
@@ -244,11 +244,11 @@ named_row call (Caller k) row some grounded = (grounded.0, grounded.1)
 named_row call (Locked k) row some grounded = grounded
 
 -- A variable's state that is neither empty nor borrowed owns its reference.
-pub owned_var : (var : VarState) → is_empty var ≡ false → is_borrowed var ≡ false → is_owned var ≡ true
+pub owned_var : (var : Slot) → is_empty var ≡ false → is_borrowed var ≡ false → is_owned var ≡ true
 owned_var Empty e b = absurd cc
 owned_var _ e b = cc
 
-pub owned_row : (call : Activation) (var : VarState) (row : Option ℕ) → is_owned var ≡ true → IsGrounded call var row
+pub owned_row : (call : Activation) (var : Slot) (row : Option ℕ) → is_owned var ≡ true → IsGrounded call var row
     → (r : ℕ) × (row ≡ Some r)
 owned_row call Empty row owned grounded = absurd cc
 owned_row call (Owned k) row owned grounded = grounded
@@ -290,7 +290,7 @@ outer_low program (o ∷ outer) depth v object opened held =
           let own : (is_owned (var_of s v) && names (row_of o.variables v) object) ≡ true =
           sym (own_depth call s o.variables v object)
           ∙ subst (λ (d : ℕ). of_variables call s o.variables (ByVariable d v) object ≡ true) this.1 by in
-          (omega (arith, this.1), owned_low s v waits.vars (and_first _ _ own))
+          (omega (arith, this.1), owned_low s v waits.slots (and_first _ _ own))
       | inr apart ↦
           let low = outer_low program outer depth v object opened.1
           (sym (other_depth call s o.variables depth v object apart.0) ∙ by) in
@@ -341,7 +341,7 @@ entry_grounded : (program : Program) (v : ℕ)
     → IsGrounded (activation program []) (var_of (entry_of []) v) (row_of entry_variables v)
 entry_grounded program zero = (root_row, refl, AsCaller, tt, refl)
 entry_grounded program (suc v) =
-    subst (λ (var : VarState). IsGrounded (activation program []) var (row_of entry_variables (suc v)))
+    subst (λ (var : Slot). IsGrounded (activation program []) var (row_of entry_variables (suc v)))
     (sym (get_or-replicate_default 15 v Empty)) tt
 
 entry_owns_none : (v : ℕ) → is_owned (var_of (entry_of []) v) ≡ false
@@ -364,7 +364,7 @@ entry_in_call program callable = record {
   is_call = is_activation program [] callable;
   exits = [];
   arrived = ap (λ (ps : List Parameter). At 0 (entry_of ps)) callable.plain;
-  vars = refl;
+  slots = refl;
   rows = refl;
   grounded = entry_grounded program;
 }

@@ -5,10 +5,10 @@ use Rattle.std.specs.Prelude.{◌==◌, ◌&&◌, slice_set, is_some}
 use Rattle.std.proofs.lemmas.Bool.{false≢true, eq-eqb, eqb-true, ne_eqb}
 use Rattle.std.proofs.lemmas.Bool.Decides.{eqb_tells}
 use Rattle.brc_lang.specs.declared.kind.Kind.{Kind}
-use Rattle.brc_model.specs.declared.state.VarState.{VarState}
-use Rattle.brc_model.specs.declared.state.VarState.TheVariants.{Empty, Owned, Caller, Locked}
+use Rattle.brc_model.specs.declared.state.Slot.{Slot}
+use Rattle.brc_model.specs.declared.state.Slot.TheVariants.{Empty, Owned, Caller, Locked}
 use Rattle.brc_model.specs.declared.state.State.{State}
-use Rattle.brc_model.specs.VarStates.{var_of, is_owned, with_kind, names, put, without_item, without_items}
+use Rattle.brc_model.specs.SlotStates.{var_of, is_owned, with_kind, names, put, without_item, without_items}
 use Rattle.brc_model.specs.declared.duty.Holding.{Holding}
 use Rattle.brc_model.specs.declared.duty.Holding.TheVariants.{ByVariable, AsCaller, InFlight}
 use Rattle.brc_model.specs.declared.duty.Duty.{Duty}
@@ -21,7 +21,7 @@ use Rattle.brc_model.proofs.Dispatch.Holds.{Activation, IsOuter, HoldsVariables,
 use Rattle.brc_model.proofs.Dispatch.Grounded.{IsGrounded, var_of-put_same, var_of-put_other, row_of-set_other, var_of-without}
 
 -- The variable's reference doesn't hang on the locked list.
-abbrev pub is_kept : VarState → Bool
+abbrev pub is_kept : Slot → Bool
 is_kept (Owned k) = true
 is_kept (Caller k) = true
 is_kept _ = false
@@ -42,7 +42,7 @@ names_apart : (c x : ℕ) → names (Some c) x ≡ false → c ≢ x
 names_apart c x free e = false≢true (sym free ∙ eq-eqb x c (sym e))
 
 -- A variable that isn't the locked one changes.
-pub guards-put : (s : State) (variables : List (Option ℕ)) (x : ℕ) (var : VarState) (row : Option ℕ)
+pub guards-put : (s : State) (variables : List (Option ℕ)) (x : ℕ) (var : Slot) (row : Option ℕ)
     (o locked : Option ℕ) → names o x ≡ false → Guards s variables o locked
     → Guards (put s x var) (slice_set variables x row) o locked
 guards-put s variables x var row None locked free guards = guards
@@ -54,30 +54,30 @@ guards-put s variables x var row (Some c) locked free guards =
       ap is_kept (var_of-put_other s x c var apart) ∙ guards.3,
     )
 
-kind_kept : (var : VarState) (k : Kind) → is_kept (with_kind var k) ≡ is_kept var
+kind_kept : (var : Slot) (k : Kind) → is_kept (with_kind var k) ≡ is_kept var
 kind_kept Empty k = refl
 kind_kept _ k = cc
 
-kept-with_kind : (s : State) (x c : ℕ) (k : Kind) → x < length s.vars
+kept-with_kind : (s : State) (x c : ℕ) (k : Kind) → x < length s.slots
     → is_kept (var_of (put s x (with_kind (var_of s x) k)) c) ≡ is_kept (var_of s c)
-kept-with_kind s x c k in_vars =
+kept-with_kind s x c k in_slots =
     let var = with_kind (var_of s x) k in
     elim (eqb_tells c x) [
       | inl this ↦
           subst (λ (w : ℕ). is_kept (var_of (put s x var) w) ≡ is_kept (var_of s w)) (sym this.1)
-          (ap is_kept (var_of-put_same s x var in_vars) ∙ kind_kept (var_of s x) k)
+          (ap is_kept (var_of-put_same s x var in_slots) ∙ kind_kept (var_of s x) k)
       | inr other ↦ ap is_kept (var_of-put_other s x c var other.1)
     ]
 
 -- A variable's kind becomes known.
 pub guards-with_kind : (s : State) (variables : List (Option ℕ)) (x : ℕ) (k : Kind) (o locked : Option ℕ)
-    → x < length s.vars → Guards s variables o locked
+    → x < length s.slots → Guards s variables o locked
     → Guards (put s x (with_kind (var_of s x) k)) variables o locked
-guards-with_kind s variables x k None locked in_vars guards = guards
-guards-with_kind s variables x k (Some c) locked in_vars guards =
-    (guards.0, guards.1, guards.2, kept-with_kind s x c k in_vars ∙ guards.3)
+guards-with_kind s variables x k None locked in_slots guards = guards
+guards-with_kind s variables x k (Some c) locked in_slots guards =
+    (guards.0, guards.1, guards.2, kept-with_kind s x c k in_slots ∙ guards.3)
 
-without_kept : (var : VarState) → is_kept var ≡ true → is_kept (without_item var) ≡ true
+without_kept : (var : Slot) → is_kept var ≡ true → is_kept (without_item var) ≡ true
 without_kept Empty kept = absurd cc
 without_kept _ kept = cc
 
@@ -119,7 +119,7 @@ pub record HeldLocked (bag : List Reference) (t depth x : ℕ) (o : Option ℕ) 
   pub held_so : 0 < held (reference_of t by x) bag
 
 kept_held : (bag : List Reference) (t : ℕ) (call : Activation) (s : State) (variables : List (Option ℕ)) (c x : ℕ)
-    (var : VarState) → var_of s c ≡ var → is_kept var ≡ true → row_of variables c ≡ Some x
+    (var : Slot) → var_of s c ≡ var → is_kept var ≡ true → row_of variables c ≡ Some x
     → IsGrounded call var (row_of variables c)
     → HoldsVariables bag t call s variables → HeldLocked bag t call.depth x (Some c)
 kept_held bag t call s variables c x Empty is kept named grounded holds = absurd cc

@@ -7,14 +7,14 @@ use Rattle.std.proofs.lemmas.Bool.{eq-eqb, ne_eqb, false≢true}
 use Rattle.std.proofs.lemmas.Bool.Decides.{eqb_tells}
 use Rattle.std.proofs.lemmas.List.{append-nil}
 use Rattle.brc_lang.specs.declared.parameter.Argument.{Argument}
-use Rattle.brc_model.specs.declared.state.VarState.TheVariants.{Empty}
+use Rattle.brc_model.specs.declared.state.Slot.TheVariants.{Empty}
 use Rattle.brc_model.specs.declared.state.State.{State}
 use Rattle.brc_model.specs.declared.duty.Holding.{Holding}
 use Rattle.brc_model.specs.declared.duty.Holding.TheVariants.{ByVariable, AsCaller, InFlight}
 use Rattle.brc_model.specs.AbstractState.{Reference, Move, same, same_holding, without}
 use Rattle.brc_model.specs.Moves.{pass_on}
 use Rattle.brc_model.specs.References.{held, one_if, reference_of}
-use Rattle.brc_model.specs.VarStates.{var_of, is_owned, names, put, emptied, is_stolen, stolen, clash}
+use Rattle.brc_model.specs.SlotStates.{var_of, is_owned, names, put, emptied, is_stolen, stolen, clash}
 use Rattle.brc_model.specs.Threads.{row_of}
 use Rattle.brc_model.specs.Actions.{without_row, handed_row, handed_rows}
 use Rattle.brc_model.proofs.Basics.Below.{get_next, next_length, next_then}
@@ -80,15 +80,15 @@ elsewhere call s rows own depth v object apart =
 
 -- What the thread is to hold changes by the reference that goes from a variable to the callee's next one.
 handed_says : (call : Activation) (s : State) (rows own : List (Option ℕ)) (from row : ℕ)
-    → from < length s.vars → is_owned (var_of s from) ≡ true → row_of rows from ≡ Some row
+    → from < length s.slots → is_owned (var_of s from) ≡ true → row_of rows from ≡ Some row
     → (k : Holding) (object : ℕ)
     → one_if (of_both call s rows own k object)
     + one_if (same_holding (ByVariable (suc call.depth) (length own)) k && (row == object))
     ≡ one_if (of_both call (put s from Empty) (slice_set rows from None) (own ++ Some row ∷ []) k object)
     + one_if (same_holding (ByVariable call.depth from) k && (row == object))
-handed_says call s rows own from row in_vars owned is AsCaller object = omega arith
-handed_says call s rows own from row in_vars owned is InFlight object = omega arith
-handed_says call s rows own from row in_vars owned is (ByVariable depth v) object =
+handed_says call s rows own from row in_slots owned is AsCaller object = omega arith
+handed_says call s rows own from row in_slots owned is InFlight object = omega arith
+handed_says call s rows own from row in_slots owned is (ByVariable depth v) object =
     let after = put s from Empty in
     let left = slice_set rows from None in
     let more = own ++ Some row ∷ [] in
@@ -139,20 +139,20 @@ handed_says call s rows own from row in_vars owned is (ByVariable depth v) objec
             none,
             before,
             now,
-            emptied_says call s rows from row in_vars owned is (ByVariable depth v) object,
+            emptied_says call s rows from row in_slots owned is (ByVariable depth v) object,
           )
     ]
 
 -- So the bag fits once the reference is passed on.
 one_handed : (bag : List Reference) (t : ℕ) (call : Activation) (s : State) (rows own : List (Option ℕ))
     (from row : ℕ)
-    → from < length s.vars → is_owned (var_of s from) ≡ true → row_of rows from ≡ Some row
+    → from < length s.slots → is_owned (var_of s from) ≡ true → row_of rows from ≡ Some row
     → Holds bag t (of_both call s rows own)
     → list_any (same (reference_of t (ByVariable call.depth from) row)) bag ≡ true
     → Holds (reference_of t (ByVariable (suc call.depth) (length own)) row
     ∷ without (reference_of t (ByVariable call.depth from) row) bag) t
     (of_both call (put s from Empty) (slice_set rows from None) (own ++ Some row ∷ []))
-one_handed bag t call s rows own from row in_vars owned is holds has = record {
+one_handed bag t call s rows own from row in_slots owned is holds has = record {
   each = λ k object.
       let r = reference_of t k object in
       let out = ByVariable call.depth from in
@@ -164,7 +164,7 @@ one_handed bag t call s rows own from row in_vars owned is holds has = record {
       omega (
         arith,
         holds.each k object,
-        handed_says call s rows own from row in_vars owned is k object,
+        handed_says call s rows own from row in_slots owned is k object,
         held-without r (reference_of t out row) bag has,
         held-cons r (reference_of t to row) (without (reference_of t out row) bag),
         lost,
@@ -210,7 +210,7 @@ pub record IsReady (s : State) (rows variables : List (Option ℕ)) (a : Argumen
 abbrev pub AreReady : State → List (Option ℕ) → List (Option ℕ) → List Argument → Type 0
 AreReady s rows variables arguments = AllByRecursion (IsReady s rows variables) arguments
 
--- No argument clashes with one behind it.
+-- No argument clashes with a later one.
 abbrev pub AreApart : List Argument → Type 0
 AreApart [] = Unit {0}
 AreApart (a ∷ others) = AllByRecursion (λ b. clash a b ≡ false) others × AreApart others
@@ -272,14 +272,14 @@ handed bag t call s rows variables own to (a ∷ others) next sixteen ready apar
     (own ++ cond c (Some row) None ∷ map (given variables) others)) [
       | true ↦ λ steals.
           let owned = ready.0.owned steals in
-          let in_vars : a.from < length s.vars = omega (arith, ready.0.low, sixteen.vars) in
+          let in_slots : a.from < length s.slots = omega (arith, ready.0.low, sixteen.slots) in
           let has = has_owned bag t call s rows own a.from row owned ready.0.named holds in
           let r = reference_of t (ByVariable call.depth a.from) row in
           let now : Holds (reference_of t (ByVariable (suc call.depth) to) row ∷ without r bag) t
           (of_both call (put s a.from Empty) (slice_set rows a.from None) (own ++ Some row ∷ [])) =
           subst (λ (w : ℕ). Holds (reference_of t (ByVariable (suc call.depth) w) row ∷ without r bag) t
           (of_both call (put s a.from Empty) (slice_set rows a.from None) (own ++ Some row ∷ []))) next
-          (one_handed bag t call s rows own a.from row in_vars owned ready.0.named holds has) in
+          (one_handed bag t call s rows own a.from row in_slots owned ready.0.named holds has) in
           let further =
           handed (reference_of t (ByVariable (suc call.depth) to) row ∷ without r bag) t call (put s a.from Empty)
           (slice_set rows a.from None) variables (own ++ Some row ∷ []) (suc to) others

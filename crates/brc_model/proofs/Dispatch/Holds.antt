@@ -5,9 +5,9 @@ use Rattle.std.specs.Prelude.{◌==◌, ◌&&◌, if◌then◌else◌}
 use Rattle.std.specs.List.{list_any}
 use Rattle.std.proofs.lemmas.Bool.{eq-eqb, ne_eqb}
 use Rattle.std.proofs.lemmas.Bool.Decides.{eqb_tells}
-use Rattle.brc_model.specs.declared.state.VarState.TheVariants.{Empty}
+use Rattle.brc_model.specs.declared.state.Slot.TheVariants.{Empty}
 use Rattle.brc_model.specs.declared.state.State.{State}
-use Rattle.brc_model.specs.VarStates.{var_of, is_owned, names}
+use Rattle.brc_model.specs.SlotStates.{var_of, is_owned, names}
 use Rattle.brc_model.specs.declared.actor.Context.{Context}
 use Rattle.brc_model.specs.declared.actor.OpenCall.{OpenCall}
 use Rattle.brc_model.specs.declared.duty.Holding.{Holding}
@@ -241,14 +241,14 @@ none_as_deep program (o ∷ outer) depth v object deep =
 
 -- If no variable owns a reference, as at the end of a call, the thread holds what it holds outside the call.
 pub ended_says : (program : Program) (outer : List OpenCall) (s : State) (variables : List (Option ℕ)) (k : Holding)
-    (object : ℕ) → list_any is_owned s.vars ≡ false
+    (object : ℕ) → list_any is_owned s.slots ≡ false
     → of_variables (activation program outer) s variables k object ≡ outer_holds program outer k object
 ended_says program outer s variables k object none =
-    owning_none (activation program outer) s variables (λ v. none_at is_owned s.vars v Empty none refl)
+    owning_none (activation program outer) s variables (λ v. none_at is_owned s.slots v Empty none refl)
     (λ v o. none_as_deep program outer (length outer) v o (omega arith)) (none_in_flight program outer) k object
 
 pub holds-ended : (bag : List Reference) (t : ℕ) (program : Program) (outer : List OpenCall) (s : State)
-    (rows : List (Option ℕ)) → list_any is_owned s.vars ≡ false
+    (rows : List (Option ℕ)) → list_any is_owned s.slots ≡ false
     → Holds bag t (of_variables (activation program outer) s rows) → Holds bag t (outer_holds program outer)
 holds-ended bag t program outer s rows none holds = record {
   each = λ h object. holds.each h object ∙ ap one_if (ended_says program outer s rows h object none);

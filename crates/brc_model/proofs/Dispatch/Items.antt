@@ -13,10 +13,10 @@ use Rattle.brc_model.specs.declared.actor.Stage.{Stage}
 use Rattle.brc_model.specs.declared.actor.Stage.TheVariants.{InRange, Found, Retained}
 use Rattle.brc_model.specs.declared.address.Address.{Address}
 use Rattle.brc_model.specs.declared.address.Address.TheVariants.{KindOf, Cell}
-use Rattle.brc_model.specs.declared.state.VarState.{VarState}
-use Rattle.brc_model.specs.declared.state.VarState.TheVariants.{Empty}
+use Rattle.brc_model.specs.declared.state.Slot.{Slot}
+use Rattle.brc_model.specs.declared.state.Slot.TheVariants.{Empty}
 use Rattle.brc_model.specs.declared.state.State.{State}
-use Rattle.brc_model.specs.VarStates.{var_of, with_kind, put, without_item, without_items, entry_of}
+use Rattle.brc_model.specs.SlotStates.{var_of, with_kind, put, without_item, without_items, entry_of}
 use Rattle.brc_model.specs.Threads.{row_of, entry_variables, function_in}
 use Rattle.brc_model.specs.Duties.{cells_of}
 use Rattle.brc_model.specs.Items.{IsItem, borrows_item, HaveItems, HasCell, StageKnows, KnowsItems}
@@ -87,15 +87,15 @@ module _ (memory new : Address → ℕ) (locked : Option ℕ) (stays : ItemsStay
 -- ---- a variable changes
 
 -- What the new state borrows has to be an item; the other variables are as they were.
-pub items_put : (memory : Address → ℕ) (locked : Option ℕ) (s : State) (rows : List (Option ℕ)) (x : ℕ) (var : VarState)
-    (row : Option ℕ) → x < length s.vars → x < length rows
+pub items_put : (memory : Address → ℕ) (locked : Option ℕ) (s : State) (rows : List (Option ℕ)) (x : ℕ) (var : Slot)
+    (row : Option ℕ) → x < length s.slots → x < length rows
     → ((y : ℕ) → borrows_item var ≡ true → row ≡ Some y → IsItem memory locked y) → HaveItems memory locked s rows
     → HaveItems memory locked (put s x var) (slice_set rows x row)
-items_put memory locked s rows x var row in_vars in_rows new old v y borrows is =
+items_put memory locked s rows x var row in_slots in_rows new old v y borrows is =
     elim (eqb_tells v x) [
       | inl this ↦
           let var_is : var_of (put s x var) v ≡ var =
-          ap (var_of (put s x var)) this.1 ∙ var_of-put_same s x var in_vars in
+          ap (var_of (put s x var)) this.1 ∙ var_of-put_same s x var in_slots in
           let row_is : row_of (slice_set rows x row) v ≡ row =
           ap (row_of (slice_set rows x row)) this.1 ∙ row_of-set_same rows x row in_rows in
           new y (sym (ap borrows_item var_is) ∙ borrows) (sym row_is ∙ is)
@@ -105,26 +105,26 @@ items_put memory locked s rows x var row in_vars in_rows new old v y borrows is 
     ]
 
 -- A variable's state that doesn't borrow from the list needs no item.
-pub needs_none : (memory : Address → ℕ) (locked : Option ℕ) (var : VarState) (row : Option ℕ)
+pub needs_none : (memory : Address → ℕ) (locked : Option ℕ) (var : Slot) (row : Option ℕ)
     → borrows_item var ≡ false
     → (y : ℕ) → borrows_item var ≡ true → row ≡ Some y → IsItem memory locked y
 needs_none memory locked var row free y borrows is = absurd (false≢true (sym free ∙ borrows))
 
-kind_borrows : (var : VarState) (k : Kind) → borrows_item (with_kind var k) ≡ borrows_item var
+kind_borrows : (var : Slot) (k : Kind) → borrows_item (with_kind var k) ≡ borrows_item var
 kind_borrows Empty k = refl
 kind_borrows _ k = cc
 
 -- A variable's kind becomes known.
 pub items_with_kind : (memory : Address → ℕ) (locked : Option ℕ) (s : State) (rows : List (Option ℕ)) (x : ℕ)
-    (k : Kind) → x < length s.vars → HaveItems memory locked s rows
+    (k : Kind) → x < length s.slots → HaveItems memory locked s rows
     → HaveItems memory locked (put s x (with_kind (var_of s x) k)) rows
-items_with_kind memory locked s rows x k in_vars old v y borrows is =
+items_with_kind memory locked s rows x k in_slots old v y borrows is =
     let var = with_kind (var_of s x) k in
     elim (eqb_tells v x) [
       | inl this ↦
           let same : borrows_item (var_of (put s x var) v) ≡ borrows_item (var_of s v) =
           ap (λ (w : ℕ). borrows_item (var_of (put s x var) w)) this.1
-          ∙ ap borrows_item (var_of-put_same s x var in_vars) ∙ kind_borrows (var_of s x) k
+          ∙ ap borrows_item (var_of-put_same s x var in_slots) ∙ kind_borrows (var_of s x) k
           ∙ ap (λ (w : ℕ). borrows_item (var_of s w)) (sym this.1) in
           old v y (sym same ∙ borrows) is
       | inr other ↦ old v y (sym (ap borrows_item (var_of-put_other s x v var other.1)) ∙ borrows) is
@@ -140,7 +140,7 @@ pub none_borrowed : (memory : Address → ℕ) (locked : Option ℕ) (s : State)
     → HaveItems memory locked s rows
 none_borrowed memory locked s rows none v x borrows is = absurd (false≢true (sym (none v) ∙ borrows))
 
-without_item_free : (var : VarState) → borrows_item (without_item var) ≡ false
+without_item_free : (var : Slot) → borrows_item (without_item var) ≡ false
 without_item_free Empty = refl
 without_item_free _ = cc
 

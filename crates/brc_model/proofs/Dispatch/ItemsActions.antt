@@ -33,7 +33,7 @@ use Rattle.brc_model.proofs.Dispatch.ItemsUsed.{LeavesItems, UsesAt}
 use Rattle.brc_model.proofs.Dispatch.ItemsLeft.{instruction_uses, inside_uses}
 use Rattle.brc_model.proofs.Dispatch.Decided.{stopping_decides, stop_decides, give_up_decides}
 use Rattle.brc_model.proofs.Dispatch.Programs.{Program, code_in, IsSound, running, code_at, program_of}
-use Rattle.brc_model.specs.VarStates.{entry_of}
+use Rattle.brc_model.specs.SlotStates.{entry_of}
 use Rattle.brc_model.specs.declared.actor.OpenCall.{OpenCall}
 
 -- The thread's place before its step, and what it knows of items there.

@@ -13,12 +13,12 @@ use Rattle.brc_model.specs.declared.address.Address.{Address}
 use Rattle.brc_model.specs.declared.actor.Context.{Context}
 use Rattle.brc_model.specs.declared.actor.OpenCall.{OpenCall}
 use Rattle.brc_model.specs.declared.actor.Place.TheVariants.{InCall}
-use Rattle.brc_model.specs.declared.state.VarState.{VarState}
-use Rattle.brc_model.specs.declared.state.VarState.TheVariants.{Empty, Owned}
+use Rattle.brc_model.specs.declared.state.Slot.{Slot}
+use Rattle.brc_model.specs.declared.state.Slot.TheVariants.{Empty, Owned}
 use Rattle.brc_model.specs.declared.state.State.{State}
 use Rattle.brc_model.specs.declared.state.Exit.{Exit}
 use Rattle.brc_model.specs.declared.state.Exit.TheVariants.{Success, Fault}
-use Rattle.brc_model.specs.VarStates.{after, target, entry_of, parameter_var, passed_var, without_stolen}
+use Rattle.brc_model.specs.SlotStates.{after, target, entry_of, parameter_var, passed_var, without_stolen}
 use Rattle.brc_model.specs.Actions.{waiting_context, argument_rows, passed_variables, call_action, ret_action, fail_action}
 use Rattle.brc_model.specs.Items.{borrows_item, HaveItems}
 use Rattle.brc_model.proofs.Basics.Lists.{either}
@@ -103,12 +103,12 @@ ret_uses program memory locked t left from row [] sound opened = λ new found do
 ret_uses program memory locked t left from row (o ∷ outer) sound opened =
     let waits = opened.0 in
     let s = left_by o waits.arguments waits.state in
-    let var : VarState = Owned kinds.Any in
+    let var : Slot = Owned kinds.Any in
     resumes program memory locked left outer o Success (o.at + 1) (slice_set o.variables o.to (Some row)) sound opened
     refl
     (subst (λ (state : State). HaveItems memory locked state (slice_set o.variables o.to (Some row)))
     (put_twice (without_stolen waits.state waits.arguments) o.to Empty var)
-    (items_put memory locked s o.variables o.to var (Some row) (omega (arith, waits.low, waits.vars))
+    (items_put memory locked s o.variables o.to var (Some row) (omega (arith, waits.low, waits.slots))
     (omega (arith, waits.low, waits.rows)) (needs_none memory locked var (Some row) refl)
     (waiting_items program memory locked outer o waits)))
 

@@ -15,13 +15,13 @@ use Rattle.brc_model.specs.declared.actor.Stage.TheVariants.{InRange, OutOfRange
 use Rattle.brc_model.specs.declared.address.Address.{Address}
 use Rattle.brc_model.specs.declared.address.Address.TheVariants.{KindOf, Cell}
 use Rattle.brc_model.specs.declared.duty.Duty.TheVariants.{KindLoad, CellLoad}
-use Rattle.brc_model.specs.declared.state.VarState.{VarState}
-use Rattle.brc_model.specs.declared.state.VarState.TheVariants.{Empty, Owned, Locked}
+use Rattle.brc_model.specs.declared.state.Slot.{Slot}
+use Rattle.brc_model.specs.declared.state.Slot.TheVariants.{Empty, Owned, Locked}
 use Rattle.brc_model.specs.declared.state.State.{State}
 use Rattle.brc_model.specs.declared.state.Exit.{Exit}
 use Rattle.brc_model.specs.declared.state.Exit.TheVariants.{Success, Fault as FaultExit}
 use Rattle.brc_model.specs.Kinds.{kind_of_word, same_kind}
-use Rattle.brc_model.specs.VarStates.{var_of, kind_of, names, put, after, target}
+use Rattle.brc_model.specs.SlotStates.{var_of, kind_of, names, put, after, target}
 use Rattle.brc_model.specs.Threads.{row_of}
 use Rattle.brc_model.specs.Layout.{none_row, row_at, first_immortal_list}
 use Rattle.brc_model.specs.declared.layout.Layout.{Layout}
@@ -61,18 +61,18 @@ module _ (program : Program) (memory : Address → ℕ) (locked : Option ℕ) (c
       (here.leads exit next to) arrived) items
 
   -- The exit changes one variable.
-  goes_on_put : (new : Address → ℕ) (next : ℕ) (i : Instr) (exit : Exit) (x : ℕ) (var : VarState) (row : Option ℕ)
+  goes_on_put : (new : Address → ℕ) (next : ℕ) (i : Instr) (exit : Exit) (x : ℕ) (var : Slot) (row : Option ℕ)
       → ItemsStay memory new locked → (here : Here i) → target i exit at ≡ Some next → after i exit s ≡ put s x var
       → x < 16 → ((y : ℕ) → borrows_item var ≡ true → row ≡ Some y → IsItem new locked y)
       → ItemsAt program new locked (InCall context next (slice_set variables x row))
   goes_on_put new next i exit x var row stays here to is low item =
       goes_on new locked next (slice_set variables x row) i exit here to
       (subst (λ (state : State). HaveItems new locked state (slice_set variables x row)) (sym is)
-      (items_put new locked s variables x var row (omega (arith, low, here.inside.vars))
+      (items_put new locked s variables x var row (omega (arith, low, here.inside.slots))
       (omega (arith, low, here.inside.rows)) item (items_stay memory new locked stays s variables here.items)))
 
   -- The exit leaves in the variable what borrows nothing.
-  goes_on_free : (new : Address → ℕ) (next : ℕ) (i : Instr) (exit : Exit) (x : ℕ) (var : VarState) (row : Option ℕ)
+  goes_on_free : (new : Address → ℕ) (next : ℕ) (i : Instr) (exit : Exit) (x : ℕ) (var : Slot) (row : Option ℕ)
       → ItemsStay memory new locked → (here : Here i) → target i exit at ≡ Some next → after i exit s ≡ put s x var
       → x < 16 → borrows_item var ≡ false → ItemsAt program new locked
       (InCall context next (slice_set variables x row))
@@ -124,7 +124,7 @@ module _ (program : Program) (memory : Address → ℕ) (locked : Option ℕ) (c
 
   -- ---- each instruction
 
-  birth_uses : (layout : Layout) (t used : ℕ) (i : Instr) (to word otherwise : ℕ) (var : VarState) → (here : Here i)
+  birth_uses : (layout : Layout) (t used : ℕ) (i : Instr) (to word otherwise : ℕ) (var : Slot) → (here : Here i)
       → to < 16 → borrows_item var ≡ false
       → target i Success at ≡ Some (at + 1) → after i Success s ≡ put s to var
       → target i FaultExit at ≡ Some otherwise → after i FaultExit s ≡ put s to Empty
@@ -150,7 +150,7 @@ module _ (program : Program) (memory : Address → ℕ) (locked : Option ℕ) (c
       (goes_inside memory Granted i (all_stay memory locked) here knows) refused) refused
 
   -- The birth that it awaits leaves in the variable what borrows nothing.
-  granted_uses : (layout : Layout) (t used : ℕ) (i : Instr) (to word : ℕ) (var : VarState) → (here : Here i) → to < 16
+  granted_uses : (layout : Layout) (t used : ℕ) (i : Instr) (to word : ℕ) (var : Slot) → (here : Here i) → to < 16
       → borrows_item var ≡ false → target i Success at ≡ Some (at + 1) → after i Success s ≡ put s to var
       → LeavesItems program memory locked (granted_birth layout t used context at variables to word)
   granted_uses layout t used i to word var here low free next owned = λ new found done.
@@ -226,12 +226,12 @@ module _ (program : Program) (memory : Address → ℕ) (locked : Option ℕ) (c
       row_uses (row_of variables from) _ (λ row is.
       let var = Owned (kind_of (var_of s from)) in
       let emptied : HaveItems memory locked (put s from Empty) (slice_set variables from None) =
-      items_put memory locked s variables from Empty None (omega (arith, here.operands.1, here.inside.vars))
+      items_put memory locked s variables from Empty None (omega (arith, here.operands.1, here.inside.slots))
       (omega (arith, here.operands.1, here.inside.rows)) (needs_none memory locked Empty None refl) here.items in
       goes_on memory locked (at + 1) (slice_set (slice_set variables from None) to (Some row)) (MoveReference to from)
       Success here refl
       (items_put memory locked (put s from Empty) (slice_set variables from None) to var (Some row)
-      (omega (arith, here.operands.0, here.inside.vars, length-set s.vars from Empty))
+      (omega (arith, here.operands.0, here.inside.slots, length-set s.slots from Empty))
       (omega (arith, here.operands.0, here.inside.rows, length-set variables from None))
       (needs_none memory locked var (Some row) refl) emptied))
   instruction_uses layout t used before (Drop from) knew here =
@@ -282,7 +282,7 @@ module _ (program : Program) (memory : Address → ℕ) (locked : Option ℕ) (c
       (same_kind (kind_of_word found) kind) _ _
       (λ same.
       goes_on new locked (at + 1) variables (As from kind otherwise) Success here refl
-      (items_with_kind new locked s variables from kind (omega (arith, here.operands.0, here.inside.vars))
+      (items_with_kind new locked s variables from kind (omega (arith, here.operands.0, here.inside.slots))
       (items_stay memory new locked stays s variables here.items)))
       (goes_on_same new otherwise (As from kind otherwise) FaultExit stays here refl refl))
   instruction_uses layout t used before (Goto to) knew here =

@@ -10,7 +10,7 @@ use Rattle.brc_model.specs.declared.duty.Duty.{Duty}
 use Rattle.brc_model.specs.declared.duty.Duty.TheVariants.{KindLoad, CellLoad}
 use Rattle.brc_model.specs.declared.state.State.{State}
 use Rattle.brc_model.specs.declared.state.Exit.{Exit}
-use Rattle.brc_model.specs.VarStates.{after, target}
+use Rattle.brc_model.specs.SlotStates.{after, target}
 use Rattle.brc_model.specs.Paths.{At, path_end, IsAcceptableFunction}
 use Rattle.brc_model.specs.Machine.{locked_by}
 use Rattle.brc_model.specs.Actions.{Action, Skip, Stuck, Silent, Calls, Does}

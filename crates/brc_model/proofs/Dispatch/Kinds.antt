@@ -8,11 +8,11 @@ use Rattle.brc_lang.specs.declared.kind.Kind.{Kind}
 use Rattle.brc_lang.specs.declared.kind.Kind.TheVariants as kinds
 use Rattle.brc_model.specs.declared.actor.Place.{Place}
 use Rattle.brc_model.specs.declared.actor.Place.TheVariants.{Idle, InCall, Inside, Stopping, Exiting}
-use Rattle.brc_model.specs.declared.state.VarState.{VarState}
-use Rattle.brc_model.specs.declared.state.VarState.TheVariants.{Empty, Owned, Caller, Locked}
+use Rattle.brc_model.specs.declared.state.Slot.{Slot}
+use Rattle.brc_model.specs.declared.state.Slot.TheVariants.{Empty, Owned, Caller, Locked}
 use Rattle.brc_model.specs.declared.state.State.{State}
 use Rattle.brc_model.specs.Kinds.{kind_number, kind_numbered, kind_of_word, same_kind}
-use Rattle.brc_model.specs.VarStates.{var_of, kind_of, with_kind, put, without_item, without_items, entry_of}
+use Rattle.brc_model.specs.SlotStates.{var_of, kind_of, with_kind, put, without_item, without_items, entry_of}
 use Rattle.brc_model.specs.Threads.{row_of, entry_variables, function_in, outer_of}
 use Rattle.brc_model.specs.declared.layout.Layout.{Layout}
 use Rattle.brc_model.specs.Layout.{none_row, root_row, first_immortal_list}
@@ -103,21 +103,21 @@ knows_still program words new stays place knows = (
   open_still program words new stays (outer_of place) knows.1,
 )
 
-pub true_put : (words : ℕ → ℕ) (s : State) (rows : List (Option ℕ)) (x : ℕ) (var : VarState) (row : Option ℕ)
-    → x < length s.vars
+pub true_put : (words : ℕ → ℕ) (s : State) (rows : List (Option ℕ)) (x : ℕ) (var : Slot) (row : Option ℕ)
+    → x < length s.slots
     → x < length rows → HasTrueKind words var row → HaveTrueKinds words s rows
     → HaveTrueKinds words (put s x var) (slice_set rows x row)
-true_put words s rows x var row in_vars in_rows new old v =
+true_put words s rows x var row in_slots in_rows new old v =
     elim (eqb_tells v x) [
       | inl this ↦
           let P : ℕ → Type 0 = λ w. HasTrueKind words (var_of (put s x var) w) (row_of (slice_set rows x row) w) in
           let there : HasTrueKind words (var_of (put s x var) x) row =
-          subst (λ (w : VarState). HasTrueKind words w row) (sym (var_of-put_same s x var in_vars)) new in
+          subst (λ (w : Slot). HasTrueKind words w row) (sym (var_of-put_same s x var in_slots)) new in
           subst P (sym this.1) (subst (λ (w : Option ℕ). HasTrueKind words (var_of (put s x var) x) w)
           (sym (row_of-set_same rows x row in_rows)) there)
       | inr other ↦
           let there : HasTrueKind words (var_of (put s x var) v) (row_of rows v) =
-          subst (λ (w : VarState). HasTrueKind words w (row_of rows v)) (sym (var_of-put_other s x v var other.1))
+          subst (λ (w : Slot). HasTrueKind words w (row_of rows v)) (sym (var_of-put_other s x v var other.1))
           (old v) in
           subst (λ (w : Option ℕ). HasTrueKind words (var_of (put s x var) v) w)
           (sym (row_of-set_other rows x v row other.1)) there
@@ -136,7 +136,7 @@ same_kind_is one other same =
     sym (numbered_kind one) ∙ ap kind_numbered (eqb-true (kind_number one) (kind_number other) same)
     ∙ numbered_kind other
 
-var_with_kind : (words : ℕ → ℕ) (var : VarState) (kind : Kind) (row : Option ℕ)
+var_with_kind : (words : ℕ → ℕ) (var : Slot) (kind : Kind) (row : Option ℕ)
     → ((x : ℕ) → row ≡ Some x → IsTrueKind kind (words x)) → HasTrueKind words (with_kind var kind) row
 var_with_kind words Empty kind row names x is = inl refl
 var_with_kind words (Owned k) kind row names x is = names x is
@@ -144,26 +144,26 @@ var_with_kind words (Caller k) kind row names x is = names x is
 var_with_kind words (Locked k) kind row names x is = names x is
 
 -- A variable's state may take the kind that its object's kind word names.
-pub true_with_kind : (words : ℕ → ℕ) (s : State) (rows : List (Option ℕ)) (x : ℕ) (kind : Kind) → x < length s.vars
+pub true_with_kind : (words : ℕ → ℕ) (s : State) (rows : List (Option ℕ)) (x : ℕ) (kind : Kind) → x < length s.slots
     → ((y : ℕ) → row_of rows x ≡ Some y → IsTrueKind kind (words y)) → HaveTrueKinds words s rows
     → HaveTrueKinds words (put s x (with_kind (var_of s x) kind)) rows
-true_with_kind words s rows x kind in_vars names old v =
+true_with_kind words s rows x kind in_slots names old v =
     let var = with_kind (var_of s x) kind in
     elim (eqb_tells v x) [
       | inl this ↦
           let there : HasTrueKind words (var_of (put s x var) x) (row_of rows x) =
-          subst (λ (w : VarState). HasTrueKind words w (row_of rows x)) (sym (var_of-put_same s x var in_vars))
+          subst (λ (w : Slot). HasTrueKind words w (row_of rows x)) (sym (var_of-put_same s x var in_slots))
           (var_with_kind words (var_of s x) kind (row_of rows x) names) in
           subst (λ (w : ℕ). HasTrueKind words (var_of (put s x var) w) (row_of rows w)) (sym this.1) there
       | inr other ↦
-          subst (λ (w : VarState). HasTrueKind words w (row_of rows v)) (sym (var_of-put_other s x v var other.1))
+          subst (λ (w : Slot). HasTrueKind words w (row_of rows v)) (sym (var_of-put_other s x v var other.1))
           (old v)
     ]
 
 -- ---- once nothing is borrowed from the locked list any more
 
 -- A variable that borrowed from the locked list is empty then, so it says nothing.
-without_item_true : (words : ℕ → ℕ) (var : VarState) (row : Option ℕ) → HasTrueKind words var row
+without_item_true : (words : ℕ → ℕ) (var : Slot) (row : Option ℕ) → HasTrueKind words var row
     → HasTrueKind words (without_item var) row
 without_item_true words Empty row says = says
 without_item_true words (Owned k) row says = says
@@ -173,7 +173,7 @@ without_item_true words (Locked k) row says = empty_true words row
 pub true_without_items : (words : ℕ → ℕ) (s : State) (rows : List (Option ℕ)) → HaveTrueKinds words s rows
     → HaveTrueKinds words (without_items s) rows
 true_without_items words s rows known v =
-    subst (λ (var : VarState). HasTrueKind words var (row_of rows v)) (sym (var_of-without s v))
+    subst (λ (var : Slot). HasTrueKind words var (row_of rows v)) (sym (var_of-without s v))
     (without_item_true words (var_of s v) (row_of rows v) (known v))
 
 -- ---- the kind words of the rows that are there from the start
@@ -208,5 +208,5 @@ pub entry_true : (words : ℕ → ℕ) → kind_of_word (words root_row) ≡ kin
 entry_true words root zero = λ x is.
     inr (ap (λ (y : ℕ). kind_of_word (words y)) (sym (some_is root_row x is)) ∙ root)
 entry_true words root (suc v) =
-    subst (λ (var : VarState). HasTrueKind words var (row_of entry_variables (suc v)))
+    subst (λ (var : Slot). HasTrueKind words var (row_of entry_variables (suc v)))
     (sym (get_or-replicate_default 15 v Empty)) (empty_true words (row_of entry_variables (suc v)))

@@ -29,7 +29,7 @@ use Rattle.brc_model.proofs.Dispatch.KindsLeft.{instruction_leaves, inside_leave
 use Rattle.brc_model.proofs.Dispatch.Decided.{stopping_decides, stop_decides, give_up_decides}
 use Rattle.brc_model.proofs.Dispatch.Programs.{Program, code_in, IsSound, running, code_at, program_of}
 use Rattle.brc_model.proofs.Dispatch.KindsKnown.{LeavesKinds, KnowsAt}
-use Rattle.brc_model.specs.VarStates.{entry_of}
+use Rattle.brc_model.specs.SlotStates.{entry_of}
 use Rattle.brc_model.specs.declared.actor.OpenCall.{OpenCall}
 use Rattle.brc_model.proofs.Dispatch.Allowed.{AreAllowedIn, allowed_at}
 

@@ -12,12 +12,12 @@ use Rattle.brc_lang.specs.declared.parameter.Passing.TheVariants.{Borrow, Steal}
 use Rattle.brc_model.specs.declared.actor.Context.{Context}
 use Rattle.brc_model.specs.declared.actor.OpenCall.{OpenCall}
 use Rattle.brc_model.specs.declared.actor.Place.TheVariants.{InCall}
-use Rattle.brc_model.specs.declared.state.VarState.{VarState}
-use Rattle.brc_model.specs.declared.state.VarState.TheVariants.{Empty, Owned}
+use Rattle.brc_model.specs.declared.state.Slot.{Slot}
+use Rattle.brc_model.specs.declared.state.Slot.TheVariants.{Empty, Owned}
 use Rattle.brc_model.specs.declared.state.State.{State}
 use Rattle.brc_model.specs.declared.state.Exit.{Exit}
 use Rattle.brc_model.specs.declared.state.Exit.TheVariants.{Success, Fault}
-use Rattle.brc_model.specs.VarStates.{after, target, entry_of, parameter_var, passed_var, without_stolen}
+use Rattle.brc_model.specs.SlotStates.{after, target, entry_of, parameter_var, passed_var, without_stolen}
 use Rattle.brc_model.specs.Threads.{row_of}
 use Rattle.brc_model.specs.Layout.{root_row}
 use Rattle.brc_model.specs.Actions.{waiting_context, argument_rows, passed_variables, kept_rows, call_action, ret_action, fail_action, waiting_state}
@@ -63,7 +63,7 @@ left_true : (words : ℕ → ℕ) (s : State) (rows : List (Option ℕ)) (argume
 left_true words s rows arguments o low to_low all known =
     (left_keeps (HaveTrueKinds words)
     (λ state variables x sixteen less holds.
-    true_put words state variables x Empty None (omega (arith, less, sixteen.vars)) (omega (arith, less, sixteen.named))
+    true_put words state variables x Empty None (omega (arith, less, sixteen.slots)) (omega (arith, less, sixteen.named))
     (empty_true words None) holds)
     s rows arguments o low to_low all known).1
 
@@ -99,7 +99,7 @@ call_leaves program words t context at variables s to callee arguments otherwise
     (sym (ap (λ (i : Option Instr). fault_state i (program.states number at)) here.found
     ∙ ap (fault_state (Some (Call to callee arguments otherwise))) known))
     (left_true words s variables arguments o here.operands.3 here.operands.0
-    (record { vars = here.inside.vars; named = here.inside.rows }) here.known) in
+    (record { slots = here.inside.slots; named = here.inside.rows }) here.known) in
     either (LeavesKinds program words) (list_all is_some (argument_rows variables arguments)) _ _
     (λ named. (
       λ exits other arrived.
@@ -146,12 +146,12 @@ ret_leaves program words t left from row [] sound opened known = λ found stored
 ret_leaves program words t left from row (o ∷ outer) sound opened known =
     let waits = opened.0 in
     let s = left_by o waits.arguments waits.state in
-    let var : VarState = Owned kinds.Any in
+    let var : Slot = Owned kinds.Any in
     resumes program words left outer o Success (o.at + 1) (slice_set o.variables o.to (Some row)) sound opened known.1
     refl
     (subst (λ (state : State). HaveTrueKinds words state (slice_set o.variables o.to (Some row)))
     (put_twice (without_stolen waits.state waits.arguments) o.to Empty var)
-    (true_put words s o.variables o.to var (Some row) (omega (arith, waits.low, waits.vars))
+    (true_put words s o.variables o.to var (Some row) (omega (arith, waits.low, waits.slots))
     (omega (arith, waits.low, waits.rows)) (λ x is. inl refl) (waiting_true program words outer o waits known)))
 
 pub fail_leaves : (program : Program) (words : ℕ → ℕ) (left : ℕ) (outer : List OpenCall) → IsSound program

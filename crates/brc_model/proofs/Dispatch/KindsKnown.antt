@@ -9,10 +9,10 @@ use Rattle.brc_model.specs.declared.actor.OpenCall.{OpenCall}
 use Rattle.brc_model.specs.declared.actor.Place.TheVariants.{InCall}
 use Rattle.brc_model.specs.declared.duty.Duty.{Duty}
 use Rattle.brc_model.specs.declared.duty.Duty.TheVariants.{KindLoad, BirthKind}
-use Rattle.brc_model.specs.declared.state.VarState.{VarState}
+use Rattle.brc_model.specs.declared.state.Slot.{Slot}
 use Rattle.brc_model.specs.declared.state.State.{State}
 use Rattle.brc_model.specs.declared.state.Exit.{Exit}
-use Rattle.brc_model.specs.VarStates.{put, after, target}
+use Rattle.brc_model.specs.SlotStates.{put, after, target}
 use Rattle.brc_model.specs.Paths.{At, path_end}
 use Rattle.brc_model.specs.Actions.{Action, Skip, Stuck, Silent, Calls, Does, with_row}
 use Rattle.brc_model.specs.KnownKinds.{HasTrueKind, HaveTrueKinds}
@@ -73,14 +73,14 @@ goes_on program words context at next variables rows s i exit here to known = (
 
 -- The same, where the exit changes one variable.
 pub goes_on_put : (program : Program) (words : ℕ → ℕ) (context : Context) (at next : ℕ) (variables : List (Option ℕ))
-    (s : State) (i : Instr) (exit : Exit) (x : ℕ) (var : VarState) (row : Option ℕ)
+    (s : State) (i : Instr) (exit : Exit) (x : ℕ) (var : Slot) (row : Option ℕ)
     → (here : KnowsAt program context.outer words at variables s i)
     → target i exit at ≡ Some next → after i exit s ≡ put s x var → x < 16 → HasTrueKind words var row
     → KnowsAll program words (InCall context next (slice_set variables x row))
 goes_on_put program words context at next variables s i exit x var row here to is low new =
     goes_on program words context at next variables (slice_set variables x row) s i exit here to
     (subst (λ (state : State). HaveTrueKinds words state (slice_set variables x row)) (sym is)
-    (true_put words s variables x var row (omega (arith, low, here.inside.vars))
+    (true_put words s variables x var row (omega (arith, low, here.inside.slots))
     (omega (arith, low, here.inside.rows)) new here.known))
 
 -- The same at a point, or inside the instruction there, of a thread whose variables haven't changed.

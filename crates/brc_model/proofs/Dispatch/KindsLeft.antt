@@ -13,13 +13,13 @@ use Rattle.brc_model.specs.declared.actor.Place.TheVariants.{InCall, Inside}
 use Rattle.brc_model.specs.declared.actor.Stage.{Stage}
 use Rattle.brc_model.specs.declared.actor.Stage.TheVariants.{InRange, OutOfRange, Found, Retained, Loaded, Lent, Called, Granted}
 use Rattle.brc_model.specs.declared.duty.Duty.TheVariants.{KindLoad, CellLoad}
-use Rattle.brc_model.specs.declared.state.VarState.{VarState}
-use Rattle.brc_model.specs.declared.state.VarState.TheVariants.{Empty, Owned, Locked}
+use Rattle.brc_model.specs.declared.state.Slot.{Slot}
+use Rattle.brc_model.specs.declared.state.Slot.TheVariants.{Empty, Owned, Locked}
 use Rattle.brc_model.specs.declared.state.State.{State}
 use Rattle.brc_model.specs.declared.state.Exit.{Exit}
 use Rattle.brc_model.specs.declared.state.Exit.TheVariants.{Success, Fault as FaultExit}
 use Rattle.brc_model.specs.Kinds.{kind_numbered, kind_of_word, same_kind}
-use Rattle.brc_model.specs.VarStates.{var_of, kind_of, put, after, target}
+use Rattle.brc_model.specs.SlotStates.{var_of, kind_of, put, after, target}
 use Rattle.brc_model.specs.Threads.{row_of}
 use Rattle.brc_model.specs.Layout.{none_row, row_at, first_immortal_list}
 use Rattle.brc_model.specs.declared.layout.Layout.{Layout}
@@ -157,13 +157,13 @@ instruction_leaves program words layout t used before context at variables s (Mo
     knew lists allowed here =
     row_leaves program words (row_of variables from) _ (λ row is.
     let emptied : HaveTrueKinds words (put s from Empty) (slice_set variables from None) =
-    true_put words s variables from Empty None (omega (arith, here.operands.1, here.inside.vars))
+    true_put words s variables from Empty None (omega (arith, here.operands.1, here.inside.slots))
     (omega (arith, here.operands.1, here.inside.rows)) (empty_true words None) here.known in
     goes_on program words context at (at + 1) variables (slice_set (slice_set variables from None) to (Some row)) s
     (MoveReference to from) Success here refl
     (true_put words (put s from Empty) (slice_set variables from None) to (Owned (kind_of (var_of s from)))
     (Some row)
-    (omega (arith, here.operands.0, here.inside.vars, length-set s.vars from Empty))
+    (omega (arith, here.operands.0, here.inside.slots, length-set s.slots from Empty))
     (omega (arith, here.operands.0, here.inside.rows, length-set variables from None))
     (λ x this. subst (λ (y : ℕ). IsTrueKind (kind_of (var_of s from)) (words y)) (some_is row x this)
     (here.known from row is)) emptied))
@@ -236,7 +236,7 @@ instruction_leaves program words layout t used before context at variables s (As
     (same_kind (kind_of_word found) kind) _ _
     (λ same.
     goes_on program words context at (at + 1) variables variables s (As from kind otherwise) Success here refl
-    (true_with_kind words s variables from kind (omega (arith, here.operands.0, here.inside.vars))
+    (true_with_kind words s variables from kind (omega (arith, here.operands.0, here.inside.slots))
     (λ x this. inr (ap (λ (y : ℕ). kind_of_word (words y)) (some_is x row (sym this ∙ is)) ∙ ap kind_of_word (sym seen)
     ∙ same_kind_is (kind_of_word found) kind same)) here.known))
     (goes_on program words context at otherwise variables variables s (As from kind otherwise) FaultExit here refl
@@ -274,11 +274,11 @@ set_leaves program words context at next variables s list index from otherwise e
     exit
     here to
     (true_without_items words (put s from Empty) (slice_set variables from None)
-    (true_put words s variables from Empty None (omega (arith, here.operands.0, here.inside.vars))
+    (true_put words s variables from Empty None (omega (arith, here.operands.0, here.inside.slots))
     (omega (arith, here.operands.0, here.inside.rows)) (empty_true words None) here.known))
 
 -- A variable whose kind isn't known yet says nothing.
-any_true : (words : ℕ → ℕ) (var : VarState) (row : Option ℕ) → kind_of var ≡ kinds.Any → HasTrueKind words var row
+any_true : (words : ℕ → ℕ) (var : Slot) (row : Option ℕ) → kind_of var ≡ kinds.Any → HasTrueKind words var row
 any_true words var row any x is = inl any
 
 pub inside_leaves : (program : Program) (words : ℕ → ℕ) (layout : Layout) (t used : ℕ) (context : Context) (at : ℕ)

@@ -15,7 +15,7 @@ use Rattle.brc_model.specs.declared.state.Exit.{Exit}
 use Rattle.brc_model.specs.declared.actor.Place.TheVariants.{Idle, InCall, Inside, Stopping, Exiting}
 use Rattle.brc_model.specs.declared.actor.Stage.{Stage}
 use Rattle.brc_model.specs.declared.actor.Stage.TheVariants.{InRange, OutOfRange, Found, Retained, Loaded, Lent, Called, Granted}
-use Rattle.brc_model.specs.declared.duty.Duty.TheVariants.{BirthKind, KindLoad, CellLoad, LendSlot}
+use Rattle.brc_model.specs.declared.duty.Duty.TheVariants.{BirthKind, KindLoad, CellLoad, LendField}
 use Rattle.brc_model.specs.declared.layout.Layout.{Layout}
 use Rattle.brc_model.specs.Layout.{row_at}
 use Rattle.brc_model.specs.Duties.{cells_of}
@@ -50,9 +50,9 @@ lent_at program (Inside context at variables stage) = lent_to stage (slice_get (
 lent_at program (Stopping lock calls) = None
 lent_at program Exiting = None
 
--- A duty that lends a resource finds it in its slot.
+-- A duty that lends a resource finds it in its field.
 abbrev pub FindsFull : Duty → ℕ → Type 0
-FindsFull (LendSlot x) found = found ≡ 1
+FindsFull (LendField x) found = found ≡ 1
 FindsFull d found = Unit {0}
 
 -- After the action of a thread that has lent this, its place says what it has lent. A call of the host uses just that.

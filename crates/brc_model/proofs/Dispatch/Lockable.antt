@@ -2,7 +2,7 @@
 use Rattle.std.proofs.Common.{◌≡◌, ℕ, true, false, inl, inr, sym, ap, ◌∙◌}
 use Rattle.brc_lang.specs.declared.kind.Kind.{Kind}
 use Rattle.brc_model.specs.Kinds.{kind_of_word}
-use Rattle.brc_model.specs.VarStates.{is_one_of, lockable}
+use Rattle.brc_model.specs.SlotStates.{is_one_of, lockable}
 use Rattle.brc_model.specs.KnownKinds.{IsTrueKind}
 
 -- If the checker knows that a kind can be locked, the kind word says so.

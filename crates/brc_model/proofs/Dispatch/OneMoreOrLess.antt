@@ -3,10 +3,10 @@ use Rattle.std.proofs.Common.{◌≡◌, ◌≢◌, ℕ, ◌+◌, ◌<◌, Bool,
 use Rattle.std.specs.Prelude.{◌==◌, ◌&&◌, slice_set}
 use Rattle.std.proofs.lemmas.Bool.{eq-eqb}
 use Rattle.std.proofs.lemmas.Bool.Decides.{eqb_tells}
-use Rattle.brc_model.specs.declared.state.VarState.{VarState}
-use Rattle.brc_model.specs.declared.state.VarState.TheVariants.{Empty}
+use Rattle.brc_model.specs.declared.state.Slot.{Slot}
+use Rattle.brc_model.specs.declared.state.Slot.TheVariants.{Empty}
 use Rattle.brc_model.specs.declared.state.State.{State}
-use Rattle.brc_model.specs.VarStates.{var_of, is_owned, names, put, after}
+use Rattle.brc_model.specs.SlotStates.{var_of, is_owned, names, put, after}
 use Rattle.brc_model.specs.declared.duty.Holding.{Holding}
 use Rattle.brc_model.specs.declared.duty.Holding.TheVariants.{ByVariable, AsCaller, InFlight}
 use Rattle.brc_model.specs.AbstractState.{Reference, same_holding}
@@ -18,7 +18,7 @@ use Rattle.brc_model.proofs.Stepping.Counts.{flip_eqb}
 
 -- ---- one reference more or less
 
-abbrev naming : VarState → Option ℕ → ℕ → ℕ
+abbrev naming : Slot → Option ℕ → ℕ → ℕ
 naming var row object = one_if (is_owned var && names row object)
 
 -- The number, if the reference is held by the call's variable.
@@ -44,15 +44,15 @@ same_outside call s after variables rows depth v object apart =
     other_depth call s variables depth v object apart ∙ sym (other_depth call after rows depth v object apart)
 
 -- What the thread is to hold changes by what the variable owned before and owns now.
-changed_says : (call : Activation) (s : State) (variables : List (Option ℕ)) (to : ℕ) (var : VarState)
-    (row : Option ℕ) → to < length s.vars → (k : Holding) (object : ℕ)
+changed_says : (call : Activation) (s : State) (variables : List (Option ℕ)) (to : ℕ) (var : Slot)
+    (row : Option ℕ) → to < length s.slots → (k : Holding) (object : ℕ)
     → one_if (of_variables call s variables k object)
     + of_this call to k (naming var (row_of (slice_set variables to row) to) object)
     ≡ one_if (of_variables call (put s to var) (slice_set variables to row) k object)
     + of_this call to k (naming (var_of s to) (row_of variables to) object)
-changed_says call s variables to var row in_vars AsCaller object = omega arith
-changed_says call s variables to var row in_vars InFlight object = omega arith
-changed_says call s variables to var row in_vars (ByVariable depth v) object =
+changed_says call s variables to var row in_slots AsCaller object = omega arith
+changed_says call s variables to var row in_slots InFlight object = omega arith
+changed_says call s variables to var row in_slots (ByVariable depth v) object =
     let after = put s to var in
     let rows = slice_set variables to row in
     let gained = naming var (row_of rows to) object in
@@ -75,7 +75,7 @@ changed_says call s variables to var row in_vars (ByVariable depth v) object =
           subst (λ (x : ℕ). naming (var_of s x) (row_of variables x) object ≡ lost) this.1 refl in
           let said : naming (var_of after w) (row_of rows w) object ≡ gained =
           subst (λ (x : ℕ). naming (var_of after x) (row_of rows x) object ≡ gained) this.1
-          (ap (λ (x : VarState). naming x (row_of rows to) object) (var_of-put_same s to var in_vars)) in
+          (ap (λ (x : Slot). naming x (row_of rows to) object) (var_of-put_same s to var in_slots)) in
           omega (arith, now, now_left, more, less, before, said)
       | inr other ↦
           let more = on_depth call to w gained ∙ ap (λ (b : Bool). cond b gained 0) other.0 in
@@ -83,7 +83,7 @@ changed_says call s variables to var row in_vars (ByVariable depth v) object =
           let apart : w ≢ to = λ e. other.1 (sym e) in
           let said : naming (var_of after w) (row_of rows w) object
           ≡ naming (var_of s w) (row_of variables w) object =
-          ap (λ (x : VarState). naming x (row_of rows w) object) (var_of-put_other s to w var apart)
+          ap (λ (x : Slot). naming x (row_of rows w) object) (var_of-put_other s to w var apart)
           ∙ ap (λ (x : Option ℕ). naming (var_of s w) x object) (row_of-set_other variables to w row apart) in
           omega (arith, now, now_left, more, less, said)
     ])
@@ -105,39 +105,39 @@ this_none true n none = none
 this_none false n none = refl
 
 -- A variable that owns nothing names nothing.
-names_none : (var : VarState) (row : Option ℕ) (object : ℕ) → is_owned var ≡ false → naming var row object ≡ 0
+names_none : (var : Slot) (row : Option ℕ) (object : ℕ) → is_owned var ≡ false → naming var row object ≡ 0
 names_none var row object free = ap (λ (b : Bool). one_if (b && names row object)) free
 
 -- A variable that owns an object names it.
-names_one : (var : VarState) (o : Option ℕ) (row object : ℕ) → is_owned var ≡ true → o ≡ Some row
+names_one : (var : Slot) (o : Option ℕ) (row object : ℕ) → is_owned var ≡ true → o ≡ Some row
     → naming var o object ≡ one_if (row == object)
 names_one var o row object owned is =
     ap (λ (b : Bool). one_if (b && names o object)) owned ∙ ap (λ (x : Option ℕ). one_if (names x object)) is
     ∙ ap one_if (flip_eqb object row)
 
 -- A variable that owns nothing owns nothing once another one is empty.
-pub still_free : (s : State) (from to : ℕ) → from < length s.vars → is_owned (var_of s to) ≡ false
+pub still_free : (s : State) (from to : ℕ) → from < length s.slots → is_owned (var_of s to) ≡ false
     → is_owned (var_of (put s from Empty) to) ≡ false
-still_free s from to in_vars free =
+still_free s from to in_slots free =
     elim (eqb_tells to from) [
       | inl this ↦
           ap (λ (x : ℕ). is_owned (var_of (put s from Empty) x)) this.1
-          ∙ ap is_owned (var_of-put_same s from Empty in_vars)
+          ∙ ap is_owned (var_of-put_same s from Empty in_slots)
       | inr other ↦ ap is_owned (var_of-put_other s from to Empty other.1) ∙ free
     ]
 
 -- Naming an object by an owning variable adds one reference to what the thread is to hold.
-pub newref_says : (call : Activation) (s : State) (variables : List (Option ℕ)) (to row : ℕ) (var : VarState)
-    → to < length s.vars → to < length variables → is_owned (var_of s to) ≡ false
+pub newref_says : (call : Activation) (s : State) (variables : List (Option ℕ)) (to row : ℕ) (var : Slot)
+    → to < length s.slots → to < length variables → is_owned (var_of s to) ≡ false
     → is_owned var ≡ true → (k : Holding) (object : ℕ)
     → one_if (of_variables call s variables k object)
     + one_if (same_holding (ByVariable call.depth to) k && (row == object))
     ≡ one_if (of_variables call (put s to var) (slice_set variables to (Some row)) k object)
-newref_says call s variables to row var in_vars in_rows free owned k object =
+newref_says call s variables to row var in_slots in_rows free owned k object =
     let rows = slice_set variables to (Some row) in
     omega (
       arith,
-      changed_says call s variables to var (Some row) in_vars k object,
+      changed_says call s variables to var (Some row) in_slots k object,
       ap (of_this call to k) (names_one var (row_of rows to) row object owned
           (row_of-set_same variables to (Some row) in_rows)),
       this_one (same_holding (ByVariable call.depth to) k) (row == object),
@@ -147,30 +147,30 @@ newref_says call s variables to row var in_vars in_rows free owned k object =
 
 -- The bag doesn't have it yet.
 pub newref_held : (bag : List Reference) (t : ℕ) (call : Activation) (s : State) (variables : List (Option ℕ))
-    (to row : ℕ) (var : VarState)
-    → to < length s.vars → to < length variables → is_owned (var_of s to) ≡ false
+    (to row : ℕ) (var : Slot)
+    → to < length s.slots → to < length variables → is_owned (var_of s to) ≡ false
     → is_owned var ≡ true → Holds bag t (of_variables call s variables)
     → (k : Holding) (object : ℕ)
     → held (reference_of t k object) bag + one_if (same_holding (ByVariable call.depth to) k && (row == object))
     ≡ one_if (of_variables call (put s to var) (slice_set variables to (Some row)) k object) + 0
-newref_held bag t call s variables to row var in_vars in_rows free owned holds k object =
+newref_held bag t call s variables to row var in_slots in_rows free owned holds k object =
     omega (
       arith,
       holds.each k object,
-      newref_says call s variables to row var in_vars in_rows free owned k object,
+      newref_says call s variables to row var in_slots in_rows free owned k object,
     )
 
 -- Emptying an owning variable takes one reference from what the thread is to hold.
 pub emptied_says : (call : Activation) (s : State) (variables : List (Option ℕ)) (from row : ℕ)
-    → from < length s.vars → is_owned (var_of s from) ≡ true → row_of variables from ≡ Some row
+    → from < length s.slots → is_owned (var_of s from) ≡ true → row_of variables from ≡ Some row
     → (k : Holding) (object : ℕ)
     → one_if (of_variables call s variables k object)
     ≡ one_if (of_variables call (put s from Empty) (slice_set variables from None) k object)
     + one_if (same_holding (ByVariable call.depth from) k && (row == object))
-emptied_says call s variables from row in_vars owned is k object =
+emptied_says call s variables from row in_slots owned is k object =
     omega (
       arith,
-      changed_says call s variables from Empty None in_vars k object,
+      changed_says call s variables from Empty None in_slots k object,
       this_none (same_holding (ByVariable call.depth from) k) 0 refl,
       ap (of_this call from k) (names_one (var_of s from) (row_of variables from) row object owned is),
       this_one (same_holding (ByVariable call.depth from) k) (row == object),
@@ -179,48 +179,48 @@ emptied_says call s variables from row in_vars owned is k object =
 -- The bag still has it.
 pub emptied_held : (bag : List Reference) (t : ℕ) (call : Activation) (s : State) (variables : List (Option ℕ))
     (from row : ℕ)
-    → from < length s.vars → is_owned (var_of s from) ≡ true → row_of variables from ≡ Some row
+    → from < length s.slots → is_owned (var_of s from) ≡ true → row_of variables from ≡ Some row
     → Holds bag t (of_variables call s variables)
     → (k : Holding) (object : ℕ)
     → held (reference_of t k object) bag + 0
     ≡ one_if (of_variables call (put s from Empty) (slice_set variables from None) k object)
     + one_if (same_holding (ByVariable call.depth from) k && (row == object))
-emptied_held bag t call s variables from row in_vars owned is holds k object =
-    omega (arith, holds.each k object, emptied_says call s variables from row in_vars owned is k object)
+emptied_held bag t call s variables from row in_slots owned is holds k object =
+    omega (arith, holds.each k object, emptied_says call s variables from row in_slots owned is k object)
 
 -- If a variable owns nothing, and from now on names an object that it doesn't own, or none, then what the thread is to
 -- hold doesn't change.
-pub unowned_says : (call : Activation) (s : State) (variables : List (Option ℕ)) (to : ℕ) (var : VarState)
-    (row : Option ℕ) → to < length s.vars → is_owned (var_of s to) ≡ false → is_owned var ≡ false
+pub unowned_says : (call : Activation) (s : State) (variables : List (Option ℕ)) (to : ℕ) (var : Slot)
+    (row : Option ℕ) → to < length s.slots → is_owned (var_of s to) ≡ false → is_owned var ≡ false
     → (k : Holding) (object : ℕ)
     → one_if (of_variables call s variables k object)
     ≡ one_if (of_variables call (put s to var) (slice_set variables to row) k object)
-unowned_says call s variables to var row in_vars free none k object =
+unowned_says call s variables to var row in_slots free none k object =
     let rows = slice_set variables to row in
     omega (
       arith,
-      changed_says call s variables to var row in_vars k object,
+      changed_says call s variables to var row in_slots k object,
       this_none (same_holding (ByVariable call.depth to) k) _ (names_none var (row_of rows to) object none),
       this_none (same_holding (ByVariable call.depth to) k) _
           (names_none (var_of s to) (row_of variables to) object free),
     )
 
 pub unowned_held : (bag : List Reference) (t : ℕ) (call : Activation) (s : State) (variables : List (Option ℕ))
-    (to : ℕ) (var : VarState) (row : Option ℕ)
-    → to < length s.vars → is_owned (var_of s to) ≡ false → is_owned var ≡ false
+    (to : ℕ) (var : Slot) (row : Option ℕ)
+    → to < length s.slots → is_owned (var_of s to) ≡ false → is_owned var ≡ false
     → Holds bag t (of_variables call s variables)
     → (k : Holding) (object : ℕ)
     → held (reference_of t k object) bag
     ≡ one_if (of_variables call (put s to var) (slice_set variables to row) k object)
-unowned_held bag t call s variables to var row in_vars free none holds k object =
-    holds.each k object ∙ unowned_says call s variables to var row in_vars free none k object
+unowned_held bag t call s variables to var row in_slots free none holds k object =
+    holds.each k object ∙ unowned_says call s variables to var row in_slots free none k object
 
 -- So it is if the variable becomes empty.
 pub cleared_held : (bag : List Reference) (t : ℕ) (call : Activation) (s : State) (variables : List (Option ℕ))
     (to : ℕ)
-    → to < length s.vars → is_owned (var_of s to) ≡ false → Holds bag t (of_variables call s variables)
+    → to < length s.slots → is_owned (var_of s to) ≡ false → Holds bag t (of_variables call s variables)
     → (k : Holding) (object : ℕ)
     → held (reference_of t k object) bag
     ≡ one_if (of_variables call (put s to Empty) (slice_set variables to None) k object)
-cleared_held bag t call s variables to in_vars free holds =
-    unowned_held bag t call s variables to Empty None in_vars free refl holds
+cleared_held bag t call s variables to in_slots free holds =
+    unowned_held bag t call s variables to Empty None in_slots free refl holds

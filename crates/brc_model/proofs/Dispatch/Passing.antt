@@ -10,7 +10,7 @@ use Rattle.brc_lang.specs.declared.check_code.CheckCode.TheVariants.{EmptyUsed, 
 use Rattle.brc_model.specs.declared.state.State.{State}
 use Rattle.brc_model.specs.declared.state.Exit.{Exit}
 use Rattle.brc_model.specs.declared.state.Exit.TheVariants.{Success}
-use Rattle.brc_model.specs.VarStates.{applies, rising, lowest, after, target, entry_of}
+use Rattle.brc_model.specs.SlotStates.{applies, rising, lowest, after, target, entry_of}
 use Rattle.brc_model.specs.Paths.{PathEnd, At, Reports, arrives, unless_reported, passes, follow, path_end, IsAcceptableFunction}
 
 -- The instruction breaks no condition.

@@ -19,7 +19,7 @@ use Rattle.brc_model.specs.declared.actor.Context.{Context}
 use Rattle.brc_model.specs.declared.actor.Stage.{Stage}
 use Rattle.brc_model.specs.declared.actor.Stage.TheVariants.{InRange, OutOfRange, Found, Retained, Granted, Loaded, Lent, Called}
 use Rattle.brc_model.specs.declared.duty.Duty.{Duty}
-use Rattle.brc_model.specs.declared.duty.Duty.TheVariants.{KindLoad, LockGate, CellLoad, LendSlot, UnlockGate, ReleaseLoad, Settle}
+use Rattle.brc_model.specs.declared.duty.Duty.TheVariants.{KindLoad, LockGate, CellLoad, LendField, UnlockGate, ReleaseLoad, Settle}
 use Rattle.brc_model.specs.declared.layout.Layout.{Layout}
 use Rattle.brc_model.specs.declared.actor.Actor.{Actor}
 use Rattle.brc_model.specs.Machine.{is_lending, has_room}
@@ -221,7 +221,7 @@ module _ (program : Program) (layout : Layout) (t used : ℕ) where
   inside_room context at variables Granted (Some (Read to file most otherwise)) is has = λ found e. absurd cc
   inside_room context at variables Loaded (Some (Write file number otherwise)) is has =
       row_room program (has_room layout t used) (row_of variables file) _ (λ row.
-      does_none program (has_room layout t used) (LendSlot row) [] (always (Inside context at variables Lent))
+      does_none program (has_room layout t used) (LendField row) [] (always (Inside context at variables Lent))
       (λ found. ap (awaits_inside Lent) is))
   inside_room context at variables Lent (Some (Write file number otherwise)) is has = λ exit.
       silent_none program (has_room layout t used) (Inside context at variables (Called exit))

@@ -1,10 +1,10 @@
 -- What a thread at an instruction of accepted code knows of one variable, and of what it has locked.
 use Rattle.std.proofs.Common.{◌≡◌, ℕ, ◌<◌, true, false, List, Option, Some, refl, ap, arith, ◌∙◌}
 use Rattle.brc_lang.specs.declared.module.Instr.{Instr}
-use Rattle.brc_model.specs.declared.state.VarState.{VarState}
-use Rattle.brc_model.specs.declared.state.VarState.TheVariants.{Empty, Owned, Caller, Locked}
+use Rattle.brc_model.specs.declared.state.Slot.{Slot}
+use Rattle.brc_model.specs.declared.state.Slot.TheVariants.{Empty, Owned, Caller, Locked}
 use Rattle.brc_model.specs.declared.state.State.{State}
-use Rattle.brc_model.specs.VarStates.{var_of, is_empty, is_owned, names}
+use Rattle.brc_model.specs.SlotStates.{var_of, is_empty, is_owned, names}
 use Rattle.brc_model.specs.declared.duty.Holding.{Holding}
 use Rattle.brc_model.specs.declared.duty.Holding.TheVariants.{ByVariable}
 use Rattle.brc_model.specs.declared.duty.Duty.{Duty}
@@ -31,7 +31,7 @@ pub record Named (g : Scene) (row : Option ℕ) : Type 0 where
   pub backs : Backs g object
 
 -- A variable that isn't empty names an object that the thread holds, or an item of the list that it has locked.
-pub named_var : (g : Scene) (call : Activation) (s : State) (rows : List (Option ℕ)) (v : ℕ) (var : VarState)
+pub named_var : (g : Scene) (call : Activation) (s : State) (rows : List (Option ℕ)) (v : ℕ) (var : Slot)
     → var_of s v ≡ var
     → is_empty var ≡ false → IsGrounded call var (row_of rows v) → HoldsVariables g.bag g.thread call s rows
     → HaveItems g.memory g.locked s rows → Named g (row_of rows v)

@@ -5,8 +5,8 @@ use Rattle.std.specs.List.{list_any, slice_index_or}
 use Rattle.std.proofs.lemmas.Bool.{eq-eqb, ne_eqb}
 use Rattle.std.proofs.lemmas.Bool.Decides.{eqb_tells}
 use Rattle.std.proofs.lemmas.List.{get_or_past}
-use Rattle.brc_model.specs.declared.state.VarState.{VarState}
-use Rattle.brc_model.specs.declared.state.VarState.TheVariants.{Empty, Owned, Caller, Locked}
+use Rattle.brc_model.specs.declared.state.Slot.{Slot}
+use Rattle.brc_model.specs.declared.state.Slot.TheVariants.{Empty, Owned, Caller, Locked}
 use Rattle.brc_model.specs.declared.state.State.{State}
 use Rattle.brc_model.specs.declared.actor.OpenCall.{OpenCall}
 use Rattle.brc_model.specs.declared.duty.Holding.{Holding}
@@ -14,7 +14,7 @@ use Rattle.brc_model.specs.declared.duty.Holding.TheVariants.{ByVariable, AsCall
 use Rattle.brc_model.specs.AbstractState.{same_holding}
 use Rattle.brc_model.specs.References.{one_if}
 use Rattle.brc_model.specs.Accounts.{IsBounded}
-use Rattle.brc_model.specs.VarStates.{var_of, is_owned, names}
+use Rattle.brc_model.specs.SlotStates.{var_of, is_owned, names}
 use Rattle.brc_model.specs.Threads.{row_of}
 use Rattle.brc_model.specs.Actions.{owned_rows, owned_by, row_locked, holds_some, first_named, given_up, waiting_state}
 use Rattle.brc_model.specs.declared.layout.Layout.{Layout}
@@ -99,47 +99,47 @@ names_none true = refl
 names_none false = refl
 
 -- Of the variables those name a row that own a reference.
-owned_names : (vars : List VarState) (rows : List (Option ℕ)) (v object : ℕ)
-    → names (row_of (owned_rows vars rows) v) object
-    ≡ (is_owned (slice_index_or vars v Empty) && names (row_of rows v) object)
+owned_names : (slots : List Slot) (rows : List (Option ℕ)) (v object : ℕ)
+    → names (row_of (owned_rows slots rows) v) object
+    ≡ (is_owned (slice_index_or slots v Empty) && names (row_of rows v) object)
 owned_names [] rows v object = refl
-owned_names (var ∷ vars) [] v object = sym (names_none (is_owned (slice_index_or (var ∷ vars) v Empty)))
-owned_names (var ∷ vars) (row ∷ rows) zero object =
+owned_names (var ∷ slots) [] v object = sym (names_none (is_owned (slice_index_or (var ∷ slots) v Empty)))
+owned_names (var ∷ slots) (row ∷ rows) zero object =
     elim (is_owned var) as (λ b. names (cond b row None) object ≡ (b && names row object)) [
       | true ↦ refl
       | false ↦ refl
     ]
-owned_names (var ∷ vars) (row ∷ rows) (suc v) object = owned_names vars rows v object
+owned_names (var ∷ slots) (row ∷ rows) (suc v) object = owned_names slots rows v object
 
 same_both : (b : Bool) (none : Option ℕ) → cond b none none ≡ none
 same_both true none = refl
 same_both false none = refl
 
 -- A variable's row is given up exactly if the variable owns a reference.
-owned_at : (vars : List VarState) (rows : List (Option ℕ)) (v : ℕ)
-    → row_of (owned_rows vars rows) v ≡ cond (is_owned (slice_index_or vars v Empty)) (row_of rows v) None
+owned_at : (slots : List Slot) (rows : List (Option ℕ)) (v : ℕ)
+    → row_of (owned_rows slots rows) v ≡ cond (is_owned (slice_index_or slots v Empty)) (row_of rows v) None
 owned_at [] rows v = refl
-owned_at (var ∷ vars) [] v = sym (same_both (is_owned (slice_index_or (var ∷ vars) v Empty)) None)
-owned_at (var ∷ vars) (row ∷ rows) zero = refl
-owned_at (var ∷ vars) (row ∷ rows) (suc v) = owned_at vars rows v
+owned_at (var ∷ slots) [] v = sym (same_both (is_owned (slice_index_or (var ∷ slots) v Empty)) None)
+owned_at (var ∷ slots) (row ∷ rows) zero = refl
+owned_at (var ∷ slots) (row ∷ rows) (suc v) = owned_at slots rows v
 
 owned_either : (b : Bool) (row : Option ℕ) (x : ℕ) → (cond b row None ≡ Some x) ↔ ((b ≡ true) × (row ≡ Some x))
 owned_either true row x = (λ e. (refl, e), λ e. e.1)
 owned_either false row x = (λ e. absurd (none_some x e), λ e. absurd cc)
 
-pub owned_exactly : (vars : List VarState) (rows : List (Option ℕ)) (v x : ℕ)
-    → (row_of (owned_rows vars rows) v ≡ Some x)
-    ↔ ((is_owned (slice_index_or vars v Empty) ≡ true) × (row_of rows v ≡ Some x))
-owned_exactly vars rows v x =
-    subst (λ (o : Option ℕ). (o ≡ Some x) ↔ ((is_owned (slice_index_or vars v Empty) ≡ true)
+pub owned_exactly : (slots : List Slot) (rows : List (Option ℕ)) (v x : ℕ)
+    → (row_of (owned_rows slots rows) v ≡ Some x)
+    ↔ ((is_owned (slice_index_or slots v Empty) ≡ true) × (row_of rows v ≡ Some x))
+owned_exactly slots rows v x =
+    subst (λ (o : Option ℕ). (o ≡ Some x) ↔ ((is_owned (slice_index_or slots v Empty) ≡ true)
     × (row_of rows v ≡ Some x)))
-    (sym (owned_at vars rows v)) (owned_either (is_owned (slice_index_or vars v Empty)) (row_of rows v) x)
+    (sym (owned_at slots rows v)) (owned_either (is_owned (slice_index_or slots v Empty)) (row_of rows v) x)
 
 -- No more rows are given up than there are variables.
-pub owned_long : (vars : List VarState) (rows : List (Option ℕ)) → length (owned_rows vars rows) ≤ length rows
+pub owned_long : (slots : List Slot) (rows : List (Option ℕ)) → length (owned_rows slots rows) ≤ length rows
 owned_long [] rows = omega arith
-owned_long (var ∷ vars) [] = omega arith
-owned_long (var ∷ vars) (row ∷ rows) = let rest = owned_long vars rows in omega (arith, rest)
+owned_long (var ∷ slots) [] = omega arith
+owned_long (var ∷ slots) (row ∷ rows) = let rest = owned_long slots rows in omega (arith, rest)
 
 -- Each open call gives up what its variables own.
 given_length : (program : Program) (outer : List OpenCall)
@@ -153,17 +153,17 @@ stop_says_by : (program : Program) (outer : List OpenCall) (s : State) (variable
     ≡ of_stopped (given_up program.functions program.states program.first outer) k object)
     → (k : Holding) (object : ℕ)
     → of_variables (activation program outer) s variables k object
-    ≡ of_stopped (owned_rows s.vars variables ∷ given_up program.functions program.states program.first outer) k object
+    ≡ of_stopped (owned_rows s.slots variables ∷ given_up program.functions program.states program.first outer) k object
 stop_says_by program outer s variables further AsCaller object = further AsCaller object
 stop_says_by program outer s variables further InFlight object = refl
 stop_says_by program outer s variables further (ByVariable depth v) object =
     let call = activation program outer in
-    let rows = owned_rows s.vars variables in
+    let rows = owned_rows s.slots variables in
     let given = given_up program.functions program.states program.first outer in
     let deep : length given ≡ length outer = given_length program outer in
     by_depth call (λ k. of_variables call s variables k object ≡ of_stopped (rows ∷ given) k object)
     (λ w.
-    own_depth call s variables w object ∙ sym (owned_names s.vars variables w object)
+    own_depth call s variables w object ∙ sym (owned_names s.slots variables w object)
     ∙ sym (ap (λ (l : List (Option ℕ)). names (row_of l w) object)
     (subst (λ (d : ℕ). rows_at (rows ∷ given) d ≡ rows) deep (rows_here rows given))))
     (λ d w apart.
@@ -192,16 +192,16 @@ outer_says program (o ∷ outer) k object =
 pub stop_says : (program : Program) (outer : List OpenCall) (s : State) (variables : List (Option ℕ)) (k : Holding)
     (object : ℕ)
     → of_variables (activation program outer) s variables k object
-    ≡ of_stopped (owned_rows s.vars variables ∷ given_up program.functions program.states program.first outer) k object
+    ≡ of_stopped (owned_rows s.slots variables ∷ given_up program.functions program.states program.first outer) k object
 stop_says program outer s variables k object =
     stop_says_by program outer s variables (outer_says program outer) k object
 
 -- What a stopped thread has to unlock it holds: its own variable owns it, or it is held further out.
 stop_holds : (program : Program) (outer : List OpenCall) (s : State) (variables : List (Option ℕ)) (c x : ℕ)
-    (var : VarState)
+    (var : Slot)
     → var_of s c ≡ var → is_kept var ≡ true → row_of variables c ≡ Some x
     → IsGrounded (activation program outer) var (row_of variables c)
-    → (by : Holding) × (of_stopped (owned_rows s.vars variables
+    → (by : Holding) × (of_stopped (owned_rows s.slots variables
     ∷ given_up program.functions program.states program.first outer) by x ≡ true)
 stop_holds program outer s variables c x Empty is kept named grounded = absurd cc
 stop_holds program outer s variables c x (Owned k) is kept named grounded =
@@ -209,7 +209,7 @@ stop_holds program outer s variables c x (Owned k) is kept named grounded =
     let by = ByVariable (length outer) c in (
       by,
       sym (stop_says program outer s variables by x) ∙ own_depth call s variables c x
-          ∙ ap (λ (var : VarState). is_owned var && names (row_of variables c) x) is
+          ∙ ap (λ (var : Slot). is_owned var && names (row_of variables c) x) is
           ∙ ap (λ (row : Option ℕ). names row x) named ∙ eq-eqb x x refl,
     )
 stop_holds program outer s variables c x (Caller k) is kept named grounded =
@@ -225,7 +225,7 @@ stop_holds program outer s variables c x (Locked k) is kept named grounded = abs
 stop_held : (program : Program) (outer : List OpenCall) (at : ℕ) (s : State) (variables : List (Option ℕ))
     (o locked : Option ℕ) → IsInside (activation program outer) at variables s → Guards s variables o locked → (x : ℕ)
     → row_locked o variables ≡ Some x
-    → (by : Holding) × (of_stopped (owned_rows s.vars variables
+    → (by : Holding) × (of_stopped (owned_rows s.slots variables
     ∷ given_up program.functions program.states program.first outer) by x ≡ true)
 stop_held program outer at s variables None locked inside guards x is = absurd (none_some x is)
 stop_held program outer at s variables (Some c) locked inside guards x is =
@@ -234,7 +234,7 @@ stop_held program outer at s variables (Some c) locked inside guards x is =
 -- A call gives up no more rows than it has variables.
 owned_few : (o : Option State) (rows : List (Option ℕ)) → length rows ≤ 16 → length (owned_by o rows) ≤ 16
 owned_few None rows few = omega arith
-owned_few (Some s) rows few = omega (arith, owned_long s.vars rows, few)
+owned_few (Some s) rows few = omega (arith, owned_long s.slots rows, few)
 
 -- One more call gives up no more rows than it has variables.
 rows_few : (rows : List (Option ℕ)) (outer : List (List (Option ℕ))) (depth : ℕ) → length rows ≤ 16
@@ -258,12 +258,12 @@ given_few program (o ∷ outer) depth opened =
 pub stop_stopped : (program : Program) (outer : List OpenCall) (at : ℕ) (s : State) (variables : List (Option ℕ))
     (locked : Option ℕ) → IsInside (activation program outer) at variables s → LocksAgree s variables locked
     → IsStopped (row_locked s.locked variables)
-    (owned_rows s.vars variables ∷ given_up program.functions program.states program.first outer)
+    (owned_rows s.slots variables ∷ given_up program.functions program.states program.first outer)
 stop_stopped program outer at s variables locked inside guards = record {
   few = omega (arith, given_length program outer, inside.is_call.shallow);
   rows = λ depth.
-      rows_few (owned_rows s.vars variables) (given_up program.functions program.states program.first outer) depth
-      (omega (arith, owned_long s.vars variables, inside.rows)) (given_few program outer depth
+      rows_few (owned_rows s.slots variables) (given_up program.functions program.states program.first outer) depth
+      (omega (arith, owned_long s.slots variables, inside.rows)) (given_few program outer depth
       inside.is_call.open_calls);
   lock_held = stop_held program outer at s variables s.locked locked inside guards;
 }

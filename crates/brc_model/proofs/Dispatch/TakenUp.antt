@@ -46,7 +46,7 @@ later_follows layout t used place rest (Nothing stays) = refl
 later_follows layout t used place rest (Settles stays) = refl
 later_follows layout t used place rest (Exits leaves) = (refl, refl, refl)
 
--- The duties behind the first one have to know nothing.
+-- The duties after the first one have to know nothing.
 follows_behind : (m : Machine) (t : ℕ) (layout : Layout) (used : ℕ) (place : Place) (rest : List Duty)
     → MayFollow layout t used place rest → AllBehind m t rest
 follows_behind m t layout used place rest (Nothing stays) = tt
@@ -82,7 +82,7 @@ begun_light g place d rest starts follows =
     ap (λ (b : Bool). b || list_any weighs_any rest) (starts_light g d rest starts)
     ∙ follows_light g.layout g.thread g.used place rest follows
 
--- The duties behind the first one weigh nothing.
+-- The duties after the first one weigh nothing.
 follows_weigh : (layout : Layout) (t used : ℕ) (place : Place) (rest : List Duty) (f : Duty → ℕ) → f Settle ≡ 0
     → ((x k : ℕ) → f (Leave x k) ≡ 0) → MayFollow layout t used place rest → sum_by f rest ≡ 0
 follows_weigh layout t used place rest f settle leave (Nothing stays) = refl
@@ -169,7 +169,7 @@ module _ {p : Accounts} {n : ℕ} {m : Machine} {t : ℕ} {a : Actor} where
         light = begun_light g place d rest starts follows;
       }
 
--- Nothing behind the first duty locks or unlocks.
+-- No duty after the first locks or unlocks.
 pub follows_plain : (layout : Layout) (t used : ℕ) (place : Place) (rest : List Duty)
     → MayFollow layout t used place rest → sum_by at_once rest ≡ 0
 follows_plain layout t used place rest follows =

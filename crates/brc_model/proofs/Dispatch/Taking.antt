@@ -5,10 +5,10 @@ use Rattle.std.specs.List.{list_any}
 use Rattle.std.proofs.lemmas.List.{length-set}
 use Rattle.brc_lang.specs.declared.module.Instr.{Instr}
 use Rattle.brc_lang.specs.declared.module.Instr.TheVariants.{Num, List as ListObject, NoneObject, Take, Newref, Move as MoveReference, Drop, Lock, Unlock, Borrow, Fetch, Set, Put, Goto, Again, Ret, Fail, As, Open, Connect, Read, Write, Call}
-use Rattle.brc_model.specs.declared.state.VarState.TheVariants.{Empty, Owned}
+use Rattle.brc_model.specs.declared.state.Slot.TheVariants.{Empty, Owned}
 use Rattle.brc_model.specs.declared.state.State.{State}
 use Rattle.brc_model.specs.declared.state.Exit.TheVariants.{Success}
-use Rattle.brc_model.specs.VarStates.{var_of, is_empty, is_owned, kind_of, put, names, entry_of}
+use Rattle.brc_model.specs.SlotStates.{var_of, is_empty, is_owned, kind_of, put, names, entry_of}
 use Rattle.brc_model.specs.declared.duty.Holding.{Holding}
 use Rattle.brc_model.specs.declared.duty.Holding.TheVariants.{ByVariable, AsCaller, InFlight}
 use Rattle.brc_model.specs.AbstractState.{Reference, same_holding}
@@ -63,7 +63,7 @@ module _ {program : Program} {g : Scene} {before : Place} {context : Context} {a
       let some : is_empty (var_of s from) ≡ false = first_false _ _ here.met.not_empty in
       let free : is_owned (var_of s to) ≡ false = first_false _ _ here.met.free in
       let live = named_at program context g before at variables s (Newref to from) from here some in
-      let in_vars : to < length s.vars = omega (arith, here.variables.0, here.inside.vars) in
+      let in_slots : to < length s.slots = omega (arith, here.variables.0, here.inside.slots) in
       let in_rows : to < length variables = omega (arith, here.variables.0, here.inside.rows) in
       let var = Owned (kind_of (var_of s from)) in
       let next : IsInside (call_of program context) (at + 1) (slice_set variables to (Some live.object))
@@ -72,17 +72,17 @@ module _ {program : Program} {g : Scene} {before : Place} {context : Context} {a
         is_call = here.inside.is_call;
         exits = here.inside.exits ++ Success ∷ [];
         arrived = here.leads Success (at + 1) refl;
-        vars = length-set s.vars to var ∙ here.inside.vars;
+        slots = length-set s.slots to var ∙ here.inside.slots;
         rows = length-set variables to (Some live.object) ∙ here.inside.rows;
         grounded =
-            grounded-put (call_of program context) s variables to var (Some live.object) in_vars in_rows
+            grounded-put (call_of program context) s variables to var (Some live.object) in_slots in_rows
             (live.object, refl) here.inside.grounded;
       } in
       let held_now : HoldsAlone g.bag g.thread
       (once_each (of_variables (call_of program context) (put s to var) (slice_set variables to (Some live.object))))
       (RetainLoad live.object (by_variable context to) ∷ []) =
       record {
-        each = newref_held g.bag g.thread (call_of program context) s variables to live.object var in_vars in_rows
+        each = newref_held g.bag g.thread (call_of program context) s variables to live.object var in_slots in_rows
             free refl here.holds;
       } in
       let taken : (found : ℕ) → Taken program g found (InCall context (at + 1)
@@ -110,23 +110,23 @@ module _ {program : Program} {g : Scene} {before : Place} {context : Context} {a
       let owned = owned_var (var_of s from) (first_false _ _ here.met.not_empty) (first_false _ _ here.met.owned) in
       let row = owned_row (call_of program context) (var_of s from) (row_of variables from) owned
       (here.inside.grounded from) in
-      let in_vars : from < length s.vars = omega (arith, here.variables, here.inside.vars) in
+      let in_slots : from < length s.slots = omega (arith, here.variables, here.inside.slots) in
       let in_rows : from < length variables = omega (arith, here.variables, here.inside.rows) in
       let next : IsInside (call_of program context) (at + 1) (slice_set variables from None) (put s from Empty) =
       record {
         is_call = here.inside.is_call;
         exits = here.inside.exits ++ Success ∷ [];
         arrived = here.leads Success (at + 1) refl;
-        vars = length-set s.vars from Empty ∙ here.inside.vars;
+        slots = length-set s.slots from Empty ∙ here.inside.slots;
         rows = length-set variables from None ∙ here.inside.rows;
-        grounded = grounded-put (call_of program context) s variables from Empty None in_vars in_rows tt
+        grounded = grounded-put (call_of program context) s variables from Empty None in_slots in_rows tt
             here.inside.grounded;
       } in
       let held_now : HoldsAlone g.bag g.thread (once_each (of_variables (call_of program context) (put s from Empty)
       (slice_set variables from None)))
       (ReleaseLoad row.0 (by_variable context from) ∷ Settle ∷ []) =
       record {
-        each = emptied_held g.bag g.thread (call_of program context) s variables from row.0 in_vars owned row.1
+        each = emptied_held g.bag g.thread (call_of program context) s variables from row.0 in_slots owned row.1
             here.holds;
       } in
       let free : names s.locked from ≡ false = first_false _ _ here.met.unlocked in
@@ -164,12 +164,12 @@ module _ {program : Program} {g : Scene} {before : Place} {context : Context} {a
       let owned = owned_var (var_of s from) (first_false _ _ here.met.not_empty) (first_false _ _ here.met.owned) in
       let row = owned_row (call_of program context) (var_of s from) (row_of variables from) owned
       (here.inside.grounded from) in
-      let in_vars : from < length s.vars = omega (arith, here.variables, here.inside.vars) in
-      let none : list_any is_owned (put s from Empty).vars ≡ false = first_false _ _ here.met.none_left in
+      let in_slots : from < length s.slots = omega (arith, here.variables, here.inside.slots) in
+      let none : list_any is_owned (put s from Empty).slots ≡ false = first_false _ _ here.met.none_left in
       taken_with_row program g row.0 (row_of variables from)
       (λ r. ret_action g.thread context.left from r context.outer) row.1
       (ret_by program g context.left from row.0 context.outer s variables
-      (ends (Ret from) here (first_false _ _ here.met.no_lock_left)) in_vars owned row.1 none)
+      (ends (Ret from) here (first_false _ _ here.met.no_lock_left)) in_slots owned row.1 none)
 
   -- ---- each instruction
 
@@ -250,7 +250,7 @@ in_call_taken program g before context at variables s sound inside guards holds 
     (dispatch_instruction g.layout g.thread g.used before context at variables o))
     (sym on.found) (instruction_taken on.here here)
 
--- Inside an instruction the state before it still stands.
+-- Inside an instruction the state before it is still true.
 inside_call_taken : (program : Program) (g : Scene) (context : Context) (at : ℕ) (variables : List (Option ℕ))
     (stage : Stage) → IsSound program
     → PlaceFits program g.bag g.thread [] g.locked (Inside context at variables stage)

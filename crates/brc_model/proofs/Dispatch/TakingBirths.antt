@@ -8,11 +8,11 @@ use Rattle.brc_lang.specs.declared.kind.Kind.{Kind}
 use Rattle.brc_lang.specs.declared.kind.Kind.TheVariants as kinds
 use Rattle.brc_lang.specs.Limits.{variable_count}
 use Rattle.brc_word.specs.Words.{half, kind_part, argument_part}
-use Rattle.brc_model.specs.declared.state.VarState.{VarState}
-use Rattle.brc_model.specs.declared.state.VarState.TheVariants.{Empty, Owned}
+use Rattle.brc_model.specs.declared.state.Slot.{Slot}
+use Rattle.brc_model.specs.declared.state.Slot.TheVariants.{Empty, Owned}
 use Rattle.brc_model.specs.declared.state.State.{State}
 use Rattle.brc_model.specs.declared.state.Exit.TheVariants.{Success, Fault}
-use Rattle.brc_model.specs.VarStates.{var_of, is_owned, put, names}
+use Rattle.brc_model.specs.SlotStates.{var_of, is_owned, put, names}
 use Rattle.brc_model.specs.Paths.{At, path_end}
 use Rattle.brc_model.specs.declared.duty.Duty.TheVariants.{BirthKind}
 use Rattle.brc_model.specs.declared.actor.Place.{Place}
@@ -94,23 +94,23 @@ pub born : (program : Program) (g : Scene) (context : Context) (at : ℕ) (varia
     (BirthKind (row_at g.layout g.thread g.used) (by_variable context to) word) []
 born program g context at variables s to word otherwise kind here room found =
     let row = row_at g.layout g.thread g.used in
-    let var : VarState = Owned kind in
-    let in_vars : to < length s.vars = omega (arith, here.variable, here.inside.vars) in
+    let var : Slot = Owned kind in
+    let in_slots : to < length s.slots = omega (arith, here.variable, here.inside.slots) in
     let in_rows : to < length variables = omega (arith, here.variable, here.inside.rows) in
     let next : IsInside (call_of program context) (at + 1) (slice_set variables to (Some row)) (put s to var) = record {
       is_call = here.inside.is_call;
       exits = here.inside.exits ++ Success ∷ [];
       arrived = here.owned_next;
-      vars = length-set s.vars to var ∙ here.inside.vars;
+      slots = length-set s.slots to var ∙ here.inside.slots;
       rows = length-set variables to (Some row) ∙ here.inside.rows;
-      grounded = grounded-put (call_of program context) s variables to var (Some row) in_vars in_rows (row, refl)
+      grounded = grounded-put (call_of program context) s variables to var (Some row) in_slots in_rows (row, refl)
           here.inside.grounded;
     } in
     let held_now : HoldsAlone g.bag g.thread (once_each (of_variables (call_of program context) (put s to var)
     (slice_set variables to (Some row))))
     (BirthKind row (by_variable context to) word ∷ []) =
     record {
-      each = newref_held g.bag g.thread (call_of program context) s variables to row var in_vars in_rows
+      each = newref_held g.bag g.thread (call_of program context) s variables to row var in_slots in_rows
           here.free refl here.holds;
     } in
     record {
@@ -135,19 +135,19 @@ pub refused : (program : Program) (g : Scene) (context : Context) (at : ℕ) (va
     otherwise (put s to Empty)
     → SilentTaken program g [] (InCall context otherwise (slice_set variables to None))
 refused program g context at variables s to otherwise inside holds guards unlocked low free arrived =
-    let in_vars : to < length s.vars = omega (arith, low, inside.vars) in
+    let in_slots : to < length s.slots = omega (arith, low, inside.slots) in
     let in_rows : to < length variables = omega (arith, low, inside.rows) in
     let next : IsInside (call_of program context) otherwise (slice_set variables to None) (put s to Empty) = record {
       is_call = inside.is_call;
       exits = inside.exits ++ Fault ∷ [];
       arrived = arrived;
-      vars = length-set s.vars to Empty ∙ inside.vars;
+      slots = length-set s.slots to Empty ∙ inside.slots;
       rows = length-set variables to None ∙ inside.rows;
-      grounded = grounded-put (call_of program context) s variables to Empty None in_vars in_rows tt inside.grounded;
+      grounded = grounded-put (call_of program context) s variables to Empty None in_slots in_rows tt inside.grounded;
     } in
     let cleared : Holds g.bag g.thread (of_variables (call_of program context) (put s to Empty)
     (slice_set variables to None)) =
-    record { each = cleared_held g.bag g.thread (call_of program context) s variables to in_vars free holds } in
+    record { each = cleared_held g.bag g.thread (call_of program context) s variables to in_slots free holds } in
     record {
       moves_fit = Stays;
       placed = (

@@ -11,10 +11,10 @@ use Rattle.brc_lang.specs.declared.parameter.Argument.{Argument}
 use Rattle.brc_lang.specs.declared.parameter.Parameter.{Parameter}
 use Rattle.brc_lang.specs.declared.parameter.Passing.{Passing}
 use Rattle.brc_lang.specs.declared.parameter.Passing.TheVariants.{Borrow, Steal}
-use Rattle.brc_model.specs.declared.state.VarState.{VarState}
-use Rattle.brc_model.specs.declared.state.VarState.TheVariants.{Empty, Owned, Caller, Locked}
+use Rattle.brc_model.specs.declared.state.Slot.{Slot}
+use Rattle.brc_model.specs.declared.state.Slot.TheVariants.{Empty, Owned, Caller, Locked}
 use Rattle.brc_model.specs.declared.state.State.{State}
-use Rattle.brc_model.specs.VarStates.{var_of, is_empty, is_owned, names, put, steals, is_stolen, stolen, without_stolen, padded, parameter_var, passed_var, entry_of}
+use Rattle.brc_model.specs.SlotStates.{var_of, is_empty, is_owned, names, put, steals, is_stolen, stolen, without_stolen, padded, parameter_var, passed_var, entry_of}
 use Rattle.brc_model.specs.Paths.{At}
 use Rattle.brc_model.specs.declared.duty.Holding.{Holding}
 use Rattle.brc_model.specs.declared.duty.Holding.TheVariants.{ByVariable, AsCaller, InFlight}
@@ -116,16 +116,16 @@ entry_names (suc v) rows arguments object few = own_passed 15 v rows arguments o
 -- After it they hold what they own, and the waiting call what it has kept.
 both_after : (program : Program) (outer : List OpenCall) (o : OpenCall) (rows : List (Option ℕ))
     → (waits : IsWaiting (activation program outer) o) → o.variables ≡ kept_rows rows waits.arguments o.to
-    → length waits.arguments ≤ 15 → length (without_stolen waits.state waits.arguments).vars ≡ 16
+    → length waits.arguments ≤ 15 → length (without_stolen waits.state waits.arguments).slots ≡ 16
     → is_owned (var_of (without_stolen waits.state waits.arguments) o.to) ≡ false → (k : Holding) (object : ℕ)
     → one_if (of_both (activation program outer) (without_stolen waits.state waits.arguments)
     (fold without_row rows (stolen waits.arguments)) (None ∷ map (given rows) waits.arguments) k object)
     ≡ one_if (of_variables (activation program (o ∷ outer))
     (entry_of (map (λ a. a.parameter) waits.arguments)) (passed_variables rows waits.arguments) k object)
-both_after program outer o rows waits kept few vars free AsCaller object =
+both_after program outer o rows waits kept few slots free AsCaller object =
     ap (λ (holds : Holding → ℕ → Bool). one_if (holds AsCaller object)) (sym (outside_is program outer o waits))
-both_after program outer o rows waits kept few vars free InFlight object = refl
-both_after program outer o rows waits kept few vars free (ByVariable depth v) object =
+both_after program outer o rows waits kept few slots free InFlight object = refl
+both_after program outer o rows waits kept few slots free (ByVariable depth v) object =
     let call = activation program outer in
     let callee = activation program (o ∷ outer) in
     let s = without_stolen waits.state waits.arguments in
@@ -143,7 +143,7 @@ both_after program outer o rows waits kept few vars free (ByVariable depth v) ob
       | inr apart ↦
           ap one_if (ap (λ (b : Bool). cond b (names (row_of own v) object)
           (of_variables call s left (ByVariable depth v) object)) apart.0)
-          ∙ unowned_says call s left o.to Empty None (omega (arith, waits.low, vars)) free refl (ByVariable depth v)
+          ∙ unowned_says call s left o.to Empty None (omega (arith, waits.low, slots)) free refl (ByVariable depth v)
           object
           ∙ ap (λ (l : List (Option ℕ)). one_if (of_variables call (put s o.to Empty) l (ByVariable depth v) object))
           (sym kept)
@@ -171,7 +171,7 @@ module _ {program : Program} {outer : List OpenCall} {o : OpenCall} (rows : List
     (free : is_owned (var_of waits.state o.to) ≡ false)
     (items : (v x : ℕ) → borrows_item (var_of waits.state v) ≡ true → row_of rows v ≡ Some x → ⊥) where
   -- What a borrowed argument's variable names is held by the variable, or further out.
-  borrowed_held : (a : Argument) (x : ℕ) (var : VarState) → var_of waits.state a.from ≡ var → is_empty var ≡ false
+  borrowed_held : (a : Argument) (x : ℕ) (var : Slot) → var_of waits.state a.from ≡ var → is_empty var ≡ false
       → row_of rows a.from ≡ Some x → IsGrounded (activation program outer) var (row_of rows a.from)
       → IsKeptBy waits.arguments a.from → IsHeldOutside (activation program (o ∷ outer)) x
   borrowed_held a x Empty is some named grounded apart = absurd cc
@@ -193,7 +193,7 @@ module _ {program : Program} {outer : List OpenCall} {o : OpenCall} (rows : List
             ap (λ (holds : Holding → ℕ → Bool). holds (ByVariable (length outer) a.from) x)
             (outside_is program outer o waits)
             ∙ own_depth call (put s o.to Empty) o.variables a.from x
-            ∙ ap (λ (var : VarState). is_owned var && names (row_of o.variables a.from) x) var_is
+            ∙ ap (λ (var : Slot). is_owned var && names (row_of o.variables a.from) x) var_is
             ∙ ap (λ (row : Option ℕ). names row x) row_is ∙ eq-eqb x x refl;
       }
   borrowed_held a x (Caller k) is some named grounded apart =
@@ -268,7 +268,7 @@ module _ {program : Program} {g : Scene} {before : Place} {context : Context} {a
   fits = here.sound.calls (number_of program context.outer) at to callee otherwise arguments there here.found
 
   sixteen : AreSixteen s variables
-  sixteen = record { vars = here.inside.vars; named = here.inside.rows }
+  sixteen = record { slots = here.inside.slots; named = here.inside.rows }
 
   -- What the waiting call's state says of its variables is true.
   waiting_grounded : (v : ℕ)
@@ -276,7 +276,7 @@ module _ {program : Program} {g : Scene} {before : Place} {context : Context} {a
   waiting_grounded =
       (left_keeps (λ state rows. (v : ℕ) → IsGrounded (call_of program context) (var_of state v) (row_of rows v))
       (λ state rows x all low grounded.
-      grounded-put (call_of program context) state rows x Empty None (omega (arith, low, all.vars))
+      grounded-put (call_of program context) state rows x Empty None (omega (arith, low, all.slots))
       (omega (arith, low, all.named)) tt grounded)
       s variables arguments made here.variables.3 here.variables.0 sixteen here.inside.grounded).1
 
@@ -285,7 +285,7 @@ module _ {program : Program} {g : Scene} {before : Place} {context : Context} {a
   waiting_items =
       (left_keeps (HaveItems g.memory g.locked)
       (λ state rows x all low items.
-      items_put g.memory g.locked state rows x Empty None (omega (arith, low, all.vars))
+      items_put g.memory g.locked state rows x Empty None (omega (arith, low, all.slots))
       (omega (arith, low, all.named)) (needs_none g.memory g.locked Empty None refl) items)
       s variables arguments made here.variables.3 here.variables.0 sixteen here.items).1
 
@@ -312,7 +312,7 @@ module _ {program : Program} {g : Scene} {before : Place} {context : Context} {a
         known = here.sound.states_true number at s there
             (record { exits = here.inside.exits; reaches = here.inside.arrived });
         low = here.variables.0;
-        vars = kept.vars;
+        slots = kept.slots;
         rows = kept.named;
         unlocked = met.unlocked;
         grounded = waiting_grounded;
@@ -339,7 +339,7 @@ module _ {program : Program} {g : Scene} {before : Place} {context : Context} {a
     is_call = is_activation program (made ∷ context.outer) opened;
     exits = [];
     arrived = ap (λ (ps : List Parameter). At 0 (entry_of ps)) (sym fits.same);
-    vars = entry_length (map (λ a. a.parameter) arguments);
+    slots = entry_length (map (λ a. a.parameter) arguments);
     rows = passed_length variables arguments;
     grounded =
         passed_each (IsGrounded (activation program (made ∷ context.outer)))
@@ -369,11 +369,11 @@ module _ {program : Program} {g : Scene} {before : Place} {context : Context} {a
       (passed_variables variables arguments) in
       let moves = handed_rows g.thread (depth_of context) variables 1 arguments in
       let few : length arguments ≤ 15 = omega (arith, here.variables.2) in
-      let vars : length (without_stolen s arguments).vars ≡ 16 =
+      let slots : length (without_stolen s arguments).slots ≡ 16 =
       (emptied_keeps (λ state rows. Unit {0}) (λ state rows x all low any. tt) s variables (stolen arguments)
-      (stolen_low arguments here.variables.3) sixteen tt).0.vars in
+      (stolen_low arguments here.variables.3) sixteen tt).0.slots in
       let free : is_owned (var_of (without_stolen s arguments) to) ≡ false =
-      still_unowned s (stolen arguments) to (stolen_low arguments here.variables.3) here.inside.vars met.free in
+      still_unowned s (stolen arguments) to (stolen_low arguments here.variables.3) here.inside.slots met.free in
       let taken : SilentTaken program g moves place = record {
         moves_fit = handing.moves_fit g.layout;
         placed = (
@@ -383,7 +383,7 @@ module _ {program : Program} {g : Scene} {before : Place} {context : Context} {a
           holds_at_none _ g.thread _ (record {
             each = λ k object.
                 handing.holds.each k object
-                ∙ both_after program context.outer made variables waits refl few vars free k object;
+                ∙ both_after program context.outer made variables waits refl few slots free k object;
           }),
         );
         stays = in_call_stays _ 0 (passed_variables variables arguments);

@@ -6,11 +6,11 @@ use Rattle.std.specs.List.{list_any}
 use Rattle.std.proofs.lemmas.List.{length-set}
 use Rattle.brc_lang.specs.declared.kind.Kind.TheVariants as kinds
 use Rattle.brc_lang.specs.declared.module.Instr.TheVariants.{Call}
-use Rattle.brc_model.specs.declared.state.VarState.{VarState}
-use Rattle.brc_model.specs.declared.state.VarState.TheVariants.{Empty, Owned}
+use Rattle.brc_model.specs.declared.state.Slot.{Slot}
+use Rattle.brc_model.specs.declared.state.Slot.TheVariants.{Empty, Owned}
 use Rattle.brc_model.specs.declared.state.State.{State}
 use Rattle.brc_model.specs.declared.state.Exit.TheVariants.{Success, Fault}
-use Rattle.brc_model.specs.VarStates.{var_of, is_owned, put, emptied, stolen, without_stolen}
+use Rattle.brc_model.specs.SlotStates.{var_of, is_owned, put, emptied, stolen, without_stolen}
 use Rattle.brc_model.specs.Paths.{At}
 use Rattle.brc_model.specs.Threads.{row_of}
 use Rattle.brc_model.specs.declared.duty.Holding.TheVariants.{ByVariable}
@@ -62,7 +62,7 @@ pub record Ends (program : Program) (g : Scene) (outer : List OpenCall) (s : Sta
 
 -- The call that waits goes on at L, if the one that it has made fails.
 pub fail_by : (program : Program) (g : Scene) (left : ℕ) (outer : List OpenCall) (s : State) (rows : List (Option ℕ))
-    → Ends program g outer s rows → list_any is_owned s.vars ≡ false
+    → Ends program g outer s rows → list_any is_owned s.slots ≡ false
     → IsTaken program g (fail_action left outer)
 fail_by program g left [] s rows ends none =
     let taken : SilentTaken program g [] (Idle left) = record {
@@ -87,7 +87,7 @@ fail_by program g left (o ∷ outer) s rows ends none =
       is_call = is_activation program outer ends.opened.1;
       exits = waits.exits ++ Fault ∷ [];
       arrived = on.leads Fault o.otherwise refl;
-      vars = waits.vars;
+      slots = waits.slots;
       rows = waits.rows;
       grounded = waits.grounded;
     } in
@@ -109,11 +109,11 @@ fail_by program g left (o ∷ outer) s rows ends none =
 
 -- The call that waits goes on with what is returned.
 pub ret_by : (program : Program) (g : Scene) (left from row : ℕ) (outer : List OpenCall) (s : State)
-    (rows : List (Option ℕ)) → Ends program g outer s rows → from < length s.vars
+    (rows : List (Option ℕ)) → Ends program g outer s rows → from < length s.slots
     → is_owned (var_of s from) ≡ true → row_of rows from ≡ Some row
-    → list_any is_owned (put s from Empty).vars ≡ false
+    → list_any is_owned (put s from Empty).slots ≡ false
     → IsTaken program g (ret_action g.thread left from row outer)
-ret_by program g left from row [] s rows ends in_vars owned is none =
+ret_by program g left from row [] s rows ends in_slots owned is none =
     let call = activation program [] in
     let held_now : HoldsAlone g.bag g.thread (once_each (outer_holds program []))
     (ReleaseLoad row (ByVariable 0 from) ∷ Settle ∷ []) =
@@ -122,7 +122,7 @@ ret_by program g left from row [] s rows ends in_vars owned is none =
           let said = ap one_if (ended_says program [] (put s from Empty) (slice_set rows from None) k object none) in
           omega (
             arith,
-            emptied_held g.bag g.thread call s rows from row in_vars owned is ends.holds k object,
+            emptied_held g.bag g.thread call s rows from row in_slots owned is ends.holds k object,
             said,
           );
     } in
@@ -136,12 +136,12 @@ ret_by program g left from row [] s rows ends in_vars owned is none =
       keeps = λ x locked. absurd (none_some x (sym ends.unlocked ∙ locked));
     } in
     taken
-ret_by program g left from row (o ∷ outer) s rows ends in_vars owned is none =
+ret_by program g left from row (o ∷ outer) s rows ends in_slots owned is none =
     let waits = ends.opened.0 in
     let call = activation program outer in
     let callee = activation program (o ∷ outer) in
     let state = left_by o waits.arguments waits.state in
-    let var : VarState = Owned kinds.Any in
+    let var : Slot = Owned kinds.Any in
     let out = ByVariable (suc (length outer)) from in
     let to = ByVariable (length outer) o.to in
     let r = reference_of g.thread out row in
@@ -149,7 +149,7 @@ ret_by program g left from row (o ∷ outer) s rows ends in_vars owned is none =
     let on = passes_by (running program outer) waits.exits o.at waits.state
     (Call o.to o.callee waits.arguments o.otherwise) (running_accepted program outer ends.sound ends.opened.1)
     waits.arrived waits.found in
-    let to_vars : o.to < length state.vars = omega (arith, waits.low, waits.vars) in
+    let to_slots : o.to < length state.slots = omega (arith, waits.low, waits.slots) in
     let to_rows : o.to < length o.variables = omega (arith, waits.low, waits.rows) in
     let there : IsInside call (o.at + 1) variables (put state o.to var) = record {
       is_call = is_activation program outer ends.opened.1;
@@ -157,24 +157,24 @@ ret_by program g left from row (o ∷ outer) s rows ends in_vars owned is none =
       arrived =
           on.leads Success (o.at + 1) refl
           ∙ ap (At (o.at + 1)) (sym (put_twice (without_stolen waits.state waits.arguments) o.to Empty var));
-      vars = length-set state.vars o.to var ∙ waits.vars;
+      slots = length-set state.slots o.to var ∙ waits.slots;
       rows = length-set o.variables o.to (Some row) ∙ waits.rows;
-      grounded = grounded-put call state o.variables o.to var (Some row) to_vars to_rows (row, refl) waits.grounded;
+      grounded = grounded-put call state o.variables o.to var (Some row) to_slots to_rows (row, refl) waits.grounded;
     } in
     let one : held r g.bag ≡ 1 = owned_has g.bag g.thread callee s rows from row owned is ends.holds in
     let has = held_has r g.bag (omega (arith, one)) in
-    let fewer = lost_holds g.bag g.thread callee s rows from row in_vars owned is ends.holds has in
+    let fewer = lost_holds g.bag g.thread callee s rows from row in_slots owned is ends.holds has in
     let waiting : Holds (without r g.bag) g.thread (of_variables call state o.variables) =
     subst (Holds (without r g.bag) g.thread) (outside_is program outer o waits)
     (holds-ended (without r g.bag) g.thread program (o ∷ outer) (put s from Empty) (slice_set rows from None) none
     fewer) in
     let free : is_owned (var_of state o.to) ≡ false =
     ap is_owned (var_of-put_same (without_stolen waits.state waits.arguments) o.to Empty
-    (omega (arith, waits.low, waits.vars, length-set (without_stolen waits.state waits.arguments).vars o.to Empty))) in
+    (omega (arith, waits.low, waits.slots, length-set (without_stolen waits.state waits.arguments).slots o.to Empty))) in
     let holds : Holds (reference_of g.thread to row ∷ without r g.bag) g.thread
     (of_variables call (put state o.to var) variables) = record {
       each = gained_holds (without r g.bag) g.thread to row _
-          (newref_held (without r g.bag) g.thread call state o.variables o.to row var to_vars to_rows free refl
+          (newref_held (without r g.bag) g.thread call state o.variables o.to row var to_slots to_rows free refl
           waiting);
     } in
     let taken : SilentTaken program g (pass_on g.thread out to row)

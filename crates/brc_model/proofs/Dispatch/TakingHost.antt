@@ -9,18 +9,18 @@ use Rattle.brc_lang.specs.declared.mode.Mode.{Mode}
 use Rattle.brc_lang.specs.declared.kind.Kind.{Kind}
 use Rattle.brc_lang.specs.declared.kind.Kind.TheVariants as kinds
 use Rattle.brc_word.specs.Words.{kind_part}
-use Rattle.brc_model.specs.declared.state.VarState.TheVariants.{Empty, Owned}
+use Rattle.brc_model.specs.declared.state.Slot.TheVariants.{Empty, Owned}
 use Rattle.brc_model.specs.declared.state.State.{State}
 use Rattle.brc_model.specs.declared.state.Exit.{Exit}
 use Rattle.brc_model.specs.declared.state.Exit.TheVariants.{Success, Fault}
-use Rattle.brc_model.specs.declared.duty.Duty.TheVariants.{BirthKind, KindLoad, LendSlot, ReturnSlot}
+use Rattle.brc_model.specs.declared.duty.Duty.TheVariants.{BirthKind, KindLoad, LendField, ReturnField}
 use Rattle.brc_model.specs.declared.actor.Place.{Place}
 use Rattle.brc_model.specs.declared.actor.Context.{Context}
 use Rattle.brc_model.specs.declared.actor.Place.TheVariants.{InCall, Inside}
 use Rattle.brc_model.specs.declared.actor.Stage.{Stage}
 use Rattle.brc_model.specs.declared.actor.Stage.TheVariants.{Loaded, Lent, Called, Granted}
 use Rattle.brc_model.specs.Kinds.{kind_numbered, kind_of_word, is_counted_kind}
-use Rattle.brc_model.specs.VarStates.{var_of, is_empty, is_owned, kind_of, names, put, is_one_of, with_resource}
+use Rattle.brc_model.specs.SlotStates.{var_of, is_empty, is_owned, kind_of, names, put, is_one_of, with_resource}
 use Rattle.brc_model.specs.Paths.{At, path_end}
 use Rattle.brc_model.specs.Threads.{row_of}
 use Rattle.brc_model.specs.KnownKinds.{IsTrueKind}
@@ -121,7 +121,7 @@ module _ (program : Program) (g : Scene) (context : Context) (at : ℕ) (rows : 
         is_call = here.inside.is_call;
         exits = here.inside.exits ++ exit ∷ [];
         arrived = arrived;
-        vars = here.inside.vars;
+        slots = here.inside.slots;
         rows = here.inside.rows;
         grounded = here.inside.grounded;
       } in
@@ -190,20 +190,20 @@ module _ (program : Program) (g : Scene) (context : Context) (at : ℕ) (rows : 
       row
       → names s.locked file ≡ true → g.lent ≡ None → has_resource (words_of g row) ≡ true
       → in_flight (Some i) Lent rows ≡ None → has_stage (Some i) Lent ≡ true
-      → ((x : ℕ) → g.locked ≡ Some x → HeldBeside g.bag g.thread x (LendSlot row))
+      → ((x : ℕ) → g.locked ≡ Some x → HeldBeside g.bag g.thread x (LendField row))
       → IsTaken program g (lend_action context at rows file)
   lend_taken i file row here is backs this unlent some none staged keeps =
       let place = Inside context at rows Lent in
       let there = at_stage Lent i here none staged in
-      let taken : (found : ℕ) → Taken program g found place (LendSlot row) [] = λ found. record {
-        placed = fits_with program g.bag g.thread (LendSlot row ∷ []) g.locked place (λ k object. refl)
+      let taken : (found : ℕ) → Taken program g found place (LendField row) [] = λ found. record {
+        placed = fits_with program g.bag g.thread (LendField row ∷ []) g.locked place (λ k object. refl)
             (λ k object. refl)
             there.placed;
         starts = Lends row backs (guards_row s rows file row s.locked g.locked this is here.guards) unlent some;
         follows = Nothing (inside_stays context at rows Lent);
         keeps = keeps;
       } in
-      taken_with_row program g row (row_of rows file) (λ x. Does (LendSlot x) [] (always place)) is taken
+      taken_with_row program g row (row_of rows file) (λ x. Does (LendField x) [] (always place)) is taken
 
   return_taken : (stage : Stage) (i : Instr) (file : ℕ) (place : Place) → StandsInside program context g at rows s stage
       i
@@ -212,14 +212,14 @@ module _ (program : Program) (g : Scene) (context : Context) (at : ℕ) (rows : 
   return_taken stage i file place here some lends there =
       let named = named_inside program g context at rows s stage i file here some in
       let row = named.object in
-      let taken : (found : ℕ) → Taken program g found place (ReturnSlot row) [] = λ found. record {
-        placed = fits_with program g.bag g.thread (ReturnSlot row ∷ []) g.locked place (λ k object. refl)
+      let taken : (found : ℕ) → Taken program g found place (ReturnField row) [] = λ found. record {
+        placed = fits_with program g.bag g.thread (ReturnField row ∷ []) g.locked place (λ k object. refl)
             (λ k object. refl) there.placed;
         starts = Returns row named.backs (here.lent ∙ lends ∙ named.is_row);
         follows = Nothing there.stays;
-        keeps = all_kept program g context at rows s stage i (ReturnSlot row) here (λ k object. refl);
+        keeps = all_kept program g context at rows s stage i (ReturnField row) here (λ k object. refl);
       } in
-      taken_with_row program g row (row_of rows file) (λ x. Does (ReturnSlot x) [] (always place)) named.is_row taken
+      taken_with_row program g row (row_of rows file) (λ x. Does (ReturnField x) [] (always place)) named.is_row taken
 
   -- ---- open and connect
 
@@ -276,7 +276,7 @@ module _ (program : Program) (g : Scene) (context : Context) (at : ℕ) (rows : 
       lend_taken i file row rests named.is_row named.backs (not-false _ (first_false _ _ here.met.has_lock)) here.unlent
       (resource_word (kind_of (var_of s file)) (words_of g row) (here.kinds file row named.is_row)
       (not-false _ (first_false _ _ here.met.right_kind))) refl refl
-      (keeps_all program context g before at rows s i (LendSlot row) here (λ k object. refl)))
+      (keeps_all program context g before at rows s i (LendField row) here (λ k object. refl)))
       (at_other i to otherwise rests (first_false _ _ here.met.unlocked) here.variables.0
       (first_false _ _ here.met.free)
       (here.leads Fault otherwise refl))
@@ -354,7 +354,7 @@ module _ (program : Program) (g : Scene) (context : Context) (at : ℕ) (rows : 
       (not-false _ (first_false _ _ here.met.has_lock)) here.lent
       (resource_word (kind_of (var_of s file)) (words_of g row) (here.kinds file row named.is_row)
       (not-false _ (first_false _ _ here.met.right_kind))) refl refl
-      (all_kept program g context at rows s Loaded i (LendSlot row) here (λ k object. refl))
+      (all_kept program g context at rows s Loaded i (LendField row) here (λ k object. refl))
 
   pub write_lent : (file number otherwise : ℕ) → StandsInside program context g at rows s Lent
       (Write file number otherwise)

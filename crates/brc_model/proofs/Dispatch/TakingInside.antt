@@ -7,8 +7,8 @@ use Rattle.std.proofs.lemmas.Bool.{not-false}
 use Rattle.brc_lang.specs.declared.module.Instr.{Instr}
 use Rattle.brc_lang.specs.declared.module.Instr.TheVariants.{Borrow, Fetch}
 use Rattle.brc_lang.specs.declared.kind.Kind.TheVariants as kinds
-use Rattle.brc_model.specs.declared.state.VarState.{VarState}
-use Rattle.brc_model.specs.declared.state.VarState.TheVariants.{Empty, Owned, Locked}
+use Rattle.brc_model.specs.declared.state.Slot.{Slot}
+use Rattle.brc_model.specs.declared.state.Slot.TheVariants.{Empty, Owned, Locked}
 use Rattle.brc_model.specs.declared.state.State.{State}
 use Rattle.brc_model.specs.declared.state.Exit.{Exit}
 use Rattle.brc_model.specs.declared.state.Exit.TheVariants.{Success, Fault}
@@ -21,7 +21,7 @@ use Rattle.brc_model.specs.declared.actor.Context.{Context}
 use Rattle.brc_model.specs.declared.actor.Place.TheVariants.{InCall, Inside}
 use Rattle.brc_model.specs.declared.actor.Stage.{Stage}
 use Rattle.brc_model.specs.declared.actor.Stage.TheVariants.{InRange, Found}
-use Rattle.brc_model.specs.VarStates.{var_of, is_empty, is_owned, names, put, without_item, without_items}
+use Rattle.brc_model.specs.SlotStates.{var_of, is_empty, is_owned, names, put, without_item, without_items}
 use Rattle.brc_model.specs.Paths.{At, path_end}
 use Rattle.brc_model.specs.Threads.{row_of}
 use Rattle.brc_model.specs.Duties.{cells_of}
@@ -106,21 +106,21 @@ module _ (program : Program) (g : Scene) (context : Context) (at : ℕ) (rows : 
   -- ---- the next point
 
   -- The exit leads to a point where one variable has changed.
-  next_put : (stage : Stage) (i : Instr) (exit : Exit) (next to : ℕ) (var : VarState) (row : Option ℕ)
+  next_put : (stage : Stage) (i : Instr) (exit : Exit) (next to : ℕ) (var : Slot) (row : Option ℕ)
       → (here : StandsInside program context g at rows s stage i) → to < 16 → IsGrounded (call_of program context) var
       row
       → path_end (running program context.outer) (here.inside.exits ++ exit ∷ []) ≡ At next (put s to var)
       → IsInside (call_of program context) next (slice_set rows to row) (put s to var)
   next_put stage i exit next to var row here low grounded arrived =
-      let in_vars : to < length s.vars = omega (arith, low, here.inside.vars) in
+      let in_slots : to < length s.slots = omega (arith, low, here.inside.slots) in
       let in_rows : to < length rows = omega (arith, low, here.inside.rows) in
       record {
         is_call = here.inside.is_call;
         exits = here.inside.exits ++ exit ∷ [];
         arrived = arrived;
-        vars = length-set s.vars to var ∙ here.inside.vars;
+        slots = length-set s.slots to var ∙ here.inside.slots;
         rows = length-set rows to row ∙ here.inside.rows;
-        grounded = grounded-put (call_of program context) s rows to var row in_vars in_rows grounded
+        grounded = grounded-put (call_of program context) s rows to var row in_slots in_rows grounded
             here.inside.grounded;
       }
 
@@ -133,7 +133,7 @@ module _ (program : Program) (g : Scene) (context : Context) (at : ℕ) (rows : 
     is_call = here.inside.is_call;
     exits = here.inside.exits ++ exit ∷ [];
     arrived = arrived;
-    vars = length-map s.vars without_item ∙ here.inside.vars;
+    slots = length-map s.slots without_item ∙ here.inside.slots;
     rows = here.inside.rows;
     grounded = grounded-without (call_of program context) s rows here.inside.grounded;
   }
@@ -145,17 +145,17 @@ module _ (program : Program) (g : Scene) (context : Context) (at : ℕ) (rows : 
       (without_items (put s from Empty))
       → IsInside (call_of program context) next (slice_set rows from None) (without_items (put s from Empty))
   next_given stage i exit next from here low arrived =
-      let in_vars : from < length s.vars = omega (arith, low, here.inside.vars) in
+      let in_slots : from < length s.slots = omega (arith, low, here.inside.slots) in
       let in_rows : from < length rows = omega (arith, low, here.inside.rows) in
       record {
         is_call = here.inside.is_call;
         exits = here.inside.exits ++ exit ∷ [];
         arrived = arrived;
-        vars = length-map (put s from Empty).vars without_item ∙ length-set s.vars from Empty ∙ here.inside.vars;
+        slots = length-map (put s from Empty).slots without_item ∙ length-set s.slots from Empty ∙ here.inside.slots;
         rows = length-set rows from None ∙ here.inside.rows;
         grounded =
             grounded-without (call_of program context) (put s from Empty) (slice_set rows from None)
-            (grounded-put (call_of program context) s rows from Empty None in_vars in_rows tt here.inside.grounded);
+            (grounded-put (call_of program context) s rows from Empty None in_slots in_rows tt here.inside.grounded);
       }
 
   -- ---- borrow and fetch: the cell is loaded
@@ -168,8 +168,8 @@ module _ (program : Program) (g : Scene) (context : Context) (at : ℕ) (rows : 
       → path_end (running program context.outer) (here.inside.exits ++ Fault ∷ []) ≡ At otherwise (put s to Empty)
       → Taken program g found (InCall context otherwise (slice_set rows to None)) (CellLoad row index) []
   nothing_found i to row index otherwise found here is low free unlocked backs has within arrived =
-      let in_vars : to < length s.vars = omega (arith, low, here.inside.vars) in
-      let cleared = cleared_held g.bag g.thread (call_of program context) s rows to in_vars free
+      let in_slots : to < length s.slots = omega (arith, low, here.inside.slots) in
+      let cleared = cleared_held g.bag g.thread (call_of program context) s rows to in_slots free
       (holds_still InRange i here is) in
       record {
         placed = (
@@ -196,12 +196,12 @@ module _ (program : Program) (g : Scene) (context : Context) (at : ℕ) (rows : 
       let has =
       uses_locked InRange i list row here (not-false _ (first_false _ _ here.met.has_lock)) named.is_row in
       let within : index < cells_of (words_of g row) = here.cell row named.is_row in
-      let in_vars : to < length s.vars = omega (arith, here.variables.0, here.inside.vars) in
+      let in_slots : to < length s.slots = omega (arith, here.variables.0, here.inside.slots) in
       let empty = InCall context otherwise (slice_set rows to None) in
       let there : (item : ℕ) → Place = λ item. InCall context (at + 1) (slice_set rows to (Some item)) in
       let found_item : (item : ℕ) → Taken program g (suc item) (there item) (CellLoad row index) [] = λ item.
       let same =
-      unowned_held g.bag g.thread (call_of program context) s rows to (Locked kinds.Any) (Some item) in_vars free refl
+      unowned_held g.bag g.thread (call_of program context) s rows to (Locked kinds.Any) (Some item) in_slots free refl
       (holds_still InRange i here refl) in
       record {
         placed = (
@@ -262,10 +262,10 @@ module _ (program : Program) (g : Scene) (context : Context) (at : ℕ) (rows : 
       (Some (Fetch to list index otherwise)))
   found_inside to list index otherwise item here =
       let i = Fetch to list index otherwise in
-      let var : VarState = Owned kinds.Any in
+      let var : Slot = Owned kinds.Any in
       let free : is_owned (var_of s to) ≡ false = first_false _ _ here.met.free in
       let unlocked : names s.locked to ≡ false = first_false _ _ here.met.unlocked in
-      let in_vars : to < length s.vars = omega (arith, here.variables.0, here.inside.vars) in
+      let in_slots : to < length s.slots = omega (arith, here.variables.0, here.inside.slots) in
       let in_rows : to < length rows = omega (arith, here.variables.0, here.inside.rows) in
       λ found. record {
         placed = (
@@ -274,7 +274,7 @@ module _ (program : Program) (g : Scene) (context : Context) (at : ℕ) (rows : 
               (here.leads Success (at + 1) refl),
           guards-put s rows to var (Some item) s.locked g.locked unlocked here.guards,
           record {
-            each = newref_held g.bag g.thread (call_of program context) s rows to item var in_vars in_rows free refl
+            each = newref_held g.bag g.thread (call_of program context) s rows to item var in_slots in_rows free refl
                 (holds_still (Found item) i here refl);
           },
         );

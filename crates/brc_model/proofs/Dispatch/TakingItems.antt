@@ -5,7 +5,7 @@ use Rattle.std.specs.Prelude.{nat_lt, slice_get, slice_set}
 use Rattle.std.proofs.lemmas.List.{length-set, length-map}
 use Rattle.brc_lang.specs.declared.module.Instr.{Instr}
 use Rattle.brc_lang.specs.declared.module.Instr.TheVariants.{Borrow, Fetch, Set, Put}
-use Rattle.brc_model.specs.declared.state.VarState.TheVariants.{Empty}
+use Rattle.brc_model.specs.declared.state.Slot.TheVariants.{Empty}
 use Rattle.brc_model.specs.declared.state.State.{State}
 use Rattle.brc_model.specs.declared.state.Exit.TheVariants.{Fault}
 use Rattle.brc_model.specs.declared.duty.Duty.{Duty}
@@ -15,7 +15,7 @@ use Rattle.brc_model.specs.declared.actor.Context.{Context}
 use Rattle.brc_model.specs.declared.actor.Place.TheVariants.{InCall, Inside, Exiting}
 use Rattle.brc_model.specs.declared.actor.Stage.{Stage}
 use Rattle.brc_model.specs.declared.actor.Stage.TheVariants.{InRange, OutOfRange}
-use Rattle.brc_model.specs.VarStates.{var_of, is_empty, is_owned, names, put, without_item, without_items}
+use Rattle.brc_model.specs.SlotStates.{var_of, is_empty, is_owned, names, put, without_item, without_items}
 use Rattle.brc_model.specs.Paths.{At, path_end}
 use Rattle.brc_model.specs.Threads.{row_of}
 use Rattle.brc_model.specs.Duties.{cells_of}
@@ -102,18 +102,18 @@ asks_empty : (program : Program) (g : Scene) (before : Place) (context : Context
     → PlaceFits program g.bag g.thread (KindLoad row ∷ []) g.locked
     (InCall context otherwise (slice_set variables to None))
 asks_empty program g before context at variables s i row to otherwise here low free unlocked arrived =
-    let in_vars : to < length s.vars = omega (arith, low, here.inside.vars) in
+    let in_slots : to < length s.slots = omega (arith, low, here.inside.slots) in
     let in_rows : to < length variables = omega (arith, low, here.inside.rows) in
     let next : IsInside (call_of program context) otherwise (slice_set variables to None) (put s to Empty) = record {
       is_call = here.inside.is_call;
       exits = here.inside.exits ++ Fault ∷ [];
       arrived = arrived;
-      vars = length-set s.vars to Empty ∙ here.inside.vars;
+      slots = length-set s.slots to Empty ∙ here.inside.slots;
       rows = length-set variables to None ∙ here.inside.rows;
-      grounded = grounded-put (call_of program context) s variables to Empty None in_vars in_rows tt
+      grounded = grounded-put (call_of program context) s variables to Empty None in_slots in_rows tt
           here.inside.grounded;
     } in
-    let cleared = cleared_held g.bag g.thread (call_of program context) s variables to in_vars free here.holds in (
+    let cleared = cleared_held g.bag g.thread (call_of program context) s variables to in_slots free here.holds in (
       put s to Empty,
       next,
       guards-put s variables to Empty None s.locked g.locked unlocked here.guards,
@@ -210,7 +210,7 @@ module _ {program : Program} {g : Scene} {before : Place} {context : Context} {a
         is_call = here.inside.is_call;
         exits = here.inside.exits ++ Fault ∷ [];
         arrived = here.leads Fault otherwise refl;
-        vars = length-map s.vars without_item ∙ here.inside.vars;
+        slots = length-map s.slots without_item ∙ here.inside.slots;
         rows = here.inside.rows;
         grounded = grounded-without (call_of program context) s variables here.inside.grounded;
       } in

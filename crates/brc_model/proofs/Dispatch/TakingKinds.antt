@@ -5,7 +5,7 @@ use Rattle.brc_lang.specs.declared.module.Instr.TheVariants.{As}
 use Rattle.brc_lang.specs.declared.kind.Kind.{Kind}
 use Rattle.brc_model.specs.declared.state.State.{State}
 use Rattle.brc_model.specs.declared.state.Exit.TheVariants.{Success, Fault}
-use Rattle.brc_model.specs.VarStates.{var_of, is_empty, put, with_kind}
+use Rattle.brc_model.specs.SlotStates.{var_of, is_empty, put, with_kind}
 use Rattle.brc_model.specs.Threads.{row_of}
 use Rattle.brc_model.specs.declared.duty.Duty.TheVariants.{KindLoad}
 use Rattle.brc_model.specs.Kinds.{kind_of_word, same_kind}
@@ -51,27 +51,27 @@ module _ {program : Program} {g : Scene} {before : Place} {context : Context} {a
   as_taken from kind otherwise here =
       let some : is_empty (var_of s from) ≡ false = first_false _ _ here.met.not_empty in
       let live = named_at program context g before at variables s (As from kind otherwise) from here some in
-      let in_vars : from < length s.vars = omega (arith, here.variables.0, here.inside.vars) in
+      let in_slots : from < length s.slots = omega (arith, here.variables.0, here.inside.slots) in
       let narrowed = put s from (with_kind (var_of s from) kind) in
       let next : IsInside (call_of program context) (at + 1) variables narrowed = record {
         is_call = here.inside.is_call;
         exits = here.inside.exits ++ Success ∷ [];
         arrived = here.leads Success (at + 1) refl;
-        vars = length-set s.vars from (with_kind (var_of s from) kind) ∙ here.inside.vars;
+        slots = length-set s.slots from (with_kind (var_of s from) kind) ∙ here.inside.slots;
         rows = here.inside.rows;
-        grounded = grounded-with_kind (call_of program context) s variables from kind in_vars here.inside.grounded;
+        grounded = grounded-with_kind (call_of program context) s variables from kind in_slots here.inside.grounded;
       } in
       let holds : Holds g.bag g.thread (of_variables (call_of program context) narrowed variables) = record {
         each = λ h object.
             here.holds.each h object ∙ ap one_if (says-with_kind (call_of program context) s variables from kind h
             object
-            in_vars);
+            in_slots);
       } in
       let aside : IsInside (call_of program context) otherwise variables s = record {
         is_call = here.inside.is_call;
         exits = here.inside.exits ++ Fault ∷ [];
         arrived = here.leads Fault otherwise refl;
-        vars = here.inside.vars;
+        slots = here.inside.slots;
         rows = here.inside.rows;
         grounded = here.inside.grounded;
       } in
@@ -84,7 +84,7 @@ module _ {program : Program} {g : Scene} {before : Place} {context : Context} {a
       λ found. either (λ (next : ℕ). Taken program g found (InCall context next variables) (KindLoad live.object) [])
       (same_kind (kind_of_word found) kind) _ _ (λ same.
       asks_taken program g context (at + 1) found variables narrowed live.object next
-      (guards-with_kind s variables from kind s.locked g.locked in_vars here.guards) holds live.backs keeps)
+      (guards-with_kind s variables from kind s.locked g.locked in_slots here.guards) holds live.backs keeps)
       (asks_taken program g context otherwise found variables s live.object aside here.guards here.holds live.backs
       keeps)
       in

@@ -5,8 +5,8 @@ use Rattle.std.proofs.lemmas.List.{length-map}
 use Rattle.std.proofs.lemmas.Bool.{not-false}
 use Rattle.brc_lang.specs.declared.module.Instr.TheVariants.{Lock, Unlock}
 use Rattle.brc_word.specs.Words.{free_word}
-use Rattle.brc_model.specs.declared.state.VarState.{VarState}
-use Rattle.brc_model.specs.declared.state.VarState.TheVariants.{Locked}
+use Rattle.brc_model.specs.declared.state.Slot.{Slot}
+use Rattle.brc_model.specs.declared.state.Slot.TheVariants.{Locked}
 use Rattle.brc_model.specs.declared.state.State.{State}
 use Rattle.brc_model.specs.declared.state.Exit.TheVariants.{Success}
 use Rattle.brc_model.specs.declared.duty.Holding.{Holding}
@@ -15,7 +15,7 @@ use Rattle.brc_model.specs.declared.duty.Duty.TheVariants.{LockGate, UnlockGate}
 use Rattle.brc_model.specs.declared.actor.Place.{Place}
 use Rattle.brc_model.specs.declared.actor.Context.{Context}
 use Rattle.brc_model.specs.declared.actor.Place.TheVariants.{InCall, Exiting}
-use Rattle.brc_model.specs.VarStates.{var_of, is_empty, names, without_item, without_items, with_lock}
+use Rattle.brc_model.specs.SlotStates.{var_of, is_empty, names, without_item, without_items, with_lock}
 use Rattle.brc_model.specs.Threads.{row_of}
 use Rattle.brc_model.specs.References.{one_if}
 use Rattle.brc_model.specs.Actions.{Does, always, dispatch_instruction}
@@ -33,7 +33,7 @@ use Rattle.brc_model.proofs.Dispatch.Programs.{Program}
 -- ---- lock
 
 -- A variable that isn't empty keeps its object, since no variable borrows an item while nothing is locked.
-var_kept : (var : VarState) → is_empty var ≡ false → (borrows_item var ≡ true → ⊥) → is_kept var ≡ true
+var_kept : (var : Slot) → is_empty var ≡ false → (borrows_item var ≡ true → ⊥) → is_kept var ≡ true
 var_kept (Locked k) some none = absurd (none refl)
 var_kept _ some none = cc
 
@@ -77,7 +77,7 @@ module _ {program : Program} {g : Scene} {before : Place} {context : Context} {a
         is_call = here.inside.is_call;
         exits = here.inside.exits ++ Success ∷ [];
         arrived = here.leads Success (at + 1) refl;
-        vars = here.inside.vars;
+        slots = here.inside.slots;
         rows = here.inside.rows;
         grounded = here.inside.grounded;
       } in
@@ -129,7 +129,7 @@ module _ {program : Program} {g : Scene} {before : Place} {context : Context} {a
         is_call = here.inside.is_call;
         exits = here.inside.exits ++ Success ∷ [];
         arrived = here.leads Success (at + 1) refl;
-        vars = length-map s.vars without_item ∙ here.inside.vars;
+        slots = length-map s.slots without_item ∙ here.inside.slots;
         rows = here.inside.rows;
         grounded = grounded-without (call_of program context) s variables here.inside.grounded;
       } in

@@ -6,12 +6,12 @@ use Rattle.std.proofs.lemmas.List.{length-set}
 use Rattle.brc_lang.specs.declared.module.Instr.{Instr}
 use Rattle.brc_lang.specs.declared.module.Instr.TheVariants.{NoneObject, Take, Move as MoveReference, Goto, Again}
 use Rattle.brc_lang.specs.declared.kind.Kind.TheVariants as kinds
-use Rattle.brc_model.specs.declared.state.VarState.{VarState}
-use Rattle.brc_model.specs.declared.state.VarState.TheVariants.{Empty, Owned}
+use Rattle.brc_model.specs.declared.state.Slot.{Slot}
+use Rattle.brc_model.specs.declared.state.Slot.TheVariants.{Empty, Owned}
 use Rattle.brc_model.specs.declared.state.State.{State}
 use Rattle.brc_model.specs.declared.state.Exit.{Exit}
 use Rattle.brc_model.specs.declared.state.Exit.TheVariants.{Success, Fault}
-use Rattle.brc_model.specs.VarStates.{var_of, is_owned, kind_of, put, names, after, target}
+use Rattle.brc_model.specs.SlotStates.{var_of, is_owned, kind_of, put, names, after, target}
 use Rattle.brc_model.specs.Paths.{At}
 use Rattle.brc_model.specs.declared.duty.Holding.{Holding}
 use Rattle.brc_model.specs.declared.duty.Holding.TheVariants.{ByVariable}
@@ -63,25 +63,25 @@ module _ {program : Program} {g : Scene} {before : Place} {context : Context} {a
       → SilentTaken program g (gain g.thread (by_variable context to) row)
       (InCall context (at + 1) (slice_set variables to (Some row)))
   immortal_taken to row kind i here low free unlocked leads_on leaves immortal =
-      let var : VarState = Owned kind in
-      let in_vars : to < length s.vars = omega (arith, low, here.inside.vars) in
+      let var : Slot = Owned kind in
+      let in_slots : to < length s.slots = omega (arith, low, here.inside.slots) in
       let in_rows : to < length variables = omega (arith, low, here.inside.rows) in
       let next : IsInside (call_of program context) (at + 1) (slice_set variables to (Some row)) (put s to var) =
       record {
         is_call = here.inside.is_call;
         exits = here.inside.exits ++ Success ∷ [];
         arrived = here.leads Success (at + 1) leads_on ∙ ap (λ (state : State). At (at + 1) state) leaves;
-        vars = length-set s.vars to var ∙ here.inside.vars;
+        slots = length-set s.slots to var ∙ here.inside.slots;
         rows = length-set variables to (Some row) ∙ here.inside.rows;
         grounded =
-            grounded-put (call_of program context) s variables to var (Some row) in_vars in_rows (row, refl)
+            grounded-put (call_of program context) s variables to var (Some row) in_slots in_rows (row, refl)
             here.inside.grounded;
       } in
       let holds : Holds (reference_of g.thread (by_variable context to) row ∷ g.bag) g.thread
       (of_variables (call_of program context) (put s to var) (slice_set variables to (Some row))) =
       record {
         each = gained_holds g.bag g.thread (by_variable context to) row _
-            (newref_held g.bag g.thread (call_of program context) s variables to row var in_vars in_rows free refl
+            (newref_held g.bag g.thread (call_of program context) s variables to row var in_slots in_rows free refl
             here.holds);
       } in
       record {
@@ -115,12 +115,12 @@ module _ {program : Program} {g : Scene} {before : Place} {context : Context} {a
 -- Losing the reference that a variable owns, and emptying the variable, makes the bag fit what the thread is to hold.
 pub lost_holds : (bag : List Reference) (t : ℕ) (call : Activation) (s : State) (variables : List (Option ℕ))
     (from row : ℕ)
-    → from < length s.vars → is_owned (var_of s from) ≡ true → row_of variables from ≡ Some row
+    → from < length s.slots → is_owned (var_of s from) ≡ true → row_of variables from ≡ Some row
     → Holds bag t (of_variables call s variables)
     → list_any (same (reference_of t (ByVariable call.depth from) row)) bag ≡ true
     → Holds (without (reference_of t (ByVariable call.depth from) row) bag) t
     (of_variables call (put s from Empty) (slice_set variables from None))
-lost_holds bag t call s variables from row in_vars owned is holds has = record {
+lost_holds bag t call s variables from row in_slots owned is holds has = record {
   each = λ k object.
       let r = reference_of t k object in
       let by = ByVariable call.depth from in
@@ -128,7 +128,7 @@ lost_holds bag t call s variables from row in_vars owned is holds has = record {
       ap one_if (same_is t row by k object) in
       omega (
         arith,
-        emptied_held bag t call s variables from row in_vars owned is holds k object,
+        emptied_held bag t call s variables from row in_slots owned is holds k object,
         held-without r (reference_of t by row) bag has,
         one,
       );
@@ -144,38 +144,38 @@ module _ {program : Program} {g : Scene} {before : Place} {context : Context} {a
       let free : is_owned (var_of s to) ≡ false = first_false _ _ here.met.free in
       let row = owned_row (call_of program context) (var_of s from) (row_of variables from) owned
       (here.inside.grounded from) in
-      let var : VarState = Owned (kind_of (var_of s from)) in
+      let var : Slot = Owned (kind_of (var_of s from)) in
       let s1 = put s from Empty in
       let v1 = slice_set variables from None in
       let r = reference_of g.thread (by_variable context from) row.0 in
-      let in_vars : from < length s.vars = omega (arith, here.variables.1, here.inside.vars) in
+      let in_slots : from < length s.slots = omega (arith, here.variables.1, here.inside.slots) in
       let in_rows : from < length variables = omega (arith, here.variables.1, here.inside.rows) in
-      let to_vars : to < length s1.vars =
-      omega (arith, here.variables.0, here.inside.vars, length-set s.vars from Empty) in
+      let to_slots : to < length s1.slots =
+      omega (arith, here.variables.0, here.inside.slots, length-set s.slots from Empty) in
       let to_rows : to < length v1 =
       omega (arith, here.variables.0, here.inside.rows, length-set variables from None) in
-      let grounded = grounded-put (call_of program context) s variables from Empty None in_vars in_rows tt
+      let grounded = grounded-put (call_of program context) s variables from Empty None in_slots in_rows tt
       here.inside.grounded in
       let next : IsInside (call_of program context) (at + 1) (slice_set v1 to (Some row.0)) (put s1 to var) = record {
         is_call = here.inside.is_call;
         exits = here.inside.exits ++ Success ∷ [];
         arrived = here.leads Success (at + 1) refl;
-        vars = length-set s1.vars to var ∙ length-set s.vars from Empty ∙ here.inside.vars;
+        slots = length-set s1.slots to var ∙ length-set s.slots from Empty ∙ here.inside.slots;
         rows = length-set v1 to (Some row.0) ∙ length-set variables from None ∙ here.inside.rows;
-        grounded = grounded-put (call_of program context) s1 v1 to var (Some row.0) to_vars to_rows (row.0, refl)
+        grounded = grounded-put (call_of program context) s1 v1 to var (Some row.0) to_slots to_rows (row.0, refl)
             grounded;
       } in
       let one : held r g.bag ≡ 1 = owned_has g.bag g.thread (call_of program context) s variables from row.0 owned row.1
       here.holds in
       let has = held_has r g.bag (omega (arith, one)) in
-      let fewer = lost_holds g.bag g.thread (call_of program context) s variables from row.0 in_vars owned row.1
+      let fewer = lost_holds g.bag g.thread (call_of program context) s variables from row.0 in_slots owned row.1
       here.holds has in
       let holds : Holds (reference_of g.thread (by_variable context to) row.0 ∷ without r g.bag) g.thread
       (of_variables (call_of program context) (put s1 to var) (slice_set v1 to (Some row.0))) =
       record {
         each = gained_holds (without r g.bag) g.thread (by_variable context to) row.0 _
-            (newref_held (without r g.bag) g.thread (call_of program context) s1 v1 to row.0 var to_vars to_rows
-            (still_free s from to in_vars free) refl fewer);
+            (newref_held (without r g.bag) g.thread (call_of program context) s1 v1 to row.0 var to_slots to_rows
+            (still_free s from to in_slots free) refl fewer);
       } in
       let from_free : names s.locked from ≡ false = first_false _ _ here.met.unlocked in
       let to_free : names s.locked to ≡ false = first_false _ _ (second_false _ _ here.met.unlocked) in
@@ -204,7 +204,7 @@ module _ {program : Program} {g : Scene} {before : Place} {context : Context} {a
         is_call = here.inside.is_call;
         exits = here.inside.exits ++ exit ∷ [];
         arrived = here.leads exit next to ∙ ap (At next) same;
-        vars = here.inside.vars;
+        slots = here.inside.slots;
         rows = here.inside.rows;
         grounded = here.inside.grounded;
       } in

@@ -15,7 +15,7 @@ use Rattle.brc_model.specs.declared.duty.Duty.{Duty}
 use Rattle.brc_model.specs.declared.duty.Duty.TheVariants.{ReleaseLoad, Settle, UnlockGate}
 use Rattle.brc_model.specs.AbstractState.{Reference}
 use Rattle.brc_model.specs.References.{held, one_if, reference_of}
-use Rattle.brc_model.specs.VarStates.{names}
+use Rattle.brc_model.specs.SlotStates.{names}
 use Rattle.brc_model.specs.Threads.{row_of}
 use Rattle.brc_model.specs.Actions.{Does, always, owned_rows, row_locked, holds_some, stopping, first_named, give_up_first, give_up, given_up}
 use Rattle.brc_model.proofs.Basics.Bag.{held-le-references_to}
@@ -68,11 +68,11 @@ pub stop_taken : (program : Program) (g : Scene) (context : Context) (at : ℕ) 
     → IsInside (call_of program context) at variables s → LocksAgree s variables g.locked
     → HoldsAlone g.bag g.thread (once_each (of_variables (call_of program context) s variables)) []
     → SilentTaken program g []
-    (stopping (row_locked s.locked variables) (owned_rows s.vars variables ∷ given_up program.functions program.states
+    (stopping (row_locked s.locked variables) (owned_rows s.slots variables ∷ given_up program.functions program.states
     program.first context.outer))
 stop_taken program g context at variables s inside guards holds =
     let lock = row_locked s.locked variables in
-    let calls = owned_rows s.vars variables ∷ given_up program.functions program.states program.first context.outer in
+    let calls = owned_rows s.slots variables ∷ given_up program.functions program.states program.first context.outer in
     record {
       moves_fit = Stays;
       placed =

@@ -5,7 +5,7 @@ use Rattle.std.specs.Prelude.{◌==◌, ◌&&◌, slice_set}
 use Rattle.std.proofs.lemmas.Bool.{eq-eqb, not-false}
 use Rattle.brc_lang.specs.declared.module.Instr.{Instr}
 use Rattle.brc_lang.specs.declared.module.Instr.TheVariants.{Borrow, Fetch, Set, Put, Open, Connect, Read, Write}
-use Rattle.brc_model.specs.declared.state.VarState.TheVariants.{Empty}
+use Rattle.brc_model.specs.declared.state.Slot.TheVariants.{Empty}
 use Rattle.brc_model.specs.declared.state.State.{State}
 use Rattle.brc_model.specs.declared.state.Exit.TheVariants.{Success, Fault}
 use Rattle.brc_model.specs.declared.duty.Holding.{Holding}
@@ -15,7 +15,7 @@ use Rattle.brc_model.specs.declared.actor.Context.{Context}
 use Rattle.brc_model.specs.declared.actor.Place.TheVariants.{InCall, Inside}
 use Rattle.brc_model.specs.declared.actor.Stage.{Stage}
 use Rattle.brc_model.specs.declared.actor.Stage.TheVariants.{InRange, OutOfRange, Found, Retained, Loaded, Lent, Called, Granted}
-use Rattle.brc_model.specs.VarStates.{var_of, is_empty, is_owned, names, put, without_items}
+use Rattle.brc_model.specs.SlotStates.{var_of, is_empty, is_owned, names, put, without_items}
 use Rattle.brc_model.specs.Threads.{row_of}
 use Rattle.brc_model.specs.AbstractState.{same_holding, references_to}
 use Rattle.brc_model.specs.References.{held, one_if, reference_of}
@@ -43,7 +43,7 @@ module _ (program : Program) (g : Scene) (context : Context) (at : ℕ) (rows : 
     owned : is_owned (var_of s from) ≡ true
     row : ℕ
     is_row : row_of rows from ≡ Some row
-    in_vars : from < length s.vars
+    in_slots : from < length s.slots
     some : 0 < references_to row g.bag
     each : (k : Holding) (object : ℕ) → held (reference_of g.thread k object) g.bag + 0
         ≡ one_if (of_variables (call_of program context) (without_items (put s from Empty)) (slice_set rows from None) k
@@ -58,20 +58,20 @@ module _ (program : Program) (g : Scene) (context : Context) (at : ℕ) (rows : 
       let owned = owned_var (var_of s from) (first_false _ _ here.met.not_empty) (first_false _ _ here.met.owned) in
       let row = owned_row (call_of program context) (var_of s from) (row_of rows from) owned (here.inside.grounded from)
       in
-      let in_vars : from < length s.vars = omega (arith, here.variables.2, here.inside.vars) in
+      let in_slots : from < length s.slots = omega (arith, here.variables.2, here.inside.slots) in
       let holds = holds_still program g context at rows s stage i here still in
       record {
         owned = owned;
         row = row.0;
         is_row = row.1;
-        in_vars = in_vars;
+        in_slots = in_slots;
         some = given_referenced g.bag g.thread (call_of program context) s rows from row.0 owned row.1 holds;
         each = λ k object.
             let same = ap one_if (says-without (call_of program context) (put s from Empty) (slice_set rows from None) k
             object) in
             omega (
               arith,
-              emptied_held g.bag g.thread (call_of program context) s rows from row.0 in_vars owned row.1 holds k
+              emptied_held g.bag g.thread (call_of program context) s rows from row.0 in_slots owned row.1 holds k
                   object,
               same,
             );

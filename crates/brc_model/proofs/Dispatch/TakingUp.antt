@@ -4,7 +4,7 @@ use Rattle.std.specs.Prelude.{slice_get}
 use Rattle.brc_lang.specs.declared.module.Instr.{Instr}
 use Rattle.brc_model.specs.declared.state.State.{State}
 use Rattle.brc_model.specs.declared.state.Exit.{Exit}
-use Rattle.brc_model.specs.VarStates.{after, target}
+use Rattle.brc_model.specs.SlotStates.{after, target}
 use Rattle.brc_model.specs.Paths.{At, path_end}
 use Rattle.brc_model.specs.KnownKinds.{HaveTrueKinds}
 use Rattle.brc_lang.specs.Grammar.{IsInstruction}
@@ -18,7 +18,7 @@ use Rattle.brc_model.proofs.Dispatch.Guards.{LocksAgree, HeldBeside}
 use Rattle.brc_model.specs.declared.duty.Holding.{Holding}
 use Rattle.brc_model.specs.AbstractState.{Reference, references_to, Move}
 use Rattle.brc_model.specs.declared.duty.Duty.{Duty}
-use Rattle.brc_model.specs.declared.duty.Duty.TheVariants.{RetainLoad, ReleaseLoad, Settle, Leave, BirthKind, KindLoad, LockGate, UnlockGate, CellLoad, CellSwap, LendSlot, ReturnSlot}
+use Rattle.brc_model.specs.declared.duty.Duty.TheVariants.{RetainLoad, ReleaseLoad, Settle, Leave, BirthKind, KindLoad, LockGate, UnlockGate, CellLoad, CellSwap, LendField, ReturnField}
 use Rattle.brc_model.specs.declared.actor.Place.{Place}
 use Rattle.brc_model.specs.declared.actor.Context.{Context}
 use Rattle.brc_model.specs.declared.actor.Place.TheVariants.{Idle, InCall, Inside, Exiting}
@@ -145,10 +145,10 @@ pub data MayBegin (g : Scene) : Duty → List Duty → Type 0 where
   Swaps : (row i item : ℕ) (h : Holding) (rest : List Duty) → Backs g row → g.locked ≡ Some row
       → i < cells_of (words_of g row) → 0 < references_to item g.bag → MayBegin g (CellSwap row i item h) rest
   Lends : (row : ℕ) → Backs g row → g.locked ≡ Some row → g.lent ≡ None → has_resource (words_of g row) ≡ true
-      → MayBegin g (LendSlot row) []
-  Returns : (row : ℕ) → Backs g row → g.lent ≡ Some row → MayBegin g (ReturnSlot row) []
+      → MayBegin g (LendField row) []
+  Returns : (row : ℕ) → Backs g row → g.lent ≡ Some row → MayBegin g (ReturnField row) []
 
--- The duties behind the first one settle, and leave if the thread is to leave.
+-- The duties after the first one settle, and leave if the thread is to leave.
 pub data MayFollow (layout : Layout) (t used : ℕ) (place : Place) : List Duty → Type 0 where
   Nothing : (place ≢ Exiting) → MayFollow layout t used place []
   Settles : (place ≢ Exiting) → MayFollow layout t used place (Settle ∷ [])

@@ -20,7 +20,7 @@ use Rattle.std.proofs.lemmas.Bool.{cases_Bool}
 
 -- ---- weights
 
--- The weights of the first duty and of the duties behind it are part of the weight of all agendas.
+-- The weights of the first duty and of the duties after it are part of the weight of all agendas.
 pub first_weighs : (f : Duty → ℕ) (actors : List Actor) (t : ℕ) (a : Actor) (d : Duty) (rest : List Duty)
     → slice_get actors t ≡ Some a → a.agenda ≡ d ∷ rest → f d + sum_by f rest ≤ weight f actors
 first_weighs f actors t a d rest found is =

@@ -8,7 +8,7 @@ use Rattle.brc_model.specs.declared.duty.Holding.{Holding}
 use Rattle.brc_model.specs.declared.duty.Holding.TheVariants.{InFlight}
 use Rattle.brc_model.specs.declared.duty.Reason.TheVariants.{Own, Handed}
 use Rattle.brc_model.specs.declared.duty.Duty.{Duty}
-use Rattle.brc_model.specs.declared.duty.Duty.TheVariants.{RetainLoad, RetainStore, RetainAdd, ReleaseLoad, ReleaseStore, DecideAtZero, SharedLoad, SharedExchange, SetMark, Look, TakeMark, MergeSwap, MergeLoad, MergeExchange, Die, SettleCell, SettleEnd, BirthKind, BirthSlot, BirthLocal, CellSwap}
+use Rattle.brc_model.specs.declared.duty.Duty.TheVariants.{RetainLoad, RetainStore, RetainAdd, ReleaseLoad, ReleaseStore, DecideAtZero, SharedLoad, SharedExchange, SetMark, Look, TakeMark, MergeSwap, MergeLoad, MergeExchange, Die, SettleCell, SettleEnd, BirthKind, BirthField, BirthLocal, CellSwap}
 use Rattle.brc_model.specs.AbstractState.{Reference, same_holding}
 use Rattle.brc_model.specs.declared.actor.Actor.{Actor}
 use Rattle.brc_model.specs.Machine.{Machine}
@@ -45,7 +45,7 @@ lacks_about (RetainLoad y h) k x = and_at_most (same_holding h k) (y == x)
 lacks_about (RetainStore y h w) k x = and_at_most (same_holding h k) (y == x)
 lacks_about (RetainAdd y h) k x = and_at_most (same_holding h k) (y == x)
 lacks_about (BirthKind y h w) k x = and_at_most (same_holding h k) (y == x)
-lacks_about (BirthSlot y h) k x = and_at_most (same_holding h k) (y == x)
+lacks_about (BirthField y h) k x = and_at_most (same_holding h k) (y == x)
 lacks_about (BirthLocal y h) k x = and_at_most (same_holding h k) (y == x)
 lacks_about _ k x = omega arith
 

@@ -3,8 +3,8 @@ use Rattle.std.proofs.Common.{◌≡◌, ◌≢◌, ℕ, List, Some, refl, sym, 
 use Rattle.std.specs.Prelude.{slice_get}
 use Rattle.std.proofs.lemmas.Bool.{ne_eqb}
 use Rattle.brc_model.specs.declared.duty.Duty.{Duty}
-use Rattle.brc_model.specs.declared.duty.Duty.TheVariants.{SettleKind, TakeSlot, BirthKind, BirthSlot, KindLoad, LendSlot, ReturnSlot}
-use Rattle.brc_model.specs.declared.address.Address.TheVariants.{KindOf, Slot}
+use Rattle.brc_model.specs.declared.duty.Duty.TheVariants.{SettleKind, TakeField, BirthKind, BirthField, KindLoad, LendField, ReturnField}
+use Rattle.brc_model.specs.declared.address.Address.TheVariants.{KindOf, Field}
 use Rattle.brc_model.specs.declared.actor.Actor.{Actor}
 use Rattle.brc_model.specs.Machine.{Unborn, Dying, Machine, machine_by_duty}
 use Rattle.brc_model.specs.Accounts.{Accounts}
@@ -41,28 +41,28 @@ module _ (p : Accounts) (n : ℕ) (m : Machine) (t u : ℕ) (a b : Actor) where
       written_apart m.memory (KindOf y) (KindOf x) w (ne_eqb y x (next_apart y x ne mine next))
   kind_left _ rest x here ne next = refl
 
-  slot_left : (d : Duty) (rest : List Duty) (x : ℕ) → AtDuty p n m t a d rest → u ≢ t → IsNext m u b x
-      → m.life x ≡ Unborn → (machine_by_duty m t a d rest).memory (Slot x) ≡ m.memory (Slot x)
-  slot_left (TakeSlot y) rest x here ne next unborn =
+  field_left : (d : Duty) (rest : List Duty) (x : ℕ) → AtDuty p n m t a d rest → u ≢ t → IsNext m u b x
+      → m.life x ≡ Unborn → (machine_by_duty m t a d rest).memory (Field x) ≡ m.memory (Field x)
+  field_left (TakeField y) rest x here ne next unborn =
       let dies = (head_of here).1 in
-      written_apart m.memory (Slot y) (Slot x) 0 (ne_eqb y x (born_apart y x unborn (dying_born y dies)))
-  slot_left (BirthSlot y h) rest x here ne next unborn =
+      written_apart m.memory (Field y) (Field x) 0 (ne_eqb y x (born_apart y x unborn (dying_born y dies)))
+  field_left (BirthField y h) rest x here ne next unborn =
       let mine = (head_of here).0 in
-      written_apart m.memory (Slot y) (Slot x) 1 (ne_eqb y x (next_apart y x ne mine next))
-  slot_left (LendSlot y) rest x here ne next unborn =
+      written_apart m.memory (Field y) (Field x) 1 (ne_eqb y x (next_apart y x ne mine next))
+  field_left (LendField y) rest x here ne next unborn =
       let locked = (head_of here).1 in
-      written_apart m.memory (Slot y) (Slot x) 0
-      (ne_eqb y x (born_apart y x unborn (locked_born (LendSlot y) rest y here locked)))
-  slot_left (ReturnSlot y) rest x here ne next unborn =
+      written_apart m.memory (Field y) (Field x) 0
+      (ne_eqb y x (born_apart y x unborn (locked_born (LendField y) rest y here locked)))
+  field_left (ReturnField y) rest x here ne next unborn =
       let locked = (here.core.each t a here.found).0.lent y (head_of here) in
-      written_apart m.memory (Slot y) (Slot x) 1
-      (ne_eqb y x (born_apart y x unborn (locked_born (ReturnSlot y) rest y here locked)))
-  slot_left _ rest x here ne next unborn = refl
+      written_apart m.memory (Field y) (Field x) 1
+      (ne_eqb y x (born_apart y x unborn (locked_born (ReturnField y) rest y here locked)))
+  field_left _ rest x here ne next unborn = refl
 
-  -- A step leaves the kind word and the slot of the row to which another thread gives birth.
+  -- A step leaves the kind word and the field of the row to which another thread gives birth.
   pub births_left : (d : Duty) (rest : List Duty) (x : ℕ) → AtDuty p n m t a d rest → u ≢ t
       → slice_get m.actors u ≡ Some b → IsNext m u b x
       → ((machine_by_duty m t a d rest).memory (KindOf x) ≡ m.memory (KindOf x))
-      × ((machine_by_duty m t a d rest).memory (Slot x) ≡ m.memory (Slot x))
+      × ((machine_by_duty m t a d rest).memory (Field x) ≡ m.memory (Field x))
   births_left d rest x here ne found next =
-      (kind_left d rest x here ne next, slot_left d rest x here ne next (next_unborn p n m u b x here.core found next))
+      (kind_left d rest x here ne next, field_left d rest x here ne next (next_unborn p n m u b x here.core found next))

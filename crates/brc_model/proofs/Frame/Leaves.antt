@@ -4,7 +4,7 @@ use Rattle.std.specs.Prelude.{◌==◌, slice_get, sum_by}
 use Rattle.std.proofs.lemmas.List.Sums.{sum_by-cons}
 use Rattle.std.proofs.lemmas.Bool.{eqb-true, eq-eqb, ne_eqb}
 use Rattle.std.proofs.lemmas.Bool.Decides.{eqb_tells}
-use Rattle.brc_word.specs.declared.values.TheConstants.{RUNNING, MERGED}
+use Rattle.brc_word.specs.declared.values.TheConstants.{ONE_REFERENCE, RUNNING, MERGED}
 use Rattle.brc_model.specs.declared.duty.Holding.{Holding}
 use Rattle.brc_model.specs.declared.duty.Holding.TheVariants.{InFlight}
 use Rattle.brc_word.specs.Words.{owner_part, biased_part, phase_part, fresh_word, released_word, merged_word, local_word, free_word, locked_word}
@@ -26,7 +26,7 @@ use Rattle.brc_model.specs.OpenWork.{dies_by, exits}
 use Rattle.brc_model.specs.AbstractState.{Reference}
 use Rattle.brc_model.specs.Gates.{making, LocksFit}
 use Rattle.brc_model.specs.Invariant.{AtDuty, CoreInvariant, numbers_of}
-use Rattle.brc_model.proofs.Objects.RowSteps.{shared_range, shared_up, shared_down, shared_merged}
+use Rattle.brc_model.proofs.Objects.RowSteps.{shared_range, shared_up, shared_down, shared_merged, released_less}
 use Rattle.brc_model.proofs.Frame.Aside.{extra_held}
 use Rattle.brc_model.proofs.Frame.Alive.{first_weighs, Alive, alive_referenced, alive_waiting, alive_deciding, alive_merging, backed_lives}
 use Rattle.brc_model.proofs.Basics.Written.{written_here, written_apart, written_load, apart_local, apart_shared, apart_gate, apart_thread}
@@ -184,7 +184,7 @@ phase_written m y v x here was =
 released_merged : (w : ℕ) → 1 ≤ biased_part w → phase_part w ≡ MERGED → phase_part (released_word w) ≡ MERGED
 released_merged w some phase =
     let other : (w == fresh_word) ≡ false = ne_eqb w fresh_word (λ e. absurd (omega (arith, phase, e))) in
-    ap (λ (b : Bool). phase_part (cond b (w + 2) (w - 4))) other ∙ (shared_down w some).1 ∙ phase
+    ap phase_part (released_less w other) ∙ (shared_down w some).1 ∙ phase
 
 module _ {p : Accounts} {n : ℕ} {m : Machine} {t : ℕ} {a : Actor} {rest : List Duty} where
   -- A step leaves a merged row merged.
@@ -192,7 +192,7 @@ module _ {p : Accounts} {n : ℕ} {m : Machine} {t : ℕ} {a : Actor} {rest : Li
       → phase_part (written m.memory (address_of m.layout t a.head d)
       (new_word m.layout t a.head d (m.memory (address_of m.layout t a.head d))) (Shared x)) ≡ 3
   merged_left (RetainAdd y h) here x was =
-      phase_written m y (m.memory (Shared y) + 4) x (λ w. (shared_up (m.memory (Shared y))).1 ∙ w) was
+      phase_written m y (m.memory (Shared y) + ONE_REFERENCE) x (λ w. (shared_up (m.memory (Shared y))).1 ∙ w) was
   merged_left (DecideAtZero y) here x was = ap phase_part (written_load m.memory (Shared y) (Shared x)) ∙ was
   merged_left (SharedLoad y r) here x was = ap phase_part (written_load m.memory (Shared y) (Shared x)) ∙ was
   merged_left (SharedExchange y r w) here x was =

@@ -9,9 +9,9 @@ use Rattle.brc_word.specs.declared.values.TheConstants.{RUNNING, MERGED, EMPTY}
 use Rattle.brc_model.specs.declared.duty.Holding.{Holding}
 use Rattle.brc_word.specs.Words.{phase_part}
 use Rattle.brc_model.specs.declared.duty.Duty.{Duty}
-use Rattle.brc_model.specs.declared.duty.Duty.TheVariants.{Die, Settle, SettleKind, SettleCell, TakeSlot, CloseResource, SettleEnd, Leave, Scan, MarksLoad, TakeFound, Finish, ClaimMark, BirthKind, BirthSlot, BirthLocal, KindLoad, LockGate, UnlockGate, CellLoad, CellSwap, LendSlot, ReturnSlot}
+use Rattle.brc_model.specs.declared.duty.Duty.TheVariants.{Die, Settle, SettleKind, SettleCell, TakeField, CloseResource, SettleEnd, Leave, Scan, MarksLoad, TakeFound, Finish, ClaimMark, BirthKind, BirthField, BirthLocal, KindLoad, LockGate, UnlockGate, CellLoad, CellSwap, LendField, ReturnField}
 use Rattle.brc_model.specs.declared.address.Address.{Address}
-use Rattle.brc_model.specs.declared.address.Address.TheVariants.{Local, Shared, Gate, KindOf, Cell, Slot, ThreadWord}
+use Rattle.brc_model.specs.declared.address.Address.TheVariants.{Local, Shared, Gate, KindOf, Cell, Field, ThreadWord}
 use Rattle.brc_model.specs.declared.actor.Actor.{Actor}
 use Rattle.brc_model.specs.Machine.{Life, Unborn, Dying, Machine}
 use Rattle.brc_model.specs.AbstractState.{AbstractState}
@@ -54,7 +54,7 @@ pub record LeavesMemory (m new : Machine) (t : ℕ) : Type 0 where
   pub words_born : (x : ℕ) → m.life x ≢ Unborn → new.memory (KindOf x) ≡ m.memory (KindOf x)
   -- What another thread's birth has stored stays.
   pub births : (u x : ℕ) (b : Actor) → u ≢ t → slice_get m.actors u ≡ Some b → IsNext m u b x
-      → (new.memory (KindOf x) ≡ m.memory (KindOf x)) × (new.memory (Slot x) ≡ m.memory (Slot x))
+      → (new.memory (KindOf x) ≡ m.memory (KindOf x)) × (new.memory (Field x) ≡ m.memory (Field x))
 
 -- What a step of thread `t` leaves unchanged for all other threads.
 pub record LeavesOthers (m new : Machine) (t : ℕ) : Type 0 where
@@ -144,7 +144,7 @@ module _ (m new : Machine) (t u : ℕ) (leaves : LeavesMemory m new t) (ne : u �
   chained_kept : (x : ℕ) → HasChained m u x → HasChained new u x
   chained_kept x chained = (life_kept x chained.0, dying_word_kept x chained.0 chained.1)
 
-  -- A duty behind the first knows what it knew.
+  -- A duty after the first knows what it knew.
   behind_fits_kept : (d : Duty) → BehindFits m u d → BehindFits new u d
   behind_fits_kept (SettleCell x i n) fits = (
     counted_kept x fits.0,
@@ -225,7 +225,7 @@ module _ (m new : Machine) (t u : ℕ) (leaves : LeavesMemory m new t) (ne : u �
     head_kept (SettleKind x) rest many fits =
         (counted_kept x fits.0, life_kept x fits.1, dying_word_kept x fits.1 fits.2)
     head_kept (SettleCell x i n) rest many fits = behind_fits_kept (SettleCell x i n) fits
-    head_kept (TakeSlot x) rest many fits = (
+    head_kept (TakeField x) rest many fits = (
       counted_kept x fits.0,
       life_kept x fits.1,
       dying_word_kept x fits.1 fits.2,
@@ -251,7 +251,7 @@ module _ (m new : Machine) (t u : ℕ) (leaves : LeavesMemory m new t) (ne : u �
     head_kept Finish rest many fits = fits
     head_kept (ClaimMark x) rest many fits = ap (λ (r : Layout). block_of r x) leaves.layout ∙ fits
     head_kept (BirthKind x h w) rest many fits = (next_kept x fits.0, fits.1, fits.2)
-    head_kept (BirthSlot x h) rest many fits = (
+    head_kept (BirthField x h) rest many fits = (
       next_kept x fits.0,
       fits.1,
       leaves.kinds x fits.2,
@@ -268,13 +268,13 @@ module _ (m new : Machine) (t u : ℕ) (leaves : LeavesMemory m new t) (ne : u �
     head_kept (CellLoad x i) rest many fits =
         (look_kept x (many x (eq-eqb x x refl)) fits.0, guard_kept x fits.1, cells_kept x i fits.2)
     head_kept (CellSwap x i y h) rest many fits = (fits.0, cells_kept x i fits.1)
-    head_kept (LendSlot x) rest many fits = (
+    head_kept (LendField x) rest many fits = (
       counted_kept x fits.0,
       fits.1,
       fits.2,
       ap has_resource (leaves.lists u x b ne found fits.1).kind ∙ fits.3,
     )
-    head_kept (ReturnSlot x) rest many fits = fits
+    head_kept (ReturnField x) rest many fits = fits
     head_kept d rest many fits =
         known_kept m new u b b d rest refl (λ x about. row_left x (many x about)) (λ retains. list_left) fits
 

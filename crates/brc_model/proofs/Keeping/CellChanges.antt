@@ -268,7 +268,7 @@ module _ (p : Accounts) (n : ℕ) (m : Machine) (t : ℕ) (a : Actor) (x i word 
         (λ z k apart. core.cells_end z k);
     uses = core.uses;
     blanks = λ u b found.
-        let old = core.blanks u b found in record { kinds = old.kinds; slots = old.slots };
+        let old = core.blanks u b found in record { kinds = old.kinds; fields = old.fields };
     immortals_live = core.immortals_live;
     born_is = core.born_is;
     born_has = core.born_has;

@@ -13,7 +13,8 @@ use Rattle.brc_model.specs.Counting.{Counts, IsPlainLayout, hands_machine, hands
 use Rattle.brc_model.specs.AbstractState.{same_holding}
 use Rattle.brc_model.proofs.Basics.Bag.{eqb_swapped}
 use Rattle.brc_model.proofs.Keeping.Callers.{callers_hold, callers_beyond}
-use Rattle.brc_model.proofs.Keeping.FirstCounts.{IsRooted, rooted_kept}
+use Rattle.brc_model.proofs.Keeping.FirstThreads.{IsRooted}
+use Rattle.brc_model.proofs.Keeping.FirstInvariant.{rooted_kept}
 use Rattle.brc_model.proofs.Keeping.FirstRanges.{rooted_ranges}
 
 -- The account of each thread says what the bag has.

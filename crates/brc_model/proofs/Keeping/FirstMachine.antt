@@ -14,7 +14,8 @@ use Rattle.brc_model.specs.Safety.{IsCall, AreCalls}
 use Rattle.brc_model.specs.Accounts.{Accounts}
 use Rattle.brc_model.specs.Invariant.{Invariant}
 use Rattle.brc_model.proofs.Basics.Lists.{some_is, all_of_found, slice_get-map, all_at}
-use Rattle.brc_model.proofs.Keeping.FirstCounts.{idle_actors, rooted_machine, each_idle, rooted_kept}
+use Rattle.brc_model.proofs.Keeping.FirstThreads.{idle_actors, rooted_machine, each_idle}
+use Rattle.brc_model.proofs.Keeping.FirstInvariant.{rooted_kept}
 use Rattle.brc_model.proofs.Keeping.Callers.{callers_hold}
 use Rattle.brc_model.proofs.Dispatch.Holds.{once_each, the_root}
 use Rattle.brc_model.proofs.Dispatch.Coded.{InCode, has_calls}

@@ -6,7 +6,8 @@ use Rattle.brc_model.specs.Ranges.{AreSmall, Ranges}
 use Rattle.brc_model.specs.declared.layout.Layout.{Layout}
 use Rattle.brc_model.specs.FirstRows.{HasLines, FirstRow, NoneRow, RootRow, ImmortalList, Number, UnbornRow, first_row, kind_word_of_first}
 use Rattle.brc_model.proofs.Keeping.FirstRows.{line_short}
-use Rattle.brc_model.proofs.Keeping.FirstCounts.{rooted_machine, each_idle, list_cells, number_cells}
+use Rattle.brc_model.proofs.Keeping.FirstThreads.{rooted_machine, each_idle}
+use Rattle.brc_model.proofs.Keeping.FirstKinds.{list_cells, number_cells}
 
 -- No kind word names more cells than lists of the layout may have.
 few_cells : (lines : List (List ℕ)) (layout : Layout) → HasLines lines layout → root_cells ≤ layout.cells

@@ -45,7 +45,7 @@ line_off list first (suc n) x i o apart =
     let other : one_if (same r q) ≡ 0 = ap one_if (other_list x list i n o (first + n) apart) in
     omega (arith, held-cons r q (line_references list first n), other, line_off list first n x i o apart)
 
--- Cells behind the line's hold nothing.
+-- Cells after the line's hold nothing.
 line_past : (list first n i o : ℕ) → n ≤ i → held (cell_reference list i o) (line_references list first n) ≡ 0
 line_past list first zero i o past = refl
 line_past list first (suc n) i o past =
@@ -114,7 +114,7 @@ line_holds list first i o line =
           ∙ ap (λ (b : Bool). word_holds (cond b (first + i + 1) 0) o) (sym (le-ltb i (length line) past))
     ]
 
--- The word of a cell of a later line, counted from the line behind.
+-- The word of a cell of a later line, counted from the next line.
 later_word : (line : List ℕ) (lines : List (List ℕ)) (first s i : ℕ)
     → word_in_list lines (first + length line) s i ≡ word_in_list (line ∷ lines) first (suc s) i
 later_word line lines first s i =

@@ -6,7 +6,7 @@ use Rattle.std.specs.Prelude.{slice_get}
 use Rattle.std.proofs.lemmas.Option.{slice_get_within}
 use Rattle.brc_model.specs.declared.duty.Reason.TheVariants.{Own, Handed}
 use Rattle.brc_model.specs.declared.duty.Duty.{Duty}
-use Rattle.brc_model.specs.declared.duty.Duty.TheVariants.{RetainLoad, RetainStore, RetainAdd, ReleaseLoad, ReleaseStore, DecideAtZero, SharedLoad, SharedExchange, SetMark, Look, TakeMark, MergeSwap, MergeLoad, MergeExchange, Die, Settle, SettleKind, SettleCell, TakeSlot, CloseResource, SettleEnd, Leave, Scan, TakeFound, Finish, ClaimMark, BirthKind, BirthSlot, BirthLocal, CellSwap}
+use Rattle.brc_model.specs.declared.duty.Duty.TheVariants.{RetainLoad, RetainStore, RetainAdd, ReleaseLoad, ReleaseStore, DecideAtZero, SharedLoad, SharedExchange, SetMark, Look, TakeMark, MergeSwap, MergeLoad, MergeExchange, Die, Settle, SettleKind, SettleCell, TakeField, CloseResource, SettleEnd, Leave, Scan, TakeFound, Finish, ClaimMark, BirthKind, BirthField, BirthLocal, CellSwap}
 use Rattle.brc_model.specs.declared.actor.Status.TheVariants.{Running, Gone}
 use Rattle.brc_model.specs.declared.actor.Actor.{Actor}
 use Rattle.brc_model.specs.Machine.{Machine, actor_by, machine_by_duty, with_actor}
@@ -21,7 +21,7 @@ use Rattle.brc_model.proofs.Stepping.Releases.{thread_after_retain_store, thread
 use Rattle.brc_model.proofs.Stepping.SharedWords.{thread_after_shared_load, thread_after_shared_exchange}
 use Rattle.brc_model.proofs.Stepping.Merges.{thread_after_set_mark, thread_after_look, thread_after_take_mark, thread_after_merge_swap_own, thread_after_merge_swap_handed, thread_after_merge_load, thread_after_merge_exchange}
 use Rattle.brc_model.proofs.Stepping.Chains.{thread_after_die, thread_after_settle, thread_after_settle_end}
-use Rattle.brc_model.proofs.Stepping.Settling.{thread_after_settle_kind, thread_after_settle_cell, thread_after_take_slot, thread_after_close_resource}
+use Rattle.brc_model.proofs.Stepping.Settling.{thread_after_settle_kind, thread_after_settle_cell, thread_after_take_field, thread_after_close_resource}
 use Rattle.brc_model.proofs.Stepping.CellSwaps.{thread_after_cell_swap}
 use Rattle.brc_model.proofs.Stepping.Exits.{thread_after_leave, thread_after_scan, thread_after_take, thread_after_finish, thread_after_claim_mark}
 use Rattle.brc_model.proofs.Stepping.Settled.{settled_after}
@@ -30,7 +30,7 @@ use Rattle.brc_model.proofs.Keeping.KeepsDuty.{keeps_by}
 use Rattle.brc_model.proofs.Keeping.NotBad.{duty_not_bad}
 use Rattle.brc_model.proofs.Keeping.Sits.{sitting, Sits, AtRest, sits_core, taken_up_step}
 use Rattle.brc_model.specs.Counting.{with_account}
-use Rattle.brc_model.proofs.Stepping.Births.{thread_after_birth_kind, thread_after_birth_slot, thread_after_birth_local}
+use Rattle.brc_model.proofs.Stepping.Births.{thread_after_birth_kind, thread_after_birth_field, thread_after_birth_local}
 use Rattle.brc_model.proofs.Stepping.Nones.{thread_after_retain_immortal, thread_after_release_immortal}
 use Rattle.std.proofs.lemmas.Bool.{cases_Bool}
 use Rattle.brc_model.specs.Layout.{is_immortal_row}
@@ -69,7 +69,7 @@ module _ {p : Accounts} {n : ℕ} {m : Machine} {t : ℕ} {a : Actor} {rest : Li
   thread_after_duty Settle here alive settled = thread_after_settle here alive
   thread_after_duty (SettleKind x) here alive settled = thread_after_settle_kind x here alive
   thread_after_duty (SettleCell x i k) here alive settled = thread_after_settle_cell x i k here alive
-  thread_after_duty (TakeSlot x) here alive settled = thread_after_take_slot x here alive
+  thread_after_duty (TakeField x) here alive settled = thread_after_take_field x here alive
   thread_after_duty (CloseResource x) here alive settled = thread_after_close_resource x here alive
   thread_after_duty (SettleEnd x) here alive settled = thread_after_settle_end x here alive
   thread_after_duty (Leave x k) here alive settled = thread_after_leave p n m t a x k rest here alive
@@ -78,7 +78,7 @@ module _ {p : Accounts} {n : ℕ} {m : Machine} {t : ℕ} {a : Actor} {rest : Li
   thread_after_duty Finish here alive settled = thread_after_finish p n m t a rest here alive settled.0
   thread_after_duty (ClaimMark x) here alive settled = thread_after_claim_mark x here alive
   thread_after_duty (BirthKind x h w) here alive settled = thread_after_birth_kind x h w here alive
-  thread_after_duty (BirthSlot x h) here alive settled = thread_after_birth_slot x h here alive
+  thread_after_duty (BirthField x h) here alive settled = thread_after_birth_field x h here alive
   thread_after_duty (BirthLocal x h) here alive settled = thread_after_birth_local p n m t a x h rest here alive
   thread_after_duty (CellSwap x i y h) here alive settled = thread_after_cell_swap x i y h here alive
   -- `KindRead`, `Locks`, `LockHeld`, `Unlocks`, `CellRead`, `ResourceLent` and `ResourceReturned`: nothing follows the

@@ -10,7 +10,7 @@ use Rattle.brc_model.specs.AbstractState.{is_counted, is_among, AbstractState, s
 use Rattle.brc_word.specs.Words.{is_immortal_word}
 use Rattle.brc_model.specs.declared.duty.Reason.TheVariants.{Own, Handed}
 use Rattle.brc_model.specs.declared.duty.Duty.{Duty}
-use Rattle.brc_model.specs.declared.duty.Duty.TheVariants.{RetainLoad, RetainStore, RetainAdd, ReleaseLoad, ReleaseStore, DecideAtZero, SharedLoad, SharedExchange, MergeSwap, MergeLoad, MergeExchange, Die, Settle, SettleKind, SettleCell, SettleEnd, TakeSlot, CloseResource, BirthKind, BirthSlot, BirthLocal, KindLoad, LockGate, UnlockGate, CellLoad, CellSwap, LendSlot, ReturnSlot}
+use Rattle.brc_model.specs.declared.duty.Duty.TheVariants.{RetainLoad, RetainStore, RetainAdd, ReleaseLoad, ReleaseStore, DecideAtZero, SharedLoad, SharedExchange, MergeSwap, MergeLoad, MergeExchange, Die, Settle, SettleKind, SettleCell, SettleEnd, TakeField, CloseResource, BirthKind, BirthField, BirthLocal, KindLoad, LockGate, UnlockGate, CellLoad, CellSwap, LendField, ReturnField}
 use Rattle.brc_lang.specs.declared.kind.Kind.{Kind}
 use Rattle.brc_model.specs.Kinds.{kind_of_word, is_counted_kind}
 use Rattle.brc_model.specs.declared.address.Address.TheVariants.{Local, KindOf, Cell}
@@ -126,10 +126,10 @@ module _ {p : Accounts} {n : ℕ} {m : Machine} {t : ℕ} {a : Actor} {rest : Li
   touches_none Settle here = dying_free m t (a.head - 1) (chain_head_dies here)
   touches_none (SettleKind x) here = dying_free m t x (head_of here).1
   touches_none (SettleCell x i k) here = dying_free m t x (head_of here).1
-  touches_none (TakeSlot x) here = dying_free m t x (head_of here).1
+  touches_none (TakeField x) here = dying_free m t x (head_of here).1
   touches_none (CloseResource x) here = dying_free m t x (head_of here).1
   touches_none (BirthKind x h w) here = next_free t a x here.core here.found (head_of here).0
-  touches_none (BirthSlot x h) here = next_free t a x here.core here.found (head_of here).0
+  touches_none (BirthField x h) here = next_free t a x here.core here.found (head_of here).0
   touches_none (BirthLocal x h) here = next_free t a x here.core here.found (head_of here).0
   touches_none (SettleEnd x) here = dying_free m t x (head_of here).1
   touches_none (KindLoad x) here = look_free t a x here.core (head_of here)
@@ -139,10 +139,10 @@ module _ {p : Accounts} {n : ℕ} {m : Machine} {t : ℕ} {a : Actor} {rest : Li
   touches_none (CellSwap x i y h) here =
       let locked = (head_of here).0 in
       ap (is_freed_for t) (locked_lives t a x here.core here.found locked)
-  touches_none (LendSlot x) here =
+  touches_none (LendField x) here =
       let locked = (head_of here).1 in
       ap (is_freed_for t) (locked_lives t a x here.core here.found locked)
-  touches_none (ReturnSlot x) here =
+  touches_none (ReturnField x) here =
       let lent = head_of here in
       ap (is_freed_for t)
       (locked_lives t a x here.core here.found ((here.core.each t a here.found).0.lent x lent))

@@ -6,7 +6,7 @@ use Rattle.std.proofs.lemmas.Bool.{false≢true}
 use Rattle.std.proofs.lemmas.List.Sums.{sum_by-cons, sum_by-append}
 use Rattle.brc_model.specs.declared.duty.Holding.{Holding}
 use Rattle.brc_model.specs.declared.duty.Duty.{Duty}
-use Rattle.brc_model.specs.declared.duty.Duty.TheVariants.{Die, Settle, Leave, Scan, TakeFound, Finish, BirthSlot, BirthLocal}
+use Rattle.brc_model.specs.declared.duty.Duty.TheVariants.{Die, Settle, Leave, Scan, TakeFound, Finish, BirthField, BirthLocal}
 use Rattle.brc_model.specs.declared.actor.Status.{Status}
 use Rattle.brc_model.specs.declared.actor.Status.TheVariants.{Running, Leaving, Gone}
 use Rattle.brc_model.specs.declared.actor.Actor.{Actor}
@@ -16,7 +16,7 @@ use Rattle.brc_model.specs.RowInvariant.{waits, carries, merges, decides, agenda
 use Rattle.brc_model.specs.Accounts.{Accounts, extra, lacks, extra_of, lacks_of, extra_aside, lacks_aside}
 use Rattle.brc_model.specs.Knowledge.{HeadFits, HeadOf, BehindOf}
 use Rattle.brc_model.specs.OpenWork.{Later, Agenda, AgendaFits, has_leave, exits, is_about, about_of, finalised, scans, may_wait, AllWait, AsideFits, IsSettled}
-use Rattle.brc_model.specs.Invariant.{looks, kind_stored, slot_stored, BlankFits, CoreInvariant, Invariant}
+use Rattle.brc_model.specs.Invariant.{looks, kind_stored, field_stored, BlankFits, CoreInvariant, Invariant}
 use Rattle.brc_model.proofs.Basics.Lists.{written_actor}
 use Rattle.brc_model.proofs.Frame.Aside.{waiting_piece}
 use Rattle.brc_model.proofs.Frame.Known.{LeavesRow, known_kept}
@@ -53,8 +53,8 @@ waiting_settled head Finish waits = absurd cc
 waiting_settled head _ waits = tt
 
 waiting_stores : (d : Duty) (x : ℕ) → may_wait d ≡ true
-    → (kind_stored (d ∷ []) x ≡ false) × (slot_stored (d ∷ []) x ≡ false)
-waiting_stores (BirthSlot y h) x waits = absurd cc
+    → (kind_stored (d ∷ []) x ≡ false) × (field_stored (d ∷ []) x ≡ false)
+waiting_stores (BirthField y h) x waits = absurd cc
 waiting_stores (BirthLocal y h) x waits = absurd cc
 waiting_stores _ x waits = (refl, refl)
 
@@ -215,7 +215,7 @@ module _ {p : Accounts} {n : ℕ} {m : Machine} where
         };
         blanks = record {
           kinds = λ x block past none. blanks.kinds x block past (waiting_stores d x waits).0;
-          slots = λ x block past none. blanks.slots x block past (waiting_stores d x waits).1;
+          fields = λ x block past none. blanks.fields x block past (waiting_stores d x waits).1;
         };
         scans_on = λ x scanned.
             absurd (false≢true (sym (ap (scans x) is ∙ waiting_scans d x waits) ∙ scanned));
@@ -308,7 +308,7 @@ module _ {p : Accounts} {n : ℕ} {m : Machine} where
             let old = subst (BlankFits m.layout m.memory t a.used) none (kept.core.blanks t a found) in
             record {
               kinds = λ x block past stored. old.kinds x block past refl;
-              slots = λ x block past stored. old.slots x block past refl;
+              fields = λ x block past stored. old.fields x block past refl;
             };
         scans_on = λ x scanned. absurd (false≢true (sym (ap (scans x) none) ∙ scanned));
         settled = waiting_settled a.head d it.waits;

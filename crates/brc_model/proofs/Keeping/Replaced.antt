@@ -21,7 +21,7 @@ use Rattle.brc_model.specs.OpenWork.{scans}
 use Rattle.brc_model.specs.Counting.{HasNothingInFlight, with_account}
 use Rattle.brc_model.proofs.Frame.Others.{LeavesOthers, same_memory, each_fits}
 use Rattle.brc_model.proofs.Frame.Locks.{gate_fits_kept}
-use Rattle.brc_model.specs.VarStates.{names}
+use Rattle.brc_model.specs.SlotStates.{names}
 use Rattle.brc_model.specs.References.{one_if}
 use Rattle.brc_model.specs.Resources.{lends, closing, ending, resources_at, ResourcesFit}
 use Rattle.brc_model.proofs.Objects.Finalisers.{Finalises}
@@ -104,7 +104,7 @@ same_resources m t a b x found lent same =
     sym (same_weight (ending x) m.actors t a b found (same (ending x) (finalises x (ending x) (of_ending x)))) in
     λ i. record {
       all = old.all;
-      slot = old.slot;
+      field = old.field;
       lent = l i;
       closing = c i;
       closed = old.closed;

@@ -7,7 +7,7 @@ use Rattle.brc_model.specs.declared.state.Exit.{Exit}
 use Rattle.brc_model.specs.declared.thread.Call.{Call}
 use Rattle.brc_model.specs.declared.thread.Choice.{Choice}
 use Rattle.brc_model.specs.declared.duty.Duty.{Duty}
-use Rattle.brc_model.specs.declared.duty.Duty.TheVariants.{LendSlot, ReturnSlot}
+use Rattle.brc_model.specs.declared.duty.Duty.TheVariants.{LendField, ReturnField}
 use Rattle.brc_model.specs.declared.layout.Layout.{Layout}
 use Rattle.brc_model.specs.declared.actor.Actor.{Actor}
 use Rattle.brc_model.specs.Machine.{is_lending, has_room, actor_by}
@@ -39,9 +39,9 @@ first_rooms p states rows calls (suc t) a is =
 -- A duty that lends a resource or returns it leaves the thread its room, and nothing else to do.
 lent_room : (layout : Layout) (t : ℕ) (a : Actor) (d : Duty) (rest : List Duty) (found : ℕ) → is_lending d ≡ true
     → rest ≡ [] → has_room layout t a.used ≡ true → HasRoom layout t (actor_by layout t a d rest found)
-lent_room layout t a (LendSlot x) rest found lending none room =
+lent_room layout t a (LendField x) rest found lending none room =
     record { agenda = ap (ready a.head) none; room = room }
-lent_room layout t a (ReturnSlot x) rest found lending none room =
+lent_room layout t a (ReturnField x) rest found lending none room =
     record { agenda = ap (ready a.head) none; room = room }
 lent_room layout t a _ rest found lending none room = absurd cc
 

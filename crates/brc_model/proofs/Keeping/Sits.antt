@@ -86,7 +86,7 @@ module _ {p : Accounts} {n : ℕ} {m : Machine} {t : ℕ} {a : Actor} where
       subst (λ (l : List Duty). BlankFits m.layout m.memory t a.used l) rest.agenda (rest.core.blanks t a rest.found) in
       record {
         kinds = λ x block past none. old.kinds x block past refl;
-        slots = λ x block past none. old.slots x block past refl;
+        fields = λ x block past none. old.fields x block past refl;
       }
 
 -- The work that a thread takes up weighs nothing, so the thread weighs what it weighed before.

@@ -4,7 +4,7 @@ use Rattle.std.specs.List.{list_any}
 use Rattle.std.specs.Prelude.{sum_by}
 use Rattle.std.proofs.lemmas.List.Sums.{sum_by-cons}
 use Rattle.brc_model.specs.declared.duty.Duty.{Duty}
-use Rattle.brc_model.specs.declared.duty.Duty.TheVariants.{Look, TakeMark, Die, SettleKind, SettleCell, TakeSlot, CloseResource, SettleEnd}
+use Rattle.brc_model.specs.declared.duty.Duty.TheVariants.{Look, TakeMark, Die, SettleKind, SettleCell, TakeField, CloseResource, SettleEnd}
 use Rattle.brc_model.specs.OpenWork.{is_finalising, finalised}
 use Rattle.brc_model.specs.Invariant.{looks}
 use Rattle.brc_model.proofs.Basics.Lists.{first_false, second_false}
@@ -16,7 +16,7 @@ weighs_any (Look x) = true
 weighs_any (TakeMark x) = true
 weighs_any (SettleKind x) = true
 weighs_any (SettleCell x i n) = true
-weighs_any (TakeSlot x) = true
+weighs_any (TakeField x) = true
 weighs_any (CloseResource x) = true
 weighs_any (SettleEnd x) = true
 weighs_any d = weighs d

@@ -6,7 +6,7 @@ use Rattle.std.proofs.lemmas.Bool.{eq-eqb}
 use Rattle.brc_word.specs.Words.{owner_part, local_part, biased_part, phase_part, bias}
 use Rattle.brc_model.specs.declared.duty.Holding.{Holding}
 use Rattle.brc_model.specs.declared.duty.Duty.{Duty}
-use Rattle.brc_model.specs.declared.duty.Duty.TheVariants.{RetainStore, RetainAdd, ReleaseLoad, ReleaseStore, SharedLoad, SharedExchange, MergeLoad, MergeExchange, TakeFound, SettleCell, CellLoad, CellSwap, TakeSlot, CloseResource, LendSlot, ReturnSlot}
+use Rattle.brc_model.specs.declared.duty.Duty.TheVariants.{RetainStore, RetainAdd, ReleaseLoad, ReleaseStore, SharedLoad, SharedExchange, MergeLoad, MergeExchange, TakeFound, SettleCell, CellLoad, CellSwap, TakeField, CloseResource, LendField, ReturnField}
 use Rattle.brc_model.specs.declared.address.Address.TheVariants.{Local, Shared, Cell}
 use Rattle.brc_model.specs.Duties.{address_of, counts_locally}
 use Rattle.brc_model.specs.declared.actor.Actor.{Actor}
@@ -165,8 +165,8 @@ module _ {p : Accounts} {n : ℕ} {m : Machine} {t : ℕ} {a : Actor} {rest : Li
     )),
     cell_low (m.memory (Cell x i)) (row_count m.layout) (λ z is. cell_small x i z here.core is),
   )
-  duty_suits (TakeSlot x) here alive few = taking_finds p n m t a x rest here
+  duty_suits (TakeField x) here alive few = taking_finds p n m t a x rest here
   duty_suits (CloseResource x) here alive few = closing_finds p n m t a x rest here
-  duty_suits (LendSlot x) here alive few = lending_finds p n m t a x rest here
-  duty_suits (ReturnSlot x) here alive few = returning_finds p n m t a x rest here
+  duty_suits (LendField x) here alive few = lending_finds p n m t a x rest here
+  duty_suits (ReturnField x) here alive few = returning_finds p n m t a x rest here
   duty_suits _ here alive few = tt

@@ -7,8 +7,8 @@ use Rattle.std.proofs.lemmas.Option.{slice_get_within}
 use Rattle.brc_word.specs.declared.values.TheConstants.{EMPTY}
 use Rattle.brc_model.specs.declared.duty.Holding.{Holding}
 use Rattle.brc_model.specs.declared.duty.Duty.{Duty}
-use Rattle.brc_model.specs.declared.duty.Duty.TheVariants.{SettleKind, TakeSlot, BirthKind, BirthSlot, BirthLocal, KindLoad, LendSlot, ReturnSlot}
-use Rattle.brc_model.specs.declared.address.Address.TheVariants.{KindOf, Slot}
+use Rattle.brc_model.specs.declared.duty.Duty.TheVariants.{SettleKind, TakeField, BirthKind, BirthField, BirthLocal, KindLoad, LendField, ReturnField}
+use Rattle.brc_model.specs.declared.address.Address.TheVariants.{KindOf, Field}
 use Rattle.brc_model.specs.Duties.{has_resource, ready}
 use Rattle.brc_model.specs.declared.actor.Actor.{Actor}
 use Rattle.brc_model.specs.Machine.{Machine, used_by, actor_by, machine_by_duty}
@@ -20,7 +20,7 @@ use Rattle.brc_model.proofs.Frame.Leaves.{head_of, locked_lives}
 use Rattle.brc_model.proofs.Stepping.FitsAfter.{found_by, memory_by}
 use Rattle.brc_model.specs.Accounts.{Accounts}
 use Rattle.brc_model.specs.Knowledge.{IsNext}
-use Rattle.brc_model.specs.Invariant.{AtDuty, kind_stored, slot_stored, BlankFits}
+use Rattle.brc_model.specs.Invariant.{AtDuty, kind_stored, field_stored, BlankFits}
 use Rattle.brc_model.specs.Layout.{block_of, index_of}
 
 -- ---- the thread that steps
@@ -29,15 +29,15 @@ use Rattle.brc_model.specs.Layout.{block_of, index_of}
 still_zero : (b : Bool) (v word : ℕ) → b ≡ false → word ≡ 0 → cond b v word ≡ 0
 still_zero b v word apart zero_before = ap (λ (c : Bool). cond c v word) apart ∙ zero_before
 
--- Says whether the duty stores the row's kind, and whether it fills the row's slot.
+-- Says whether the duty stores the row's kind, and whether it fills the row's field.
 abbrev bears_kind : Duty → ℕ → Bool
 bears_kind (BirthKind y h w) x = y == x
 bears_kind _ x = false
 
-abbrev fills_slot : Duty → ℕ → Bool
-fills_slot (BirthSlot y h) x = y == x
-fills_slot (ReturnSlot y) x = y == x
-fills_slot _ x = false
+abbrev fills_field : Duty → ℕ → Bool
+fills_field (BirthField y h) x = y == x
+fills_field (ReturnField y) x = y == x
+fills_field _ x = false
 
 kind_zero : (m : Machine) (t : ℕ) (a : Actor) (d : Duty) (x : ℕ) → bears_kind d x ≡ false → m.memory (KindOf x) ≡ 0
     → memory_by m t a d (KindOf x) ≡ 0
@@ -46,32 +46,32 @@ kind_zero m t a (SettleKind y) x apart was = written_load m.memory (KindOf y) (K
 kind_zero m t a (KindLoad y) x apart was = written_load m.memory (KindOf y) (KindOf x) ∙ was
 kind_zero m t a _ x apart was = was
 
-slot_zero : (m : Machine) (t : ℕ) (a : Actor) (d : Duty) (x : ℕ) → fills_slot d x ≡ false → m.memory (Slot x) ≡ EMPTY
-    → memory_by m t a d (Slot x) ≡ 0
-slot_zero m t a (BirthSlot y h) x apart was = still_zero (y == x) 1 (m.memory (Slot x)) apart was
-slot_zero m t a (ReturnSlot y) x apart was = still_zero (y == x) 1 (m.memory (Slot x)) apart was
-slot_zero m t a (TakeSlot y) x apart was = zero_written (y == x) (m.memory (Slot x)) was
-slot_zero m t a (LendSlot y) x apart was = zero_written (y == x) (m.memory (Slot x)) was
-slot_zero m t a _ x apart was = was
+field_zero : (m : Machine) (t : ℕ) (a : Actor) (d : Duty) (x : ℕ) → fills_field d x ≡ false → m.memory (Field x) ≡ EMPTY
+    → memory_by m t a d (Field x) ≡ 0
+field_zero m t a (BirthField y h) x apart was = still_zero (y == x) 1 (m.memory (Field x)) apart was
+field_zero m t a (ReturnField y) x apart was = still_zero (y == x) 1 (m.memory (Field x)) apart was
+field_zero m t a (TakeField y) x apart was = zero_written (y == x) (m.memory (Field x)) was
+field_zero m t a (LendField y) x apart was = zero_written (y == x) (m.memory (Field x)) was
+field_zero m t a _ x apart was = was
 
--- After the step on the kind word, the agenda says that the birth has stored it. After the step on the slot, the agenda
+-- After the step on the kind word, the agenda says that the birth has stored it. After the step on the field, the agenda
 -- says so of both.
 kind_stored_after_kind : (b : Bool) (head y : ℕ) (h : Holding) (rest : List Duty) (x : ℕ)
-    → kind_stored (ready head (cond b (BirthSlot y h ∷ []) (BirthLocal y h ∷ []) ++ rest)) x ≡ (y == x)
+    → kind_stored (ready head (cond b (BirthField y h ∷ []) (BirthLocal y h ∷ []) ++ rest)) x ≡ (y == x)
 kind_stored_after_kind true zero y h rest x = refl
 kind_stored_after_kind true (suc head) y h rest x = refl
 kind_stored_after_kind false zero y h rest x = refl
 kind_stored_after_kind false (suc head) y h rest x = refl
 
-kind_stored_after_slot : (head y : ℕ) (h : Holding) (rest : List Duty) (x : ℕ)
+kind_stored_after_field : (head y : ℕ) (h : Holding) (rest : List Duty) (x : ℕ)
     → kind_stored (ready head (BirthLocal y h ∷ rest)) x ≡ (y == x)
-kind_stored_after_slot zero y h rest x = refl
-kind_stored_after_slot (suc head) y h rest x = refl
+kind_stored_after_field zero y h rest x = refl
+kind_stored_after_field (suc head) y h rest x = refl
 
-slot_stored_after_slot : (head y : ℕ) (h : Holding) (rest : List Duty) (x : ℕ)
-    → slot_stored (ready head (BirthLocal y h ∷ rest)) x ≡ (y == x)
-slot_stored_after_slot zero y h rest x = refl
-slot_stored_after_slot (suc head) y h rest x = refl
+field_stored_after_field : (head y : ℕ) (h : Holding) (rest : List Duty) (x : ℕ)
+    → field_stored (ready head (BirthLocal y h ∷ rest)) x ≡ (y == x)
+field_stored_after_field zero y h rest x = refl
+field_stored_after_field (suc head) y h rest x = refl
 
 module _ {p : Accounts} {n : ℕ} {m : Machine} {t : ℕ} {a : Actor} {d : Duty} {rest : List Duty} where
   -- The thread's unused rows are blank when it is about to do the duty.
@@ -88,7 +88,7 @@ born_apart m t a y x next past =
 
 module _ {p : Accounts} {n : ℕ} {m : Machine} {t : ℕ} {a : Actor} {rest : List Duty} where
   -- The row whose resource a thread has lent isn't one of the unused rows.
-  lent_used : (u : ℕ) (b : Actor) (y x : ℕ) → AtDuty p n m t a (ReturnSlot y) rest → slice_get m.actors u ≡ Some b
+  lent_used : (u : ℕ) (b : Actor) (y x : ℕ) → AtDuty p n m t a (ReturnField y) rest → slice_get m.actors u ≡ Some b
       → block_of m.layout x ≡ u → b.used ≤ index_of m.layout u x → (y == x) ≡ false
   lent_used u b y x here found block past =
       let lent = head_of here in
@@ -106,36 +106,36 @@ module _ {p : Accounts} {n : ℕ} {m : Machine} {t : ℕ} {a : Actor} {rest : Li
         kinds = λ x block past none.
             kind_zero m t a d x (sym (kind_stored_after_kind (has_resource w) a.head y h rest x) ∙ none)
             (old.kinds x block past refl);
-        slots = λ x block past none. old.slots x block past refl;
+        fields = λ x block past none. old.fields x block past refl;
       }
-  own_blanks (BirthSlot y h) here =
-      let d : Duty = BirthSlot y h in
+  own_blanks (BirthField y h) here =
+      let d : Duty = BirthField y h in
       let old = blanks_here here in
       record {
-        kinds = λ x block past none. old.kinds x block past (sym (kind_stored_after_slot a.head y h rest x) ∙ none);
-        slots = λ x block past none.
-            slot_zero m t a d x (sym (slot_stored_after_slot a.head y h rest x) ∙ none) (old.slots x block past refl);
+        kinds = λ x block past none. old.kinds x block past (sym (kind_stored_after_field a.head y h rest x) ∙ none);
+        fields = λ x block past none.
+            field_zero m t a d x (sym (field_stored_after_field a.head y h rest x) ∙ none) (old.fields x block past refl);
       }
   own_blanks (BirthLocal y h) here =
       let old = blanks_here here in
       let next = (head_of here).0 in
       record {
         kinds = λ x block past none. old.kinds x block (omega (arith, past)) (born_apart m t a y x next past);
-        slots = λ x block past none. old.slots x block (omega (arith, past)) (born_apart m t a y x next past);
+        fields = λ x block past none. old.fields x block (omega (arith, past)) (born_apart m t a y x next past);
       }
-  own_blanks (ReturnSlot y) here =
+  own_blanks (ReturnField y) here =
       let old = blanks_here here in
       record {
         kinds = λ x block past none. old.kinds x block past refl;
-        slots = λ x block past none.
-            slot_zero m t a (ReturnSlot y) x (lent_used t a y x here here.found block past)
-            (old.slots x block past refl);
+        fields = λ x block past none.
+            field_zero m t a (ReturnField y) x (lent_used t a y x here here.found block past)
+            (old.fields x block past refl);
       }
   own_blanks d here =
       let old = blanks_here here in
       record {
         kinds = λ x block past none. kind_zero m t a d x refl (old.kinds x block past refl);
-        slots = λ x block past none. slot_zero m t a d x refl (old.slots x block past refl);
+        fields = λ x block past none. field_zero m t a d x refl (old.fields x block past refl);
       }
 
 -- ---- the other threads
@@ -147,15 +147,15 @@ block_apart m t u a y x ne next block =
     ne_eqb y x (λ e. ne (sym block ∙ ap (block_of m.layout) (sym e) ∙ next_block m t a y next))
 
 module _ {p : Accounts} {n : ℕ} {m : Machine} {t : ℕ} {a : Actor} {rest : List Duty} where
-  -- The duty stores neither the kind of another thread's unused row nor its slot.
+  -- The duty stores neither the kind of another thread's unused row nor its field.
   others_apart : (d : Duty) (u : ℕ) (b : Actor) (x : ℕ) → AtDuty p n m t a d rest → u ≢ t
       → slice_get m.actors u ≡ Some b → block_of m.layout x ≡ u → b.used ≤ index_of m.layout u x
-      → (bears_kind d x ≡ false) × (fills_slot d x ≡ false)
+      → (bears_kind d x ≡ false) × (fills_field d x ≡ false)
   others_apart (BirthKind y h w) u b x here ne found block past =
       (block_apart m t u a y x ne (head_of here).0 block, refl)
-  others_apart (BirthSlot y h) u b x here ne found block past =
+  others_apart (BirthField y h) u b x here ne found block past =
       (refl, block_apart m t u a y x ne (head_of here).0 block)
-  others_apart (ReturnSlot y) u b x here ne found block past = (refl, lent_used u b y x here found block past)
+  others_apart (ReturnField y) u b x here ne found block past = (refl, lent_used u b y x here found block past)
   others_apart _ u b x here ne found block past = (refl, refl)
 
   others_blanks : (d : Duty) (u : ℕ) (b : Actor) → AtDuty p n m t a d rest → u ≢ t → slice_get m.actors u ≡ Some b
@@ -165,8 +165,8 @@ module _ {p : Accounts} {n : ℕ} {m : Machine} {t : ℕ} {a : Actor} {rest : Li
       record {
         kinds = λ x block past none.
             kind_zero m t a d x (others_apart d u b x here ne found block past).0 (old.kinds x block past none);
-        slots = λ x block past none.
-            slot_zero m t a d x (others_apart d u b x here ne found block past).1 (old.slots x block past none);
+        fields = λ x block past none.
+            field_zero m t a d x (others_apart d u b x here ne found block past).1 (old.fields x block past none);
       }
 
 module _ {p : Accounts} {n : ℕ} {m : Machine} {t : ℕ} {a : Actor} {d : Duty} {rest : List Duty} where

@@ -4,7 +4,7 @@ use Rattle.std.specs.Prelude.{◌==◌}
 use Rattle.std.proofs.lemmas.Bool.Decides.{eqb_tells}
 use Rattle.brc_model.specs.declared.duty.Holding.{Holding}
 use Rattle.brc_model.specs.declared.duty.Duty.{Duty}
-use Rattle.brc_model.specs.declared.duty.Duty.TheVariants.{SettleKind, SettleCell, TakeSlot, CloseResource, SettleEnd, BirthSlot, LendSlot, ReturnSlot}
+use Rattle.brc_model.specs.declared.duty.Duty.TheVariants.{SettleKind, SettleCell, TakeField, CloseResource, SettleEnd, BirthField, LendField, ReturnField}
 use Rattle.brc_model.specs.declared.actor.Actor.{Actor}
 use Rattle.brc_model.specs.Machine.{Life, Unborn, Machine, machine_by_duty}
 use Rattle.brc_model.specs.Accounts.{Accounts}
@@ -20,15 +20,15 @@ module _ {p : Accounts} {n : ℕ} {m : Machine} {t : ℕ} {a : Actor} where
   -- ---- a birth
 
   -- The row isn't born yet, and its resource isn't closed.
-  after_birth_slot : (x : ℕ) (h : Holding) (rest : List Duty) → AtDuty p n m t a (BirthSlot x h) rest
-      → ResourcesFit ((machine_by_duty m t a (BirthSlot x h) rest).life x)
-      (resources_at (machine_by_duty m t a (BirthSlot x h) rest) x)
-  after_birth_slot x h rest here =
+  after_birth_field : (x : ℕ) (h : Holding) (rest : List Duty) → AtDuty p n m t a (BirthField x h) rest
+      → ResourcesFit ((machine_by_duty m t a (BirthField x h) rest).life x)
+      (resources_at (machine_by_duty m t a (BirthField x h) rest) x)
+  after_birth_field x h rest here =
       let next = (head_of here).0 in
       let unborn = next_unborn p n m t a x here.core here.found next in
       let fit : ResourcesFit Unborn (resources_at m x) =
       subst (λ (l : Life). ResourcesFit l (resources_at m x)) unborn (here.core.resources x) in
-      subst (λ (l : Life). ResourcesFit l (resources_at (machine_by_duty m t a (BirthSlot x h) rest) x)) (sym unborn)
+      subst (λ (l : Life). ResourcesFit l (resources_at (machine_by_duty m t a (BirthField x h) rest) x)) (sym unborn)
       fit
 
   -- ---- every step
@@ -51,16 +51,16 @@ module _ {p : Accounts} {n : ℕ} {m : Machine} {t : ℕ} {a : Actor} where
       here_or_elsewhere (SettleKind y) rest y x here (λ e. e) (after_kind p n m t a y rest here)
   resources_after (SettleCell y i k) rest x here =
       here_or_elsewhere (SettleCell y i k) rest y x here (λ e. e) (after_cell p n m t a y i k rest here)
-  resources_after (TakeSlot y) rest x here =
-      here_or_elsewhere (TakeSlot y) rest y x here (λ e. e) (after_take p n m t a y rest here)
+  resources_after (TakeField y) rest x here =
+      here_or_elsewhere (TakeField y) rest y x here (λ e. e) (after_take p n m t a y rest here)
   resources_after (CloseResource y) rest x here =
       here_or_elsewhere (CloseResource y) rest y x here (λ e. e) (after_close p n m t a y rest here)
   resources_after (SettleEnd y) rest x here =
       here_or_elsewhere (SettleEnd y) rest y x here (λ e. e) (after_end p n m t a y rest here)
-  resources_after (BirthSlot y h) rest x here =
-      here_or_elsewhere (BirthSlot y h) rest y x here (λ e. e) (after_birth_slot y h rest here)
-  resources_after (LendSlot y) rest x here =
-      here_or_elsewhere (LendSlot y) rest y x here (λ e. e) (after_lend p n m t a y rest here)
-  resources_after (ReturnSlot y) rest x here =
-      here_or_elsewhere (ReturnSlot y) rest y x here (λ e. e) (after_return p n m t a y rest here)
+  resources_after (BirthField y h) rest x here =
+      here_or_elsewhere (BirthField y h) rest y x here (λ e. e) (after_birth_field y h rest here)
+  resources_after (LendField y) rest x here =
+      here_or_elsewhere (LendField y) rest y x here (λ e. e) (after_lend p n m t a y rest here)
+  resources_after (ReturnField y) rest x here =
+      here_or_elsewhere (ReturnField y) rest y x here (λ e. e) (after_return p n m t a y rest here)
   resources_after d rest x here = elsewhere p n m t a d rest x here refl

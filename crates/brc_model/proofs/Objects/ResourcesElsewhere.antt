@@ -4,9 +4,9 @@ use Rattle.std.specs.Prelude.{◌==◌}
 use Rattle.std.proofs.lemmas.Bool.{eq-eqb, ne_eqb, eqb-false}
 use Rattle.brc_word.specs.declared.values.TheConstants.{FULL}
 use Rattle.brc_model.specs.declared.duty.Duty.{Duty}
-use Rattle.brc_model.specs.declared.duty.Duty.TheVariants.{SettleKind, SettleCell, TakeSlot, CloseResource, SettleEnd, BirthSlot, BirthLocal, LendSlot, ReturnSlot}
-use Rattle.brc_model.specs.declared.address.Address.TheVariants.{KindOf, Slot, Resource}
-use Rattle.brc_model.specs.VarStates.{names}
+use Rattle.brc_model.specs.declared.duty.Duty.TheVariants.{SettleKind, SettleCell, TakeField, CloseResource, SettleEnd, BirthField, BirthLocal, LendField, ReturnField}
+use Rattle.brc_model.specs.declared.address.Address.TheVariants.{KindOf, Field, Resource}
+use Rattle.brc_model.specs.SlotStates.{names}
 use Rattle.brc_model.specs.Duties.{has_resource, resources_of}
 use Rattle.brc_model.specs.declared.actor.Actor.{Actor}
 use Rattle.brc_model.specs.Machine.{Life, Unborn, Live, Dying, Closed, Machine, ended_row, born_row, actor_by, machine_by_duty}
@@ -36,7 +36,7 @@ resources_low word = elim (has_resource word) as (λ b. cond b 1 0 ≤ 1) [
 -- The numbers stay, but for the kind of a row that isn't born.
 record SameNumbers (l : Life) (old new : Resources) : Type 0 where
   all : (l ≢ Unborn) → new.all ≡ old.all
-  slot : new.slot ≡ old.slot
+  field : new.field ≡ old.field
   lent : new.lent ≡ old.lent
   closing : new.closing ≡ old.closing
   closed : new.closed ≡ old.closed
@@ -44,7 +44,7 @@ record SameNumbers (l : Life) (old new : Resources) : Type 0 where
 
 same_placed : (l : Life) (old new : Resources) → SameNumbers l old new → (l ≢ Unborn) → IsPlaced old → IsPlaced new
 same_placed l old new same born placed =
-    omega (arith, placed, same.all born, same.slot, same.lent, same.closing, same.closed)
+    omega (arith, placed, same.all born, same.field, same.lent, same.closing, same.closed)
 
 same_settling : (l : Life) (old new : Resources) → SameNumbers l old new → (l ≢ Unborn) → IsSettling old
     → IsSettling new
@@ -75,12 +75,12 @@ same_fits Closed old new same fit =
 abbrev pub moves_resource : Duty → ℕ → Bool
 moves_resource (SettleKind y) x = y == x
 moves_resource (SettleCell y i n) x = y == x
-moves_resource (TakeSlot y) x = y == x
+moves_resource (TakeField y) x = y == x
 moves_resource (CloseResource y) x = y == x
 moves_resource (SettleEnd y) x = y == x
-moves_resource (BirthSlot y h) x = y == x
-moves_resource (LendSlot y) x = y == x
-moves_resource (ReturnSlot y) x = y == x
+moves_resource (BirthField y h) x = y == x
+moves_resource (LendField y) x = y == x
+moves_resource (ReturnField y) x = y == x
 moves_resource _ x = false
 
 no_settling : (d : Duty) (x : ℕ) → moves_resource d x ≡ false → settles_row d x ≡ false
@@ -92,12 +92,12 @@ no_step (SettleCell y i n) x e = e
 no_step _ x e = cc
 
 module _ (p : Accounts) (n : ℕ) (m : Machine) (t : ℕ) (a : Actor) where
-  slot_same : (d : Duty) (x : ℕ) → moves_resource d x ≡ false → memory_by m t a d (Slot x) ≡ m.memory (Slot x)
-  slot_same (TakeSlot y) x e = written_apart m.memory (Slot y) (Slot x) 0 e
-  slot_same (BirthSlot y h) x e = written_apart m.memory (Slot y) (Slot x) 1 e
-  slot_same (LendSlot y) x e = written_apart m.memory (Slot y) (Slot x) 0 e
-  slot_same (ReturnSlot y) x e = written_apart m.memory (Slot y) (Slot x) 1 e
-  slot_same _ x e = refl
+  field_same : (d : Duty) (x : ℕ) → moves_resource d x ≡ false → memory_by m t a d (Field x) ≡ m.memory (Field x)
+  field_same (TakeField y) x e = written_apart m.memory (Field y) (Field x) 0 e
+  field_same (BirthField y h) x e = written_apart m.memory (Field y) (Field x) 1 e
+  field_same (LendField y) x e = written_apart m.memory (Field y) (Field x) 0 e
+  field_same (ReturnField y) x e = written_apart m.memory (Field y) (Field x) 1 e
+  field_same _ x e = refl
 
   closed_same : (d : Duty) (x : ℕ) → moves_resource d x ≡ false
       → memory_by m t a d (Resource x) ≡ m.memory (Resource x)
@@ -109,11 +109,11 @@ module _ (p : Accounts) (n : ℕ) (m : Machine) (t : ℕ) (a : Actor) where
 
   lends_same : (d : Duty) (rest : List Duty) (x : ℕ) → AtDuty p n m t a d rest → moves_resource d x ≡ false
       → lends x (actor_by m.layout t a d rest (found_by m t a d)) ≡ lends x a
-  lends_same (LendSlot y) rest x here e =
+  lends_same (LendField y) rest x here e =
       let none = none_named a.lent x (head_of here).2 in
-      either (λ (o : Option ℕ). one_if (names o x) ≡ one_if (names a.lent x)) (m.memory (Slot y) == FULL) (Some y)
+      either (λ (o : Option ℕ). one_if (names o x) ≡ one_if (names a.lent x)) (m.memory (Field y) == FULL) (Some y)
       a.lent (λ found. turned y x e ∙ sym none) refl
-  lends_same (ReturnSlot y) rest x here e =
+  lends_same (ReturnField y) rest x here e =
       let lent : a.lent ≡ Some y = head_of here in
       sym (ap (λ (o : Option ℕ). one_if (names o x)) lent ∙ turned y x e)
   lends_same _ rest x here e = refl
@@ -126,7 +126,7 @@ module _ (p : Accounts) (n : ℕ) (m : Machine) (t : ℕ) (a : Actor) where
       let after = actor_by m.layout t a d rest (found_by m t a d) in
       record {
         all = λ born. ap resources_of (word_stays p n m t a d rest x here born);
-        slot = slot_same d x e;
+        field = field_same d x e;
         lent = omega (arith, lenders-set x m.actors t a after here.found, lends_same d rest x here e);
         closing = settling_kept x (closing x) (of_closing x) p n m t a d rest here row not;
         closed = closed_same d x e;
@@ -151,12 +151,12 @@ module _ (p : Accounts) (n : ℕ) (m : Machine) (t : ℕ) (a : Actor) where
         shut = λ some. absurd (omega (arith, some, same.ending, none_ended));
       }
 
-  -- An object that is born has its resource in its slot, if its kind has one.
-  born_slot : (d : Duty) (rest : List Duty) (x : ℕ) → AtDuty p n m t a d rest → born_row d ≡ Some x
-      → m.memory (Slot x) ≡ resources_of (memory_by m t a d (KindOf x))
-  born_slot (BirthLocal y h) rest x here born =
-      subst (λ (z : ℕ). m.memory (Slot z) ≡ resources_of (m.memory (KindOf z))) (some_is y x born) (head_of here).3
-  born_slot _ rest x here born = absurd (none_some x born)
+  -- An object that is born has its resource in its field, if its kind has one.
+  born_field : (d : Duty) (rest : List Duty) (x : ℕ) → AtDuty p n m t a d rest → born_row d ≡ Some x
+      → m.memory (Field x) ≡ resources_of (memory_by m t a d (KindOf x))
+  born_field (BirthLocal y h) rest x here born =
+      subst (λ (z : ℕ). m.memory (Field z) ≡ resources_of (m.memory (KindOf z))) (some_is y x born) (head_of here).3
+  born_field _ rest x here born = absurd (none_some x born)
 
   is_born : (d : Duty) (rest : List Duty) (x : ℕ) → AtDuty p n m t a d rest → moves_resource d x ≡ false
       → m.life x ≡ Unborn → born_row d ≡ Some x → ResourcesFit Live (resources_at (machine_by_duty m t a d rest) x)
@@ -169,8 +169,8 @@ module _ (p : Accounts) (n : ℕ) (m : Machine) (t : ℕ) (a : Actor) where
       none_lent p n m x here.core (λ lives. let wrong : Unborn ≡ Live = sym unborn ∙ lives in cc) in
       let closed : m.memory (Resource x) ≡ 0 =
       subst (λ (l : Life). ResourcesFit l (resources_at m x)) unborn (here.core.resources x) in
-      let slot = born_slot d rest x here born in (
-        omega (arith, slot, closed, none_closing, not_lent, same.slot, same.closed, same.closing, same.lent),
+      let field = born_field d rest x here born in (
+        omega (arith, field, closed, none_closing, not_lent, same.field, same.closed, same.closing, same.lent),
         omega (arith, closed, same.closed),
       )
 

@@ -6,8 +6,8 @@ use Rattle.std.proofs.lemmas.Bool.Decides.{eqb_tells}
 use Rattle.std.proofs.lemmas.List.Sums.{sum_by-cons}
 use Rattle.brc_word.specs.declared.values.TheConstants.{FULL}
 use Rattle.brc_model.specs.declared.duty.Duty.{Duty}
-use Rattle.brc_model.specs.declared.duty.Duty.TheVariants.{SettleKind, SettleCell, TakeSlot, CloseResource, SettleEnd}
-use Rattle.brc_model.specs.declared.address.Address.TheVariants.{KindOf, Cell, Slot, Resource}
+use Rattle.brc_model.specs.declared.duty.Duty.TheVariants.{SettleKind, SettleCell, TakeField, CloseResource, SettleEnd}
+use Rattle.brc_model.specs.declared.address.Address.TheVariants.{KindOf, Cell, Field, Resource}
 use Rattle.brc_model.specs.Duties.{has_resource, resources_of, cells_of, cells_from}
 use Rattle.brc_model.specs.declared.actor.Actor.{Actor}
 use Rattle.brc_model.specs.Machine.{Life, Unborn, Live, Dying, Closed, Machine, ended_row, actor_by, machine_by_duty}
@@ -55,10 +55,10 @@ module _ (p : Accounts) (n : ℕ) (m : Machine) (t : ℕ) (a : Actor) where
         | IsBorn now unborn counted born other ↦ absurd (dying_born x dies unborn)
       ]
 
-  -- A thread that takes the resource of a dying row out of its slot finds it there.
-  pub taking_finds : (x : ℕ) (rest : List Duty) → AtDuty p n m t a (TakeSlot x) rest → m.memory (Slot x) ≡ FULL
+  -- A thread that takes the resource of a dying row out of its field finds it there.
+  pub taking_finds : (x : ℕ) (rest : List Duty) → AtDuty p n m t a (TakeField x) rest → m.memory (Field x) ≡ FULL
   taking_finds x rest here =
-      let d : Duty = TakeSlot x in
+      let d : Duty = TakeField x in
       let dies = (head_of here).1 in
       let fit = settling d rest x here dies in
       let this = eq-eqb x x refl in
@@ -82,11 +82,11 @@ module _ (p : Accounts) (n : ℕ) (m : Machine) (t : ℕ) (a : Actor) where
       finalised_alone p n m x (closing x) (finalises x (closing x) (of_closing x)) t a d rest here this dies in
       omega (arith, fit.placed, closes, one_here x, resources_low (m.memory (KindOf x)))
 
-  pub after_take : (x : ℕ) (rest : List Duty) → AtDuty p n m t a (TakeSlot x) rest
-      → ResourcesFit ((machine_by_duty m t a (TakeSlot x) rest).life x)
-      (resources_at (machine_by_duty m t a (TakeSlot x) rest) x)
+  pub after_take : (x : ℕ) (rest : List Duty) → AtDuty p n m t a (TakeField x) rest
+      → ResourcesFit ((machine_by_duty m t a (TakeField x) rest).life x)
+      (resources_at (machine_by_duty m t a (TakeField x) rest) x)
   after_take x rest here =
-      let d : Duty = TakeSlot x in
+      let d : Duty = TakeField x in
       let next : List Duty = CloseResource x ∷ [] in
       let dies = (head_of here).1 in
       let fit = settling d rest x here dies in
@@ -104,7 +104,7 @@ module _ (p : Accounts) (n : ℕ) (m : Machine) (t : ℕ) (a : Actor) where
         placed = omega (
           arith,
           fit.placed,
-          written_here m.memory (Slot x) 0,
+          written_here m.memory (Field x) 0,
           taking_finds x rest here,
           lent,
           closes,
@@ -166,13 +166,13 @@ module _ (p : Accounts) (n : ℕ) (m : Machine) (t : ℕ) (a : Actor) where
 
   -- Nothing moves, and the row that goes on without a resource has none.
   settles_on : (d : Duty) (rest : List Duty) (x : ℕ) → AtDuty p n m t a d rest → m.life x ≡ Dying t
-      → ended_row d ≡ None → memory_by m t a d (Slot x) ≡ m.memory (Slot x)
+      → ended_row d ≡ None → memory_by m t a d (Field x) ≡ m.memory (Field x)
       → memory_by m t a d (Resource x) ≡ m.memory (Resource x)
       → lends x (actor_by m.layout t a d rest (found_by m t a d)) ≡ lends x a
       → closing x d ≡ 0 → ending x d ≡ 0 → sum_by (closing x) (next_of m t a d) ≡ 0
       → (0 < sum_by (ending x) (next_of m t a d) → resources_of (m.memory (KindOf x)) ≡ 0)
       → ResourcesFit ((machine_by_duty m t a d rest).life x) (resources_at (machine_by_duty m t a d rest) x)
-  settles_on d rest x here dies none slot closed lends closing_none ending_none closing_next ending_next =
+  settles_on d rest x here dies none field closed lends closing_none ending_none closing_next ending_next =
       let new = resources_at (machine_by_duty m t a d rest) x in
       let fit = settling d rest x here dies in
       let after = actor_by m.layout t a d rest (found_by m t a d) in
@@ -181,7 +181,7 @@ module _ (p : Accounts) (n : ℕ) (m : Machine) (t : ℕ) (a : Actor) where
       let closes = settling_stepped x (closing x) (of_closing x) p n m t a d rest (next_of m t a d) here refl in
       let ends = settling_stepped x (ending x) (of_ending x) p n m t a d rest (next_of m t a d) here refl in
       let fits : IsSettling new = record {
-        placed = omega (arith, fit.placed, kind, slot, closed, lends, lent, closes, closing_none, closing_next);
+        placed = omega (arith, fit.placed, kind, field, closed, lends, lent, closes, closing_none, closing_next);
         unclosed = λ yet.
             let was = fit.unclosed (omega (arith, yet, ends, ending_none)) in
             omega (arith, was, closed);
@@ -225,14 +225,14 @@ module _ (p : Accounts) (n : ℕ) (m : Machine) (t : ℕ) (a : Actor) where
       let cells : List Duty = cells_from x 0 (cells_of word) in
       elim (cases_Bool (has_resource word)) [
         | inl some ↦
-            let next : next_of m t a d ≡ TakeSlot x ∷ [] = ap (λ (b : Bool). cond b (TakeSlot x ∷ []) cells) some in
+            let next : next_of m t a d ≡ TakeField x ∷ [] = ap (λ (b : Bool). cond b (TakeField x ∷ []) cells) some in
             let ends : sum_by (ending x) (next_of m t a d) ≡ 0 =
-            ap (sum_by (ending x)) next ∙ sum_by-cons (ending x) (TakeSlot x) [] in
+            ap (sum_by (ending x)) next ∙ sum_by-cons (ending x) (TakeField x) [] in
             settles_on d rest x here dies refl refl refl refl refl refl
-            (ap (sum_by (closing x)) next ∙ sum_by-cons (closing x) (TakeSlot x) [])
+            (ap (sum_by (closing x)) next ∙ sum_by-cons (closing x) (TakeField x) [])
             (λ more. absurd (omega (arith, more, ends)))
         | inr none ↦
-            let next : next_of m t a d ≡ cells = ap (λ (b : Bool). cond b (TakeSlot x ∷ []) cells) none in
+            let next : next_of m t a d ≡ cells = ap (λ (b : Bool). cond b (TakeField x ∷ []) cells) none in
             let zero_here : resources_of word ≡ 0 = ap (λ (b : Bool). cond b 1 0) none in
             settles_on d rest x here dies refl refl refl refl refl refl
             (ap (sum_by (closing x)) next ∙ cells_weigh (closing x) x 0 (cells_of word) refl refl) (λ more. zero_here)

@@ -11,7 +11,7 @@ use Rattle.brc_model.proofs.Objects.RowSteps.{shared_down, shared_merged, shared
 pub handed_lost : (owner : ℕ) (n : Numbers) → IsLive owner n → phase_part n.shared ≡ MERGED
     → n.shared - ONE_REFERENCE ≢ dead_word
     → 1 ≤ n.waiting
-    → IsLive owner (record n { shared = n.shared - 4; waiting = n.waiting - 1 })
+    → IsLive owner (record n { shared = n.shared - ONE_REFERENCE; waiting = n.waiting - 1 })
 handed_lost owner n live phase alive some =
     let down = shared_down n.shared (shared_range owner n live) in
     let m = merged_only owner n live phase in
@@ -29,8 +29,8 @@ handed_lost owner n live phase alive some =
     }
 
 -- `DecrementsToZero`, for a handed reference: it was the last one.
-pub handed_dies : (owner : ℕ) (n : Numbers) → IsLive owner n → n.shared - 4 ≡ dead_word → 1 ≤ n.waiting
-    → IsDead (record n { shared = n.shared - 4; waiting = n.waiting - 1 })
+pub handed_dies : (owner : ℕ) (n : Numbers) → IsLive owner n → n.shared - ONE_REFERENCE ≡ dead_word → 1 ≤ n.waiting
+    → IsDead (record n { shared = n.shared - ONE_REFERENCE; waiting = n.waiting - 1 })
 handed_dies owner n live dead some =
     let m = merged_only owner n live (omega (arith, dead)) in
     let count : biased_part n.shared ≡ bias + 1 = omega (arith, dead) in

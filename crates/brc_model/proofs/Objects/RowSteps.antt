@@ -1,7 +1,8 @@
 -- Each step that changes a row's counts keeps the row's invariant.
-use Rattle.std.proofs.Common.{◌≡◌, ◌≢◌, ℕ, ◌+◌, ◌-◌, ◌<◌, ◌≤◌, ◌∙◌, arith}
-use Rattle.brc_word.specs.declared.values.TheConstants.{QUEUED, MERGED}
-use Rattle.brc_word.specs.Words.{most_local, owner_part, local_part, biased_part, phase_part, bias, fresh_word, dead_word, merged_word}
+use Rattle.std.proofs.Common.{◌≡◌, ◌≢◌, ℕ, ◌+◌, ◌-◌, ◌<◌, ◌≤◌, Bool, true, false, cond, ap, ◌∙◌, arith}
+use Rattle.std.specs.Prelude.{◌==◌}
+use Rattle.brc_word.specs.declared.values.TheConstants.{ONE_REFERENCE, QUEUED, MERGED}
+use Rattle.brc_word.specs.Words.{most_local, owner_part, local_part, biased_part, phase_part, bias, fresh_word, dead_word, released_word, merged_word}
 use Rattle.brc_model.specs.RowInvariant.{Numbers, IsDefault, IsQueued, AtZero, AboveZero, InOwned, InSwapped, InMerged, IsLive, IsDead, IsOwned, IsMerged, Phased, Mode}
 
 -- ---- words
@@ -14,12 +15,20 @@ pub owner_down : (w : ℕ) → 1 ≤ local_part w
     → (owner_part (w - 1) ≡ owner_part w) × (local_part (w - 1) + 1 ≡ local_part w)
 owner_down w some = (omega arith, omega arith)
 
-pub shared_up : (w : ℕ) → (biased_part (w + 4) ≡ biased_part w + 1) × (phase_part (w + 4) ≡ phase_part w)
+pub shared_up : (w : ℕ)
+    → (biased_part (w + ONE_REFERENCE) ≡ biased_part w + 1) × (phase_part (w + ONE_REFERENCE) ≡ phase_part w)
 shared_up w = (omega arith, omega arith)
 
 pub shared_down : (w : ℕ) → 1 ≤ biased_part w
-    → (biased_part (w - 4) + 1 ≡ biased_part w) × (phase_part (w - 4) ≡ phase_part w)
+    → (biased_part (w - ONE_REFERENCE) + 1 ≡ biased_part w) × (phase_part (w - ONE_REFERENCE) ≡ phase_part w)
 shared_down w some = (omega arith, omega arith)
+
+-- A release queues (0, default), and takes one reference from any other word.
+pub released_queued : (w : ℕ) → (w == fresh_word) ≡ true → released_word w ≡ w + QUEUED
+released_queued w fresh = ap (λ (b : Bool). cond b (w + QUEUED) (w - ONE_REFERENCE)) fresh
+
+pub released_less : (w : ℕ) → (w == fresh_word) ≡ false → released_word w ≡ w - ONE_REFERENCE
+released_less w other = ap (λ (b : Bool). cond b (w + QUEUED) (w - ONE_REFERENCE)) other
 
 pub shared_merged : (w c : ℕ)
     → (biased_part (merged_word w c) ≡ biased_part w + c) × (phase_part (merged_word w c) ≡ MERGED)
@@ -183,12 +192,12 @@ shared_range owner n live =
 
 -- `SharedRaised`: a thread raises the shared count.
 pub shared_gained : (owner : ℕ) (n : Numbers) → IsLive owner n
-    → IsLive owner (record n { shared = n.shared + 4; references = n.references + 1 })
+    → IsLive owner (record n { shared = n.shared + ONE_REFERENCE; references = n.references + 1 })
 shared_gained owner n live =
     let up = shared_up n.shared in
     record {
       sum = omega (arith, live.sum, up.0);
-      mode = mode_kept owner n (n.shared + 4) n.mark (n.references + 1) n.waiting (λ phased. elim phased [
+      mode = mode_kept owner n (n.shared + ONE_REFERENCE) n.mark (n.references + 1) n.waiting (λ phased. elim phased [
         | IsDefault p w b ↦ IsDefault (up.1 ∙ p) w (omega (arith, up.0, b))
         | IsQueued p w ↦ IsQueued (up.1 ∙ p) w
       ]) (λ m. (up.1 ∙ m.phase, omega (arith, up.0, m.counted), m.awaits)) live.mode;
@@ -196,13 +205,13 @@ shared_gained owner n live =
 
 -- `Queues`: a release that finds (0, default) queues the object, and its decrement is pending from then on.
 pub shared_queued : (owner : ℕ) (n : Numbers) → IsLive owner n → n.shared ≡ fresh_word → 1 ≤ n.references
-    → IsLive owner (record n { shared = n.shared + 2; references = n.references - 1; waiting = n.waiting + 1 })
+    → IsLive owner (record n { shared = n.shared + QUEUED; references = n.references - 1; waiting = n.waiting + 1 })
 shared_queued owner n live fresh referenced =
-    let parts : (biased_part (n.shared + 2) ≡ biased_part n.shared) × (phase_part (n.shared + 2) ≡ QUEUED) =
+    let parts : (biased_part (n.shared + QUEUED) ≡ biased_part n.shared) × (phase_part (n.shared + QUEUED) ≡ QUEUED) =
     (omega (arith, fresh), omega (arith, fresh)) in
     record {
       sum = omega (arith, live.sum, parts.0, referenced);
-      mode = mode_kept owner n (n.shared + 2) n.mark (n.references - 1) (n.waiting + 1) (λ phased. elim phased [
+      mode = mode_kept owner n (n.shared + QUEUED) n.mark (n.references - 1) (n.waiting + 1) (λ phased. elim phased [
         | IsDefault p w b ↦ IsQueued parts.1 (omega (arith, w))
         | IsQueued p w ↦ absurd (omega (arith, p, fresh))
       ]) (λ m. absurd (omega (arith, m.phase, fresh))) live.mode;
@@ -210,22 +219,23 @@ shared_queued owner n live fresh referenced =
 
 -- `Decrements`: a release that finds any other shared word lowers its count, and the object lives on unless it is
 -- merged with a count of 0.
-pub shared_lost : (owner : ℕ) (n : Numbers) → IsLive owner n → n.shared ≢ fresh_word → n.shared - 4 ≢ dead_word
+pub shared_lost : (owner : ℕ) (n : Numbers) → IsLive owner n → n.shared ≢ fresh_word
+    → n.shared - ONE_REFERENCE ≢ dead_word
     → 1 ≤ n.references
-    → IsLive owner (record n { shared = n.shared - 4; references = n.references - 1 })
+    → IsLive owner (record n { shared = n.shared - ONE_REFERENCE; references = n.references - 1 })
 shared_lost owner n live other alive referenced =
     let down = shared_down n.shared (shared_range owner n live) in
     record {
       sum = omega (arith, live.sum, down.0, referenced);
-      mode = mode_kept owner n (n.shared - 4) n.mark (n.references - 1) n.waiting (λ phased. elim phased [
+      mode = mode_kept owner n (n.shared - ONE_REFERENCE) n.mark (n.references - 1) n.waiting (λ phased. elim phased [
         | IsDefault p w b ↦ IsDefault (down.1 ∙ p) w (omega (arith, down.0, b, p, other))
         | IsQueued p w ↦ IsQueued (down.1 ∙ p) w
       ]) (λ m. (down.1 ∙ m.phase, omega (arith, down.0, down.1, m.phase, m.counted, alive), m.awaits)) live.mode;
     }
 
 -- `DecrementsToZero`: a release that takes the count of a merged object to 0 gives up the last reference.
-pub shared_dies : (owner : ℕ) (n : Numbers) → IsLive owner n → n.shared - 4 ≡ dead_word → 1 ≤ n.references
-    → IsDead (record n { shared = n.shared - 4; references = n.references - 1 })
+pub shared_dies : (owner : ℕ) (n : Numbers) → IsLive owner n → n.shared - ONE_REFERENCE ≡ dead_word → 1 ≤ n.references
+    → IsDead (record n { shared = n.shared - ONE_REFERENCE; references = n.references - 1 })
 shared_dies owner n live dead referenced =
     let m = merged_only owner n live (omega (arith, dead)) in
     let count : biased_part n.shared ≡ bias + 1 = omega (arith, dead) in

@@ -58,7 +58,7 @@ module _ {p : Accounts} {n : ℕ} {m : Machine} {t : ℕ} {a : Actor} {rest : Li
   own_row (BirthKind y h w) s some = row_after_birth_kind some s
   own_row (BirthLocal y h) s some = row_after_birth_local s
   own_row (CellSwap y i z h) s some = row_after_cell_swap some s
-  -- `SlotFilled`, `Chained`, `SlotEmptied`, `ResourceClosed`, `KindRead`, `Locks`, `LockHeld`, `Unlocks`, `CellRead`,
+  -- `FieldFilled`, `Chained`, `FieldEmptied`, `ResourceClosed`, `KindRead`, `Locks`, `LockHeld`, `Unlocks`, `CellRead`,
   -- `ResourceLent` and `ResourceReturned`: the step changes neither what the row counts nor what any duty weighs.
   own_row d s some =
       row_stays {next = following m t a d} {x = subject m.layout t d} s some (record {

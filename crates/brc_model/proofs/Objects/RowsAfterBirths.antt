@@ -4,7 +4,7 @@ use Rattle.std.proofs.lemmas.Option.{slice_get_within}
 use Rattle.brc_model.specs.declared.duty.Holding.{Holding}
 use Rattle.brc_word.specs.Words.{most_local, local_word}
 use Rattle.brc_model.specs.declared.duty.Duty.{Duty}
-use Rattle.brc_model.specs.declared.duty.Duty.TheVariants.{BirthKind, BirthSlot, BirthLocal}
+use Rattle.brc_model.specs.declared.duty.Duty.TheVariants.{BirthKind, BirthField, BirthLocal}
 use Rattle.brc_model.specs.declared.address.Address.TheVariants.{Local}
 use Rattle.brc_model.specs.Duties.{has_resource}
 use Rattle.brc_model.specs.declared.actor.Actor.{Actor}
@@ -28,9 +28,9 @@ module _ {p : Accounts} {n : ℕ} {m : Machine} {t : ℕ} {a : Actor} {rest : Li
   pub row_after_birth_kind : {y : ℕ} {h : Holding} {w : ℕ} → IsCounted m.layout y
       → AtDuty p n m t a (BirthKind y h w) rest → KeepsRow m t a (BirthKind y h w) rest y
   row_after_birth_kind {y = y} {h = h} {w = w} some s =
-      let slot = all_light y (BirthSlot y h ∷ []) refl in
+      let field = all_light y (BirthField y h ∷ []) refl in
       let local = all_light y (BirthLocal y h ∷ []) refl in
-      row_apart s y some refl (apart_if (has_resource w) slot local) (λ life state. refl)
+      row_apart s y some refl (apart_if (has_resource w) field local) (λ life state. refl)
       (record { local = refl; shared = refl; mark = refl; references = refl })
 
 -- ---- the local word

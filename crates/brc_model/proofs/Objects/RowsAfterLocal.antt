@@ -5,6 +5,7 @@ use Rattle.std.proofs.lemmas.Bool.Decides.{eqb_tells}
 use Rattle.brc_model.specs.declared.duty.Holding.{Holding}
 use Rattle.brc_model.specs.declared.duty.Holding.TheVariants.{ByVariable, AsCaller, InFlight}
 use Rattle.brc_model.specs.AbstractState.{without, references_to, AbstractState, moved}
+use Rattle.brc_word.specs.declared.values.TheConstants.{ONE_REFERENCE}
 use Rattle.brc_word.specs.Words.{most_local, local_part, is_immortal_word, fresh_word}
 use Rattle.brc_model.specs.declared.duty.Reason.TheVariants.{Own}
 use Rattle.brc_model.specs.declared.duty.Duty.{Duty}
@@ -96,9 +97,9 @@ module _ {p : Accounts} {n : ℕ} {m : Machine} {t : ℕ} {a : Actor} {rest : Li
       let weights = weighed s [] refl y in
       let one = one_own y in
       row_becomes m t a (RetainAdd y h) rest y [] refl Live lives.is_live
-      (record k { shared = k.shared + 4; references = k.references + 1 }) (record {
+      (record k { shared = k.shared + ONE_REFERENCE; references = k.references + 1 }) (record {
         local = refl;
-        shared = sym (written_here m.memory (Shared y) (m.memory (Shared y) + 4) (own y));
+        shared = sym (written_here m.memory (Shared y) (m.memory (Shared y) + ONE_REFERENCE) (own y));
         mark = refl;
         references = omega (arith, references_to-cons y (reference_of t h y) m.abstract.references, one);
         waiting = omega (arith, weights.waiting);

@@ -7,7 +7,7 @@ use Rattle.brc_word.specs.Words.{unmarked_word, lowest_mark}
 use Rattle.brc_model.specs.AbstractState.{references_to}
 use Rattle.brc_model.specs.declared.duty.Reason.TheVariants.{Handed}
 use Rattle.brc_model.specs.declared.duty.Duty.{Duty}
-use Rattle.brc_model.specs.declared.duty.Duty.TheVariants.{SetMark, Look, TakeMark, MergeSwap, Settle, SettleKind, SettleCell, TakeSlot, SettleEnd, TakeFound, ClaimMark}
+use Rattle.brc_model.specs.declared.duty.Duty.TheVariants.{SetMark, Look, TakeMark, MergeSwap, Settle, SettleKind, SettleCell, TakeField, SettleEnd, TakeFound, ClaimMark}
 use Rattle.brc_model.specs.declared.address.Address.TheVariants.{Local, Shared, Cell, KindOf}
 use Rattle.brc_model.specs.Duties.{found_row, claimed, has_resource, cells_of, cells_from}
 use Rattle.brc_model.specs.declared.actor.Actor.{Actor}
@@ -216,7 +216,7 @@ module _ {p : Accounts} {n : ℕ} {m : Machine} {t : ℕ} {a : Actor} {rest : Li
   row_after_settle_kind {y = y} some s =
       let word = m.memory (KindOf y) in
       let next =
-      apart_if (has_resource word) (all_light y (TakeSlot y ∷ []) refl) (cells_apart y y 0 (cells_of word)) in
+      apart_if (has_resource word) (all_light y (TakeField y ∷ []) refl) (cells_apart y y 0 (cells_of word)) in
       row_apart s y some refl next (λ life state. refl)
       (record { local = refl; shared = refl; mark = refl; references = refl })
 

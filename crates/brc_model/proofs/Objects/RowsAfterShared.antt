@@ -4,6 +4,7 @@ use Rattle.std.specs.Prelude.{◌==◌}
 use Rattle.std.proofs.lemmas.Bool.Decides.{eqb_tells}
 use Rattle.brc_model.specs.declared.duty.Holding.TheVariants.{InFlight}
 use Rattle.brc_model.specs.AbstractState.{references_to, AbstractState, moved}
+use Rattle.brc_word.specs.declared.values.TheConstants.{ONE_REFERENCE, QUEUED}
 use Rattle.brc_word.specs.Words.{fresh_word, dead_word, released_word}
 use Rattle.brc_model.specs.declared.duty.Reason.{Reason}
 use Rattle.brc_model.specs.declared.duty.Reason.TheVariants.{Own, Handed}
@@ -18,7 +19,7 @@ use Rattle.brc_model.specs.References.{reference_of}
 use Rattle.brc_model.specs.RowInvariant.{waits}
 use Rattle.brc_model.specs.Accounts.{Accounts}
 use Rattle.brc_model.specs.Invariant.{AtDuty, numbers_of}
-use Rattle.brc_model.proofs.Objects.RowSteps.{shared_queued, shared_lost, shared_dies}
+use Rattle.brc_model.proofs.Objects.RowSteps.{released_queued, released_less, shared_queued, shared_lost, shared_dies}
 use Rattle.brc_model.proofs.Objects.RowMerges.{handed_lost, handed_dies}
 use Rattle.brc_model.proofs.Objects.RowsAfterStep.{head_fits_of, KeepsRow, weighed, row_becomes, row_stays}
 use Rattle.brc_model.proofs.Objects.RowsAfterOwn.{own, one_own, written_here, gives_up, is_lost, lives_so}
@@ -104,12 +105,11 @@ module _ {p : Accounts} {n : ℕ} {m : Machine} {t : ℕ} {a : Actor} {rest : Li
       is_lost m.abstract.references (reference_of t InFlight y) (gives_up s InFlight y (rw (own y) refl) refl) in
       let lives = lives_so s y some (omega (arith, lost.before)) in
       let weights = weighed s (SetMark y ∷ []) (rw (test, is_fresh) refl) y in
-      let left : released_word w ≡ w + 2 = ap (λ (b : Bool). cond b (w + 2) (w - 4)) is_fresh in
       let one = one_own y in
       row_becomes m t a (SharedExchange y Own w) rest y (SetMark y ∷ []) (rw (test, is_fresh) refl) Live lives.is_live
-      (record k { shared = k.shared + 2; references = k.references - 1; waiting = k.waiting + 1 }) (record {
+      (record k { shared = k.shared + QUEUED; references = k.references - 1; waiting = k.waiting + 1 }) (record {
         local = refl;
-        shared = omega (arith, exchanged m.memory y w true test, left, same);
+        shared = omega (arith, exchanged m.memory y w true test, released_queued w is_fresh, same);
         mark = refl;
         references = omega (arith, own_moves m.memory t y w (m.memory (Shared y)) m.abstract test, lost.less);
         waiting = omega (arith, weights.waiting, one);
@@ -120,8 +120,8 @@ module _ {p : Accounts} {n : ℕ} {m : Machine} {t : ℕ} {a : Actor} {rest : Li
 
   -- `DecrementsToZero`, for the thread's own reference.
   own_dies : {y w : ℕ} → AtDuty p n m t a (SharedExchange y Own w) rest → (m.memory (Shared y) == w) ≡ true
-      → m.memory (Shared y) ≡ w → (w == fresh_word) ≡ false → (w - 4 == dead_word) ≡ true → w - 4 ≡ dead_word
-      → KeepsRow m t a (SharedExchange y Own w) rest y
+      → m.memory (Shared y) ≡ w → (w == fresh_word) ≡ false → (w - ONE_REFERENCE == dead_word) ≡ true
+      → w - ONE_REFERENCE ≡ dead_word → KeepsRow m t a (SharedExchange y Own w) rest y
   own_dies {y = y} {w = w} s test same other is_dead dead =
       let some : IsCounted m.layout y = head_fits_of s in
       let k = numbers_of m y in
@@ -129,12 +129,11 @@ module _ {p : Accounts} {n : ℕ} {m : Machine} {t : ℕ} {a : Actor} {rest : Li
       is_lost m.abstract.references (reference_of t InFlight y) (gives_up s InFlight y (rw (own y) refl) refl) in
       let lives = lives_so s y some (omega (arith, lost.before)) in
       let weights = weighed s (Die y ∷ []) (rw (test, other, is_dead) refl) y in
-      let left : released_word w ≡ w - 4 = ap (λ (b : Bool). cond b (w + 2) (w - 4)) other in
       row_becomes m t a (SharedExchange y Own w) rest y (Die y ∷ []) (rw (test, other, is_dead) refl) (Dying t)
       (ap (λ (b : Bool). cond b (Dying t) (m.life y)) (own y))
-      (record k { shared = k.shared - 4; references = k.references - 1 }) (record {
+      (record k { shared = k.shared - ONE_REFERENCE; references = k.references - 1 }) (record {
         local = refl;
-        shared = omega (arith, exchanged m.memory y w true test, left, same);
+        shared = omega (arith, exchanged m.memory y w true test, released_less w other, same);
         mark = refl;
         references = omega (arith, own_moves m.memory t y w (m.memory (Shared y)) m.abstract test, lost.less);
         waiting = omega (arith, weights.waiting);
@@ -145,8 +144,8 @@ module _ {p : Accounts} {n : ℕ} {m : Machine} {t : ℕ} {a : Actor} {rest : Li
 
   -- `Decrements`, for the thread's own reference.
   own_loses : {y w : ℕ} → AtDuty p n m t a (SharedExchange y Own w) rest → (m.memory (Shared y) == w) ≡ true
-      → m.memory (Shared y) ≡ w → (w == fresh_word) ≡ false → w ≢ fresh_word → (w - 4 == dead_word) ≡ false
-      → w - 4 ≢ dead_word → KeepsRow m t a (SharedExchange y Own w) rest y
+      → m.memory (Shared y) ≡ w → (w == fresh_word) ≡ false → w ≢ fresh_word → (w - ONE_REFERENCE == dead_word) ≡ false
+      → w - ONE_REFERENCE ≢ dead_word → KeepsRow m t a (SharedExchange y Own w) rest y
   own_loses {y = y} {w = w} s test same other isnt_fresh alive isnt_dead =
       let some : IsCounted m.layout y = head_fits_of s in
       let k = numbers_of m y in
@@ -154,11 +153,10 @@ module _ {p : Accounts} {n : ℕ} {m : Machine} {t : ℕ} {a : Actor} {rest : Li
       is_lost m.abstract.references (reference_of t InFlight y) (gives_up s InFlight y (rw (own y) refl) refl) in
       let lives = lives_so s y some (omega (arith, lost.before)) in
       let weights = weighed s [] (rw (test, other, alive) refl) y in
-      let left : released_word w ≡ w - 4 = ap (λ (b : Bool). cond b (w + 2) (w - 4)) other in
       row_becomes m t a (SharedExchange y Own w) rest y [] (rw (test, other, alive) refl) Live lives.is_live
-      (record k { shared = k.shared - 4; references = k.references - 1 }) (record {
+      (record k { shared = k.shared - ONE_REFERENCE; references = k.references - 1 }) (record {
         local = refl;
-        shared = omega (arith, exchanged m.memory y w true test, left, same);
+        shared = omega (arith, exchanged m.memory y w true test, released_less w other, same);
         mark = refl;
         references = omega (arith, own_moves m.memory t y w (m.memory (Shared y)) m.abstract test, lost.less);
         waiting = omega (arith, weights.waiting);
@@ -166,7 +164,7 @@ module _ {p : Accounts} {n : ℕ} {m : Machine} {t : ℕ} {a : Actor} {rest : Li
         merging = omega (arith, weights.merging);
         deciding = omega (arith, weights.deciding);
       }) (shared_lost (block_of m.layout y) k lives.invariant (λ e. isnt_fresh (sym same ∙ e))
-      (λ e. isnt_dead (ap (λ (v : ℕ). v - 4) (sym same) ∙ e)) lost.before)
+      (λ e. isnt_dead (ap (λ (v : ℕ). v - ONE_REFERENCE) (sym same) ∙ e)) lost.before)
 
   -- The row's invariant holds after `Queues`, `Decrements`, `DecrementsToZero` and `ExchangeLost`.
   pub row_after_own_exchange : {y w : ℕ} → AtDuty p n m t a (SharedExchange y Own w) rest
@@ -176,7 +174,7 @@ module _ {p : Accounts} {n : ℕ} {m : Machine} {t : ℕ} {a : Actor} {rest : Li
         | inr other ↦ row_after_lost_exchange (head_fits_of s) s other.0
         | inl same ↦ elim (eqb_tells w fresh_word) [
           | inl fresh ↦ own_queues s same.0 same.1 fresh.0 fresh.1
-          | inr other ↦ elim (eqb_tells (w - 4) dead_word) [
+          | inr other ↦ elim (eqb_tells (w - ONE_REFERENCE) dead_word) [
             | inl dead ↦ own_dies s same.0 same.1 other.0 dead.0 dead.1
             | inr alive ↦ own_loses s same.0 same.1 other.0 other.1 alive.0 alive.1
           ]
@@ -187,8 +185,8 @@ module _ {p : Accounts} {n : ℕ} {m : Machine} {t : ℕ} {a : Actor} {rest : Li
 
   -- `DecrementsToZero`, for a handed reference.
   handed_ends : {y w : ℕ} → AtDuty p n m t a (SharedExchange y Handed w) rest → (m.memory (Shared y) == w) ≡ true
-      → m.memory (Shared y) ≡ w → (w == fresh_word) ≡ false → (w - 4 == dead_word) ≡ true → w - 4 ≡ dead_word
-      → KeepsRow m t a (SharedExchange y Handed w) rest y
+      → m.memory (Shared y) ≡ w → (w == fresh_word) ≡ false → (w - ONE_REFERENCE == dead_word) ≡ true
+      → w - ONE_REFERENCE ≡ dead_word → KeepsRow m t a (SharedExchange y Handed w) rest y
   handed_ends {y = y} {w = w} s test same other is_dead dead =
       let fits = head_fits_of s in
       let k = numbers_of m y in
@@ -196,12 +194,11 @@ module _ {p : Accounts} {n : ℕ} {m : Machine} {t : ℕ} {a : Actor} {rest : Li
       let one = one_own y in
       let awaits : 1 ≤ k.waiting = omega (arith, weights.waiting, one) in
       let lives = lives_so s y fits.0 (omega (arith, awaits)) in
-      let left : released_word w ≡ w - 4 = ap (λ (b : Bool). cond b (w + 2) (w - 4)) other in
       row_becomes m t a (SharedExchange y Handed w) rest y (Die y ∷ []) (rw (test, other, is_dead) refl) (Dying t)
       (ap (λ (b : Bool). cond b (Dying t) (m.life y)) (own y))
-      (record k { shared = k.shared - 4; waiting = k.waiting - 1 }) (record {
+      (record k { shared = k.shared - ONE_REFERENCE; waiting = k.waiting - 1 }) (record {
         local = refl;
-        shared = omega (arith, exchanged m.memory y w true test, left, same);
+        shared = omega (arith, exchanged m.memory y w true test, released_less w other, same);
         mark = refl;
         references = refl;
         waiting = omega (arith, weights.waiting, one);
@@ -212,8 +209,8 @@ module _ {p : Accounts} {n : ℕ} {m : Machine} {t : ℕ} {a : Actor} {rest : Li
 
   -- `Decrements`, for a handed reference.
   handed_stays : {y w : ℕ} → AtDuty p n m t a (SharedExchange y Handed w) rest → (m.memory (Shared y) == w) ≡ true
-      → m.memory (Shared y) ≡ w → (w == fresh_word) ≡ false → (w - 4 == dead_word) ≡ false → w - 4 ≢ dead_word
-      → KeepsRow m t a (SharedExchange y Handed w) rest y
+      → m.memory (Shared y) ≡ w → (w == fresh_word) ≡ false → (w - ONE_REFERENCE == dead_word) ≡ false
+      → w - ONE_REFERENCE ≢ dead_word → KeepsRow m t a (SharedExchange y Handed w) rest y
   handed_stays {y = y} {w = w} s test same other alive isnt_dead =
       let fits = head_fits_of s in
       let k = numbers_of m y in
@@ -221,11 +218,10 @@ module _ {p : Accounts} {n : ℕ} {m : Machine} {t : ℕ} {a : Actor} {rest : Li
       let one = one_own y in
       let awaits : 1 ≤ k.waiting = omega (arith, weights.waiting, one) in
       let lives = lives_so s y fits.0 (omega (arith, awaits)) in
-      let left : released_word w ≡ w - 4 = ap (λ (b : Bool). cond b (w + 2) (w - 4)) other in
       row_becomes m t a (SharedExchange y Handed w) rest y [] (rw (test, other, alive) refl) Live lives.is_live
-      (record k { shared = k.shared - 4; waiting = k.waiting - 1 }) (record {
+      (record k { shared = k.shared - ONE_REFERENCE; waiting = k.waiting - 1 }) (record {
         local = refl;
-        shared = omega (arith, exchanged m.memory y w true test, left, same);
+        shared = omega (arith, exchanged m.memory y w true test, released_less w other, same);
         mark = refl;
         references = refl;
         waiting = omega (arith, weights.waiting, one);
@@ -233,7 +229,7 @@ module _ {p : Accounts} {n : ℕ} {m : Machine} {t : ℕ} {a : Actor} {rest : Li
         merging = omega (arith, weights.merging);
         deciding = omega (arith, weights.deciding);
       }) (handed_lost (block_of m.layout y) k lives.invariant fits.1
-      (λ e. isnt_dead (ap (λ (v : ℕ). v - 4) (sym same) ∙ e)) awaits)
+      (λ e. isnt_dead (ap (λ (v : ℕ). v - ONE_REFERENCE) (sym same) ∙ e)) awaits)
 
   -- The row's invariant holds after `Decrements`, `DecrementsToZero` and `ExchangeLost`, for a handed reference.
   pub row_after_handed_exchange : {y w : ℕ} → AtDuty p n m t a (SharedExchange y Handed w) rest
@@ -244,7 +240,7 @@ module _ {p : Accounts} {n : ℕ} {m : Machine} {t : ℕ} {a : Actor} {rest : Li
         | inr other ↦ row_after_lost_exchange fits.0 s other.0
         | inl same ↦ elim (eqb_tells w fresh_word) [
           | inl fresh ↦ absurd (omega (arith, fits.1, same.1, fresh.1))
-          | inr other ↦ elim (eqb_tells (w - 4) dead_word) [
+          | inr other ↦ elim (eqb_tells (w - ONE_REFERENCE) dead_word) [
             | inl dead ↦ handed_ends s same.0 same.1 other.0 dead.0 dead.1
             | inr alive ↦ handed_stays s same.0 same.1 other.0 alive.0 alive.1
           ]

@@ -5,7 +5,7 @@ use Rattle.std.proofs.lemmas.List.Sums.{sum_by-cons, sum_by-append}
 use Rattle.brc_model.specs.declared.duty.Holding.TheVariants.{InFlight}
 use Rattle.brc_model.specs.declared.duty.Reason.TheVariants.{Handed}
 use Rattle.brc_model.specs.declared.duty.Duty.{Duty}
-use Rattle.brc_model.specs.declared.duty.Duty.TheVariants.{ReleaseLoad, MergeSwap, Settle, SettleKind, SettleCell, TakeSlot, CloseResource, SettleEnd, Leave, Scan, TakeFound, Finish, ClaimMark, MarksLoad, CellSwap}
+use Rattle.brc_model.specs.declared.duty.Duty.TheVariants.{ReleaseLoad, MergeSwap, Settle, SettleKind, SettleCell, TakeField, CloseResource, SettleEnd, Leave, Scan, TakeFound, Finish, ClaimMark, MarksLoad, CellSwap}
 use Rattle.brc_word.specs.Words.{marks_of_word, mark_at, unmarked_word, lowest_mark, first_marks}
 use Rattle.brc_model.specs.declared.layout.Layout.{Layout}
 use Rattle.brc_model.specs.Layout.{mark_bit}
@@ -30,7 +30,7 @@ use Rattle.brc_model.proofs.Objects.Finalisers.{Finalises}
 -- Says whether the duty settles the row, after the row's kind has been read.
 abbrev pub settles : Duty → ℕ → Bool
 settles (SettleCell y i n) x = y == x
-settles (TakeSlot y) x = y == x
+settles (TakeField y) x = y == x
 settles (CloseResource y) x = y == x
 settles (SettleEnd y) x = y == x
 settles _ x = false
@@ -39,7 +39,7 @@ settles _ x = false
 abbrev pub settles_row : Duty → ℕ → Bool
 settles_row (SettleKind y) x = y == x
 settles_row (SettleCell y i n) x = y == x
-settles_row (TakeSlot y) x = y == x
+settles_row (TakeField y) x = y == x
 settles_row (CloseResource y) x = y == x
 settles_row (SettleEnd y) x = y == x
 settles_row _ x = false
@@ -136,12 +136,12 @@ module _ (x : ℕ) (f : Duty → ℕ) (of : IsOfSettling x f) where
         one_light Settle refl,
       )
   next_light layout t running head (SettleKind y) found apart =
-      either (λ (l : List Duty). sum_by f l ≡ 0) (has_resource found) (TakeSlot y ∷ [])
-      (cells_from y 0 (cells_of found)) (λ e. one_light (TakeSlot y) apart)
+      either (λ (l : List Duty). sum_by f l ≡ 0) (has_resource found) (TakeField y ∷ [])
+      (cells_from y 0 (cells_of found)) (λ e. one_light (TakeField y) apart)
       (cells_light y 0 (cells_of found) apart)
   next_light layout t running head (SettleCell y i n) found apart =
       released_light found (cells_from y (i + 1) n) ∙ cells_light y (i + 1) n apart
-  next_light layout t running head (TakeSlot y) found apart = one_light (CloseResource y) apart
+  next_light layout t running head (TakeField y) found apart = one_light (CloseResource y) apart
   next_light layout t running head (CloseResource y) found apart = one_light (SettleEnd y) apart
   next_light layout t running head (SettleEnd y) found apart = refl
   next_light layout t running head (Leave i n) found apart =

@@ -86,7 +86,7 @@ moves head d rest next finds (GoesOn e leads) = others_follow head d rest next (
 moves head d rest next finds (Frees x i n y e some leads) =
     others_follow head d rest next ((λ e. cc), (leads.other, tt))
 moves head d rest next finds (FreesOld x i y z h some) = others_follow head d rest next ((λ e. cc), tt)
--- the settling comes again, behind another duty that isn't passed over
+-- the settling comes again, after another duty that isn't passed over
 moves {before = before} head d rest next finds SettlesRow = λ is.
     let first = sym (ready_first head (SettleKind (before - 1)) (Settle ∷ rest) refl) ∙ is in
     (let same : SettleKind (before - 1) ≡ Settle = same_first _ Settle (Settle ∷ rest) rest first in cc)

@@ -155,16 +155,23 @@ module _ {p : Accounts} {n : ℕ} {m : Machine} where
       let says = row_says (block_of m.layout x) (m.life x) (numbers_of m x) (core.rows x pos) in
       record {
         total = omega (arith, says.total);
-        default_none = λ live e. (says.live live).default_none e;
-        default_counts = λ live e. (says.live live).default_counts e;
-        queued_one = λ live e. (says.live live).queued_one e;
-        merged_free = λ live e. (says.live live).merged_free e;
-        merged_counts = λ live e. (says.live live).merged_counts e;
         phase = λ live. (says.live live).phase;
-        default_local = λ live e.
-            default_local x core ((says.live live).local (λ three. absurd (omega (arith, e, three))));
-        queued_local = λ live e.
-            queued_local x core ((says.live live).local (λ three. absurd (omega (arith, e, three))));
+        in_default = λ live e.
+            let it = says.live live in
+            record {
+              awaiting_none = it.default_none e;
+              counts = it.default_counts e;
+              local = default_local x core (it.local (λ three. absurd (omega (arith, e, three))));
+            };
+        in_queued = λ live e.
+            let it = says.live live in
+            record {
+              awaiting_one = it.queued_one e;
+              local = queued_local x core (it.local (λ three. absurd (omega (arith, e, three))));
+            };
+        in_merged = λ live e.
+            let it = says.live live in
+            record { unowned = it.merged_free e; counts = it.merged_counts e };
       }
 
 free_row : (owner : ℕ) (l : Life) (n : Numbers) → RowInvariant owner l n → (l ≡ Live → ⊥) → (l ≡ Unborn → ⊥) → IsDead n

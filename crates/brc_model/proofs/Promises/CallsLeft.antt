@@ -45,7 +45,7 @@ turns_elsewhere : (context : Context) (at other : ℕ) → other ≢ at
 turns_elsewhere context at other apart =
     get_or-set_other context.turns at other (turns_at context at + 1) 0 apart
 
--- The points behind the one that goes back have the turns that they had.
+-- The points after the one that goes back have the turns that they had.
 turns_behind : (context : Context) (at from : ℕ) (code : List Instr) → at < from
     → turns_left (with_turn context at).turns from code ≡ turns_left context.turns from code
 turns_behind context at from [] behind = refl

@@ -32,7 +32,7 @@ use Rattle.brc_lang.specs.Grammar.{IsModule, LeadsForward}
 use Rattle.brc_model.proofs.Promises.Emptying.{Empties, behind, IsEmptied, AreEmptied, duty_emptied, ActionSettles, HasNoneBehind, no_chain, from_empty, instruction_empties, inside_empties}
 use Rattle.brc_model.specs.declared.actor.OpenCall.{OpenCall}
 
--- ---- where nothing is behind
+-- ---- where nothing comes after the agenda
 
 none_at_end : (left : ℕ) (outer : List OpenCall) → HoldsAtEnd HasNoneBehind left outer
 none_at_end left [] = refl
@@ -61,7 +61,7 @@ released_settles head row depth v after =
       | false ↦ refl
     ]
 
--- A stopped thread settles behind its last release.
+-- A stopped thread settles after its last release.
 give_up_settles : (head : ℕ) (calls : List (List (Option ℕ))) → ActionSettles head [] (give_up calls)
 give_up_settles head calls =
     give_up_decides (ActionSettles head []) tt (λ row depth v after found. released_settles head row depth v after)
@@ -118,7 +118,7 @@ status_settles functions layout t a Running forward e = agenda_settles functions
 status_settles functions layout t a Leaving forward e = agenda_settles functions layout t a a.actor.agenda refl forward
     e
 
--- Where a thread may stop, nothing is behind its agenda.
+-- Where a thread may stop, nothing comes after its agenda.
 stopper_none : (place : Place) → is_before_instruction place ≡ true → behind place ≡ []
 stopper_none (Idle left) before = refl
 stopper_none _ before = cc

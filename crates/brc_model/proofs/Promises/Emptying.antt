@@ -1,5 +1,5 @@
--- A thread with nothing left to do has an empty dying chain: a settling is behind each duty that can make a row die. A
--- thread that has stopped settles once, behind the last of its releases.
+-- A thread with nothing left to do has an empty dying chain: a settling comes after each duty that can make a row die.
+-- A thread that has stopped settles once, after the last of its releases.
 use Rattle.brc_model.specs.declared.state.Exit.TheVariants.{Success, Fault as FaultExit}
 use Rattle.std.proofs.Common.{◌≡◌, ℕ, zero, suc, Bool, true, false, cond, List, [], ◌∷◌, ◌++◌, Option, None, Some, refl, sym, ap, ◌∙◌, subst}
 use Rattle.std.specs.Prelude.{is_some, not, slice_get}
@@ -101,7 +101,7 @@ next_empties d next rest _ e = e
 
 -- ---- all threads
 
--- What a thread does at the place behind its agenda: between two releases of a stopped thread the settling is still to
+-- What a thread does at the place after its agenda: between two releases of a stopped thread the settling is still to
 -- come.
 abbrev pub behind : Place → List Duty
 behind (Stopping None calls) = Settle ∷ []
@@ -113,18 +113,18 @@ IsEmptied a = Empties a.actor.head (a.actor.agenda ++ behind a.place)
 abbrev pub AreEmptied : List StepActor → Type 0
 AreEmptied actors = (t : ℕ) (a : StepActor) → slice_get actors t ≡ Some a → IsEmptied a
 
--- A settling empties the chain, whatever is in front of it.
+-- A settling empties the chain, whatever comes before it.
 pub settled_empties : (full : Bool) (agenda : List Duty) → empties full (agenda ++ Settle ∷ []) ≡ true
 settled_empties full [] = refl
 settled_empties full (d ∷ rest) = settled_empties (may_fill full d) rest
 
--- Where nothing is behind, `ready` changes nothing of this.
+-- Where nothing comes after the agenda, `ready` changes nothing of this.
 none_behind : (head : ℕ) (agenda : List Duty) → Empties head (agenda ++ []) → Empties head (ready head agenda ++ [])
 none_behind head agenda e =
     subst (Empties head) (sym (append-nil (ready head agenda)))
     (ready_empties head agenda (subst (Empties head) (append-nil agenda) e))
 
--- Behind the duties that `ready` leaves comes what came behind them before.
+-- After the duties that `ready` leaves comes what came after them before.
 ready_behind : (head : ℕ) (agenda : List Duty) (place : Place) → Empties head (agenda ++ behind place)
     → Empties head (ready head agenda ++ behind place)
 ready_behind head agenda (Stopping None calls) e = settled_empties (some_chain head) (ready head agenda)
@@ -146,7 +146,7 @@ duty_emptied layout t a d rest place found e =
 
 -- ---- actions
 
--- The chain is empty once the duties of the action are done, if no settling is behind them.
+-- The chain is empty once the duties of the action are done, if no settling comes after them.
 abbrev pub ActionEmpties : ℕ → Action → Type 0
 ActionEmpties head Skip = Unit {0}
 ActionEmpties head Stuck = Unit {0}
@@ -154,8 +154,8 @@ ActionEmpties head (Silent moves place) = Unit {0}
 ActionEmpties head (Calls row place) = Unit {0}
 ActionEmpties head (Does d rest place) = Empties head (d ∷ rest)
 
--- The chain is empty once the duties of the action are done, and the settling that is behind them. A silent step and a
--- host call leave the thread this agenda.
+-- The chain is empty once the duties of the action are done, and the settling that comes after them. A silent step and
+-- a host call leave the thread this agenda.
 abbrev pub ActionSettles : ℕ → List Duty → Action → Type 0
 ActionSettles head agenda Skip = Unit {0}
 ActionSettles head agenda Stuck = Unit {0}
@@ -163,11 +163,11 @@ ActionSettles head agenda (Silent moves place) = Empties head (agenda ++ behind 
 ActionSettles head agenda (Calls row place) = (exit : Exit) → Empties head (agenda ++ behind (place exit))
 ActionSettles head agenda (Does d rest place) = (found : ℕ) → Empties head ((d ∷ rest) ++ behind (place found))
 
--- Nothing is behind the agenda at the place.
+-- Nothing comes after the agenda at the place.
 abbrev pub HasNoneBehind : Place → Type 0
 HasNoneBehind place = behind place ≡ []
 
--- So it is from an empty chain, where nothing is behind the action's duties.
+-- So it is from an empty chain, where nothing comes after the action's duties.
 action_settles : (x : Action) → ActionEmpties 0 x → EachPlace HasNoneBehind x → ActionSettles 0 [] x
 action_settles Skip e none = tt
 action_settles Stuck e none = tt

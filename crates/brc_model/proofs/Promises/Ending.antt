@@ -7,7 +7,7 @@ use Rattle.std.proofs.lemmas.Option.{slice_get_within, slice_get-get_or}
 use Rattle.brc_word.specs.declared.values.TheConstants.{GONE, EMPTY}
 use Rattle.brc_word.specs.Words.{closed_word}
 use Rattle.brc_model.specs.declared.duty.Duty.{Duty}
-use Rattle.brc_model.specs.declared.address.Address.TheVariants.{Gate, KindOf, Cell, Slot, ThreadWord}
+use Rattle.brc_model.specs.declared.address.Address.TheVariants.{Gate, KindOf, Cell, Field, ThreadWord}
 use Rattle.brc_model.specs.AbstractState.{Holder, ByThread, ByCell, Reference, references_to}
 use Rattle.brc_model.specs.References.{held, one_if, word_holds, cell_reference}
 use Rattle.brc_model.specs.Layout.{block_of, index_of, IsCounted}
@@ -18,7 +18,7 @@ use Rattle.brc_model.specs.Machine.{Life, Unborn, Live, Dying, Closed, Machine, 
 use Rattle.brc_model.specs.RowInvariant.{IsLive, RowInvariant}
 use Rattle.brc_model.specs.Accounts.{Accounts}
 use Rattle.brc_model.specs.Gates.{LiveGate, IsFree, IsLocked, GateFits}
-use Rattle.brc_model.specs.Invariant.{numbers_of, CellFits, kind_stored, slot_stored, CoreInvariant}
+use Rattle.brc_model.specs.Invariant.{numbers_of, CellFits, kind_stored, field_stored, CoreInvariant}
 use Rattle.brc_model.specs.Counting.{Counts}
 use Rattle.brc_model.specs.Ending.{HaveEnded, IsNamed, RowsEnd}
 use Rattle.brc_model.proofs.Basics.Bag.{held-cons, held_itself, held-le-references_to, one_if_true, references_to-cons}
@@ -136,8 +136,8 @@ module _ (p : Accounts) (n : ℕ) (m : Machine) (counts : Counts p n m) (ended :
       let one = some_reference x m.abstract.references (live_referenced x core at_end live) in
       held_in x one.holder one.has
 
-  -- The kind word of a row that isn't born is 0, and so is its slot.
-  pub blank_row : (x : ℕ) → m.life x ≡ Unborn → (m.memory (KindOf x) ≡ 0) × (m.memory (Slot x) ≡ EMPTY)
+  -- The kind word of a row that isn't born is 0, and so is its field.
+  pub blank_row : (x : ℕ) → m.life x ≡ Unborn → (m.memory (KindOf x) ≡ 0) × (m.memory (Field x) ≡ EMPTY)
   blank_row x unborn =
       let t = block_of m.layout x in
       let within = block_within m.layout x core.some_rows in
@@ -149,7 +149,7 @@ module _ (p : Accounts) (n : ℕ) (m : Machine) (counts : Counts p n m) (ended :
             let blank = core.blanks t a found in
             let idle = (at_end t a found).agenda in (
               blank.kinds x refl past (ap (λ (l : List Duty). kind_stored l x) idle),
-              blank.slots x refl past (ap (λ (l : List Duty). slot_stored l x) idle),
+              blank.fields x refl past (ap (λ (l : List Duty). field_stored l x) idle),
             )
       ]
 

@@ -10,7 +10,7 @@ use Rattle.brc_lang.specs.Grammar.{IsModule}
 use Rattle.brc_model.specs.Paths.{IsAcceptable}
 use Rattle.brc_word.specs.Words.{free_word, closed_word}
 use Rattle.brc_model.specs.declared.duty.Duty.{Duty}
-use Rattle.brc_model.specs.declared.duty.Duty.TheVariants.{Die, Settle, SettleKind, SettleCell, TakeSlot, CloseResource, SettleEnd, Leave, Scan, TakeFound, Finish}
+use Rattle.brc_model.specs.declared.duty.Duty.TheVariants.{Die, Settle, SettleKind, SettleCell, TakeField, CloseResource, SettleEnd, Leave, Scan, TakeFound, Finish}
 use Rattle.brc_model.specs.declared.address.Address.{Address}
 use Rattle.brc_model.specs.declared.address.Address.TheVariants.{Gate}
 use Rattle.brc_model.specs.declared.actor.Status.{Status}
@@ -48,7 +48,7 @@ first_gate m t a (SettleKind y) rest x fits at =
     inr (subst (λ (z : ℕ). IsDyingWord t (m.memory (Gate z))) (eqb-true y x at) fits.2)
 first_gate m t a (SettleCell y i k) rest x fits at =
     inr (subst (λ (z : ℕ). IsDyingWord t (m.memory (Gate z))) (eqb-true y x at) fits.3)
-first_gate m t a (TakeSlot y) rest x fits at =
+first_gate m t a (TakeField y) rest x fits at =
     inr (subst (λ (z : ℕ). IsDyingWord t (m.memory (Gate z))) (eqb-true y x at) fits.2)
 first_gate m t a (CloseResource y) rest x fits at =
     inr (subst (λ (z : ℕ). IsDyingWord t (m.memory (Gate z))) (eqb-true y x at) fits.2)
@@ -56,7 +56,7 @@ first_gate m t a (SettleEnd y) rest x fits at =
     inr (subst (λ (z : ℕ). IsDyingWord t (m.memory (Gate z))) (eqb-true y x at) fits.2)
 first_gate m t a _ rest x fits at = absurd (false≢true at)
 
--- The gate of a row that a duty behind the first is finalising is a dying word.
+-- The gate of a row that a duty after the first is finalising is a dying word.
 later_gate : (m : Machine) (t used : ℕ) (status : Status) (l : List Duty) (x : ℕ) → Later used status l
     → AllBehind m t l → 0 < finalised l x → IsDyingWord t (m.memory (Gate x))
 later_gate m t used status [] x later all some = absurd (omega (arith, some))

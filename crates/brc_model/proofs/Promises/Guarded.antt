@@ -1,5 +1,5 @@
 -- What holds between any two steps of running threads beside the counts: who watches a mark, who may change a cell, a
--- slot or a local word, and what a thread that is gone holds.
+-- field or a local word, and what a thread that is gone holds.
 use Rattle.std.proofs.Common.{true, false, ◌≡◌, ◌≢◌, ◌⊎◌, ℕ, ◌+◌, ◌-◌, Bool, cond, List, Option, None, Some, inl, inr, refl, sym, ap, ◌∙◌, subst, arith}
 use Rattle.std.specs.Prelude.{◌==◌, ◌&&◌, slice_get}
 use Rattle.std.proofs.lemmas.Option.{slice_get_within}
@@ -8,11 +8,11 @@ use Rattle.std.proofs.lemmas.Bool.Decides.{eqb_tells}
 use Rattle.brc_word.specs.declared.values.TheConstants.{RUNNING}
 use Rattle.brc_word.specs.Words.{local_word}
 use Rattle.brc_model.specs.declared.duty.Duty.{Duty}
-use Rattle.brc_model.specs.declared.duty.Duty.TheVariants.{RetainLoad, RetainStore, ReleaseLoad, ReleaseStore, MergeSwap, SettleCell, CellLoad, CellSwap, BirthSlot, BirthLocal, TakeSlot, LendSlot, ReturnSlot}
+use Rattle.brc_model.specs.declared.duty.Duty.TheVariants.{RetainLoad, RetainStore, ReleaseLoad, ReleaseStore, MergeSwap, SettleCell, CellLoad, CellSwap, BirthField, BirthLocal, TakeField, LendField, ReturnField}
 use Rattle.brc_model.specs.declared.duty.Reason.TheVariants.{Own, Handed}
 use Rattle.brc_model.specs.declared.duty.Holding.TheVariants.{InFlight}
 use Rattle.brc_model.specs.declared.actor.Status.{Status}
-use Rattle.brc_model.specs.declared.address.Address.TheVariants.{Local, Gate, Cell, Slot, ThreadWord}
+use Rattle.brc_model.specs.declared.address.Address.TheVariants.{Local, Gate, Cell, Field, ThreadWord}
 use Rattle.brc_model.specs.Layout.{block_of}
 use Rattle.brc_model.specs.Duties.{address_of, new_word}
 use Rattle.brc_model.specs.declared.actor.Actor.{Actor}
@@ -27,7 +27,7 @@ use Rattle.brc_model.specs.Invariant.{ActorFits, AtDuty, CoreInvariant}
 use Rattle.brc_model.specs.Progress.{HasLock, Runs}
 use Rattle.brc_model.specs.Counting.{Counts}
 use Rattle.brc_model.specs.CountingLaws.{ComesNext}
-use Rattle.brc_model.specs.GuardLaws.{QueuedMarksAreWatched, HoldsGate, CellsAreGuarded, GuardedCellsStay, SlotsAreGuarded, OwnersCountAlone, GoneThreadsHoldNothing}
+use Rattle.brc_model.specs.GuardLaws.{QueuedMarksAreWatched, HoldsGate, CellsAreGuarded, GuardedCellsStay, FieldsAreGuarded, OwnersCountAlone, GoneThreadsHoldNothing}
 use Rattle.brc_model.proofs.Basics.Blocks.{next_block, next_unborn}
 use Rattle.brc_model.proofs.Basics.Written.{written_apart, written_load, apart_local}
 use Rattle.brc_model.proofs.Frame.Alive.{Alive, alive_backed, alive_deciding, first_weighs}
@@ -48,7 +48,7 @@ module _ {p : Accounts} {n : ℕ} {m : Machine} {t : ℕ} {a : Actor} {d : Duty}
 pub marks_guarded : QueuedMarksAreWatched
 marks_guarded p n m x counts set = mark_watched x counts.kept.core set
 
--- ---- cells and slots
+-- ---- cells and fields
 
 module _ {p : Accounts} {n : ℕ} {m : Machine} where
   -- The gate of the object that a thread has locked names the thread.
@@ -183,29 +183,29 @@ cells_stay p n m t a d rest counts next =
 abbrev MayMove : Machine → ℕ → ℕ → Type 0
 MayMove m t x = HasLock m t x ⊎ ((m.life x ≡ Dying t) ⊎ ((m.life x ≡ Unborn) × (block_of m.layout x ≡ t)))
 
--- A step that changes no slot but another row's leaves the row's.
-by_slot : (m : Machine) (t x y word : ℕ) → MayMove m t y
-    → written m.memory (Slot y) word (Slot x) ≢ m.memory (Slot x) → MayMove m t x
-by_slot m t x y word may changed = elim (eqb_tells y x) [
+-- A step that changes no field but another row's leaves the row's.
+by_field : (m : Machine) (t x y word : ℕ) → MayMove m t y
+    → written m.memory (Field y) word (Field x) ≢ m.memory (Field x) → MayMove m t x
+by_field m t x y word may changed = elim (eqb_tells y x) [
   | inl same ↦ subst (MayMove m t) same.1 may
-  | inr other ↦ absurd (changed (ap (λ (b : Bool). cond b word (m.memory (Slot x))) other.0))
+  | inr other ↦ absurd (changed (ap (λ (b : Bool). cond b word (m.memory (Field x))) other.0))
 ]
 
 module _ {p : Accounts} {n : ℕ} {m : Machine} {t : ℕ} {a : Actor} {rest : List Duty} where
-  moved_by : (d : Duty) (x : ℕ) → AtDuty p n m t a d rest → memory_by m t a d (Slot x) ≢ m.memory (Slot x)
+  moved_by : (d : Duty) (x : ℕ) → AtDuty p n m t a d rest → memory_by m t a d (Field x) ≢ m.memory (Field x)
       → MayMove m t x
-  moved_by (TakeSlot y) x here = by_slot m t x y 0 (inr (inl (head_of here).1))
-  moved_by (BirthSlot y h) x here =
+  moved_by (TakeField y) x here = by_field m t x y 0 (inr (inl (head_of here).1))
+  moved_by (BirthField y h) x here =
       let next = (head_of here).0 in
-      by_slot m t x y 1 (inr (inr (next_unborn p n m t a y here.core here.found next, next_block m t a y next)))
-  moved_by (LendSlot y) x here = by_slot m t x y 0 (inl (a, here.found, (head_of here).1))
-  moved_by (ReturnSlot y) x here =
+      by_field m t x y 1 (inr (inr (next_unborn p n m t a y here.core here.found next, next_block m t a y next)))
+  moved_by (LendField y) x here = by_field m t x y 0 (inl (a, here.found, (head_of here).1))
+  moved_by (ReturnField y) x here =
       let lent = head_of here in
-      by_slot m t x y 1 (inl (a, here.found, (here.core.each t a here.found).0.lent y lent))
+      by_field m t x y 1 (inl (a, here.found, (here.core.each t a here.found).0.lent y lent))
   moved_by _ x here = λ changed. absurd (changed refl)
 
-pub slots_guarded : SlotsAreGuarded
-slots_guarded p n m t a d rest x counts next changed =
+pub fields_guarded : FieldsAreGuarded
+fields_guarded p n m t a d rest x counts next changed =
     elim (moved_by d x (at_next counts next) changed) [
       | inl lock ↦ inl (gate_of t x counts lock)
       | inr other ↦ inr other

@@ -8,7 +8,7 @@ use Rattle.brc_lang.specs.declared.module.Instr.TheVariants.{Read, Write}
 use Rattle.brc_model.specs.declared.state.State.{State}
 use Rattle.brc_model.specs.declared.actor.Place.{Place}
 use Rattle.brc_model.specs.declared.actor.Stage.TheVariants.{Lent}
-use Rattle.brc_model.specs.VarStates.{var_of, is_empty}
+use Rattle.brc_model.specs.SlotStates.{var_of, is_empty}
 use Rattle.brc_model.specs.Threads.{row_of}
 use Rattle.brc_model.specs.Paths.{IsAcceptable}
 use Rattle.brc_model.specs.Progress.{Always}

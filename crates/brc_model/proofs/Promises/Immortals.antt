@@ -1,14 +1,14 @@
 -- The words of an immortal object never change, but those that its lock guards: every other duty about it is a load.
 use Rattle.std.proofs.Common.{◌≡◌, ℕ, ◌+◌, ◌<◌, true, List, inl, inr, refl, sym, ap, ◌∙◌, subst, arith}
 use Rattle.std.proofs.lemmas.Bool.{cases_Bool, eqb-true, ne_eqb}
-use Rattle.brc_word.specs.declared.values.TheConstants.{UNSET}
+use Rattle.brc_word.specs.declared.values.TheConstants.{ONE_REFERENCE, UNSET}
 use Rattle.brc_lang.specs.declared.module.Module.{Module}
 use Rattle.brc_word.specs.Words.{immortal_local, local_part, is_immortal_word}
 use Rattle.brc_model.specs.declared.thread.Choice.{Choice}
 use Rattle.brc_model.specs.declared.duty.Reason.TheVariants.{Own, Handed}
 use Rattle.brc_model.specs.declared.duty.Duty.{Duty}
-use Rattle.brc_model.specs.declared.duty.Duty.TheVariants.{RetainAdd, DecideAtZero, SharedLoad, SharedExchange, MergeLoad, MergeExchange, TakeSlot, CloseResource, BirthSlot, LendSlot, ReturnSlot}
-use Rattle.brc_model.specs.declared.address.Address.TheVariants.{Local, Shared, KindOf, Slot, Resource}
+use Rattle.brc_model.specs.declared.duty.Duty.TheVariants.{RetainAdd, DecideAtZero, SharedLoad, SharedExchange, MergeLoad, MergeExchange, TakeField, CloseResource, BirthField, LendField, ReturnField}
+use Rattle.brc_model.specs.declared.address.Address.TheVariants.{Local, Shared, KindOf, Field, Resource}
 use Rattle.brc_model.specs.declared.actor.Actor.{Actor}
 use Rattle.brc_model.specs.Machine.{Life, Unborn, Live, Dying, Closed, Machine, written, mark_of}
 use Rattle.brc_model.specs.StepMachine.{StepMachine, next_machine}
@@ -66,7 +66,7 @@ module _ {p : Accounts} {n : ℕ} {m : Machine} {t : ℕ} {a : Actor} {rest : Li
   immortal_shared : (d : Duty) (x : ℕ) → AtDuty p n m t a d rest → is_immortal_row m.layout x ≡ true
       → memory_by m t a d (Shared x) ≡ m.memory (Shared x)
   immortal_shared (RetainAdd y h) x here immortal =
-      shared_apart m y x (m.memory (Shared y) + 4) (head_of here).0 immortal
+      shared_apart m y x (m.memory (Shared y) + ONE_REFERENCE) (head_of here).0 immortal
   immortal_shared (DecideAtZero y) x here immortal = written_load m.memory (Shared y) (Shared x)
   immortal_shared (SharedLoad y r) x here immortal = written_load m.memory (Shared y) (Shared x)
   immortal_shared (SharedExchange y Own w) x here immortal = shared_apart m y x _ (head_of here) immortal
@@ -75,22 +75,22 @@ module _ {p : Accounts} {n : ℕ} {m : Machine} {t : ℕ} {a : Actor} {rest : Li
   immortal_shared (MergeExchange y c w r) x here immortal = shared_apart m y x _ (head_of here).0 immortal
   immortal_shared _ x here immortal = refl
 
-  immortal_slot : (d : Duty) (x : ℕ) → AtDuty p n m t a d rest → is_immortal_row m.layout x ≡ true
-      → memory_by m t a d (Slot x) ≡ m.memory (Slot x)
-  immortal_slot (TakeSlot y) x here immortal =
-      written_apart m.memory (Slot y) (Slot x) 0 (ne_eqb y x (immortal_apart m.layout y x (head_of here).0 immortal))
-  immortal_slot (BirthSlot y h) x here immortal =
-      written_apart m.memory (Slot y) (Slot x) 1
+  immortal_field : (d : Duty) (x : ℕ) → AtDuty p n m t a d rest → is_immortal_row m.layout x ≡ true
+      → memory_by m t a d (Field x) ≡ m.memory (Field x)
+  immortal_field (TakeField y) x here immortal =
+      written_apart m.memory (Field y) (Field x) 0 (ne_eqb y x (immortal_apart m.layout y x (head_of here).0 immortal))
+  immortal_field (BirthField y h) x here immortal =
+      written_apart m.memory (Field y) (Field x) 1
       (ne_eqb y x (immortal_apart m.layout y x (next_counted m t a y (head_of here).0) immortal))
-  immortal_slot (LendSlot y) x here immortal =
-      written_apart m.memory (Slot y) (Slot x) 0 (ne_eqb y x (immortal_apart m.layout y x (head_of here).0 immortal))
-  immortal_slot (ReturnSlot y) x here immortal =
+  immortal_field (LendField y) x here immortal =
+      written_apart m.memory (Field y) (Field x) 0 (ne_eqb y x (immortal_apart m.layout y x (head_of here).0 immortal))
+  immortal_field (ReturnField y) x here immortal =
       let lent = is_named a.lent y (head_of here) in
       let some = lends-le y m.actors t a here.found in
-      written_apart m.memory (Slot y) (Slot x) 1
+      written_apart m.memory (Field y) (Field x) 1
       (ne_eqb y x (λ same. let none = immortal_unlent p n m y here.core
       (ap (is_immortal_row m.layout) same ∙ immortal) in absurd (omega (arith, lent, some, none))))
-  immortal_slot _ x here immortal = refl
+  immortal_field _ x here immortal = refl
 
   immortal_resource : (d : Duty) (x : ℕ) → AtDuty p n m t a d rest → is_immortal_row m.layout x ≡ true
       → memory_by m t a d (Resource x) ≡ m.memory (Resource x)
@@ -106,7 +106,7 @@ record ImmortalStays (m new : Machine) (x : ℕ) : Type 0 where
   local : new.memory (Local x) ≡ m.memory (Local x)
   shared : new.memory (Shared x) ≡ m.memory (Shared x)
   kind : new.memory (KindOf x) ≡ m.memory (KindOf x)
-  slot : new.memory (Slot x) ≡ m.memory (Slot x)
+  field : new.memory (Field x) ≡ m.memory (Field x)
   resource : new.memory (Resource x) ≡ m.memory (Resource x)
 
 -- every immortal object's
@@ -120,7 +120,7 @@ immortals_shown n = record {
     local = refl;
     shared = refl;
     kind = refl;
-    slot = refl;
+    field = refl;
     resource = refl;
   };
   sits =
@@ -129,7 +129,7 @@ immortals_shown n = record {
         local = it.local;
         shared = it.shared;
         kind = it.kind;
-        slot = it.slot;
+        field = it.field;
         resource = it.resource;
       };
   moves =
@@ -138,7 +138,7 @@ immortals_shown n = record {
         local = refl;
         shared = refl;
         kind = refl;
-        slot = refl;
+        field = refl;
         resource = refl;
       };
   does = λ p t m a d rest doing x immortal. record {
@@ -146,7 +146,7 @@ immortals_shown n = record {
     local = immortal_word_left d x (at_duty doing) immortal;
     shared = immortal_shared d x (at_duty doing) immortal;
     kind = immortal_kind_left x (at_duty doing) immortal;
-    slot = immortal_slot d x (at_duty doing) immortal;
+    field = immortal_field d x (at_duty doing) immortal;
     resource = immortal_resource d x (at_duty doing) immortal;
   };
 }
@@ -172,7 +172,7 @@ immortal_stays p n m event x whole immortal =
       local = words.local;
       shared = words.shared;
       kind = words.kind;
-      slot = words.slot;
+      field = words.field;
       resource = words.resource;
       mark = immortal_mark x new.kept.core still ∙ sym (immortal_mark x whole.kept.core immortal);
     }

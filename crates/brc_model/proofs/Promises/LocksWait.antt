@@ -41,7 +41,7 @@ use Rattle.brc_model.specs.declared.actor.OpenCall.{OpenCall}
 
 -- ---- where a thread waits
 
--- No duties are behind the one that locks, and a thread that finds the gate taken is still at the place.
+-- No duties come after the one that locks, and a thread that finds the gate taken is still at the place.
 record IsTried (place : Place) (rest : List Duty) (next : ℕ → Place) : Type 0 where
   alone : rest ≡ []
   stays : (found : ℕ) → (found == free_word) ≡ false → next found ≡ place

@@ -165,7 +165,7 @@ alone_in p n m whole = λ t x has.
     let c = whole.accounts in
     let locked = (core.each t has.0 has.1).0.lent x has.2 in
     record {
-      slot = lent_leaves_none c n (counting m) t has.0 x core has.1 has.2;
+      field = lent_leaves_none c n (counting m) t has.0 x core has.1 has.2;
       alone = λ u other.
           one_locker c n (counting m) t has.0 u x other.0 core has.1 other.1
           ((core.each u other.0 other.1).0.lent x other.2) locked;

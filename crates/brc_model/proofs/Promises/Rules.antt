@@ -3,6 +3,7 @@
 use Rattle.std.proofs.Common.{◌≡◌, ◌≢◌, ℕ, suc, ◌-◌, ◌<◌, ◌≤◌, Bool, true, false, List, [], inl, inr, refl, sym, subst, arith}
 use Rattle.std.specs.Prelude.{◌==◌, nat_lt}
 use Rattle.brc_word.specs.declared.values.TheConstants.{ONE_REFERENCE}
+use Rattle.std.proofs.lemmas.Bool.{eq-eqb, le-ltb, lt-ltb, ne_eqb}
 use Rattle.std.proofs.lemmas.Bool.Decides.{eqb_tells, leb_tells}
 use Rattle.std.proofs.lemmas.List.{append-nil}
 use Rattle.brc_word.specs.Words.{most_local, local_part, is_immortal_word, fresh_word, dead_word, merged_word, free_word, mark_at}
@@ -10,7 +11,7 @@ use Rattle.brc_model.specs.declared.duty.Holding.{Holding}
 use Rattle.brc_model.specs.declared.duty.Reason.{Reason}
 use Rattle.brc_model.specs.declared.duty.Reason.TheVariants.{Own, Handed}
 use Rattle.brc_model.specs.declared.duty.Duty.{Duty}
-use Rattle.brc_model.specs.declared.duty.Duty.TheVariants.{RetainLoad, RetainStore, RetainAdd, ReleaseLoad, ReleaseStore, DecideAtZero, SharedLoad, SharedExchange, SetMark, Look, TakeMark, MergeSwap, MergeLoad, MergeExchange, Die, Settle, SettleKind, SettleCell, TakeSlot, CloseResource, SettleEnd, Leave, Scan, MarksLoad, TakeFound, Finish, ClaimMark, BirthKind, BirthSlot, BirthLocal, KindLoad, LockGate, UnlockGate, CellLoad, CellSwap, LendSlot, ReturnSlot}
+use Rattle.brc_model.specs.declared.duty.Duty.TheVariants.{RetainLoad, RetainStore, RetainAdd, ReleaseLoad, ReleaseStore, DecideAtZero, SharedLoad, SharedExchange, SetMark, Look, TakeMark, MergeSwap, MergeLoad, MergeExchange, Die, Settle, SettleKind, SettleCell, TakeField, CloseResource, SettleEnd, Leave, Scan, MarksLoad, TakeFound, Finish, ClaimMark, BirthKind, BirthField, BirthLocal, KindLoad, LockGate, UnlockGate, CellLoad, CellSwap, LendField, ReturnField}
 use Rattle.brc_model.specs.declared.address.Address.{Address}
 use Rattle.brc_model.specs.Rules.{Goes, IsComputed, given_up}
 use Rattle.brc_model.specs.Rules as rules
@@ -19,35 +20,6 @@ use Rattle.brc_model.specs.Moves.{reference_effects, put_in_flight}
 use Rattle.brc_model.specs.AbstractState.{Move}
 use Rattle.brc_model.specs.declared.layout.Layout.{Layout}
 use Rattle.brc_model.specs.Layout.{mark_bit}
-
--- Case analysis on a test of two numbers.
-by_test : (a b : ℕ) (P : Bool → Type 0) → (a ≡ b → P true) → (a ≢ b → P false) → P (a == b)
-by_test a b P if_same if_other =
-    elim (eqb_tells a b) [
-      | inl same ↦ subst P (sym same.0) (if_same same.1)
-      | inr other ↦ subst P (sym other.0) (if_other other.1)
-    ]
-
-same_test : (a b : ℕ) → a ≡ b → (a == b) ≡ true
-same_test a b e = by_test a b (λ t. t ≡ true) (λ _. refl) (λ other. absurd (other e))
-
-other_test : (a b : ℕ) → a ≢ b → (a == b) ≡ false
-other_test a b ne = by_test a b (λ t. t ≡ false) (λ e. absurd (ne e)) (λ _. refl)
-
-itself : (a : ℕ) → (a == a) ≡ true
-itself a = same_test a a refl
-
-less_test : (a b : ℕ) → a < b → nat_lt a b ≡ true
-less_test a b lt = elim (leb_tells (suc a) b) [
-  | inl low ↦ low.0
-  | inr high ↦ let wrong = high.1 in absurd (omega arith)
-]
-
-not_less_test : (a b : ℕ) → b ≤ a → nat_lt a b ≡ false
-not_less_test a b le = elim (leb_tells (suc a) b) [
-  | inl low ↦ let wrong = low.1 in absurd (omega arith)
-  | inr high ↦ high.0
-]
 
 module _ (memory : Address → ℕ) (layout : Layout) (t : ℕ) (running : Bool) (head : ℕ) where
   abbrev Computed : Duty → ℕ → ℕ → List Duty → List Move → Type 0
@@ -60,12 +32,12 @@ module _ (memory : Address → ℕ) (layout : Layout) (t : ℕ) (running : Bool)
 
   exchanged_moves : (x : ℕ) (reason : Reason) (word : ℕ)
       → given_up t reason x ≡ reference_effects memory t (SharedExchange x reason word) word
-  exchanged_moves x Own word = rw (itself word) refl
+  exchanged_moves x Own word = rw (eq-eqb word word refl) refl
   exchanged_moves x Handed word = refl
 
   lost_moves : (x : ℕ) (reason : Reason) (word f : ℕ) → f ≢ word
       → [] ≡ reference_effects memory t (SharedExchange x reason word) f
-  lost_moves x Own word f lost = rw (other_test f word lost) refl
+  lost_moves x Own word f lost = rw (ne_eqb f word lost) refl
   lost_moves x Handed word f lost = refl
 
   pub computed : (d : Duty) (found left : ℕ) (next : List Duty) (moves : List Move) → By d found left next moves
@@ -77,14 +49,14 @@ module _ (memory : Address → ℕ) (layout : Layout) (t : ℕ) (running : Bool)
   computed d found left next moves (rules.Locks x f free) =
       record { left_is = rw free refl; next_is = refl; moves_are = refl }
   computed d found left next moves (rules.LockHeld x f held) =
-      record { left_is = rw (other_test f free_word held) refl; next_is = refl; moves_are = refl }
+      record { left_is = rw (ne_eqb f free_word held) refl; next_is = refl; moves_are = refl }
   computed d found left next moves (rules.RetainsImmortal x h f is) =
       record { left_is = refl; next_is = rw is refl; moves_are = rw is refl }
   computed d found left next moves (rules.OwnerRetains x h f mortal counts low) =
-      let less = less_test (local_part f) most_local low in
+      let less = lt-ltb (local_part f) most_local low in
       record { left_is = refl; next_is = rw (mortal, counts, less) refl; moves_are = rw mortal refl }
   computed d found left next moves (rules.FullOwnerRetains x h f mortal counts full) =
-      let more = not_less_test (local_part f) most_local full in
+      let more = le-ltb (local_part f) most_local full in
       record { left_is = refl; next_is = rw (mortal, counts, more) refl; moves_are = rw mortal refl }
   computed d found left next moves (rules.OtherRetains x h f mortal counts) =
       record { left_is = refl; next_is = rw (mortal, counts) refl; moves_are = rw mortal refl }
@@ -97,58 +69,58 @@ module _ (memory : Address → ℕ) (layout : Layout) (t : ℕ) (running : Bool)
       let none_lost = sym (append-nil (put_in_flight t h x)) in
       record { left_is = refl; next_is = rw (mortal, counts) refl; moves_are = rw mortal none_lost }
   computed d found left next moves (rules.LocalLowered x word f more) =
-      record { left_is = refl; next_is = rw (other_test (local_part word) 1 more) refl; moves_are = refl }
+      record { left_is = refl; next_is = rw (ne_eqb (local_part word) 1 more) refl; moves_are = refl }
   computed d found left next moves (rules.LocalReachesZero x word f last) =
-      record { left_is = refl; next_is = rw (same_test (local_part word) 1 last) refl; moves_are = refl }
+      record { left_is = refl; next_is = rw (eq-eqb (local_part word) 1 last) refl; moves_are = refl }
   computed d found left next moves (rules.NothingShared x f fresh) =
-      record { left_is = refl; next_is = rw (same_test f fresh_word fresh) refl; moves_are = refl }
+      record { left_is = refl; next_is = rw (eq-eqb f fresh_word fresh) refl; moves_are = refl }
   computed d found left next moves (rules.WasShared x f other) =
-      record { left_is = refl; next_is = rw (other_test f fresh_word other) refl; moves_are = refl }
+      record { left_is = refl; next_is = rw (ne_eqb f fresh_word other) refl; moves_are = refl }
   computed d found left next moves (rules.Queues x reason word fresh) =
-      let won = itself word in let first = same_test word fresh_word fresh in
+      let won = eq-eqb word word refl in let first = eq-eqb word fresh_word fresh in
       let moves_are = exchanged_moves x reason word in
       record { left_is = rw (won, first) refl; next_is = rw (won, first) refl; moves_are = moves_are }
   computed d found left next moves (rules.Decrements x reason word other more) =
-      let won = itself word in
-      let later = other_test word fresh_word other in
-      let lives = other_test (word - ONE_REFERENCE) dead_word more in
+      let won = eq-eqb word word refl in
+      let later = ne_eqb word fresh_word other in
+      let lives = ne_eqb (word - ONE_REFERENCE) dead_word more in
       let moves_are = exchanged_moves x reason word in
       record { left_is = rw (won, later) refl; next_is = rw (won, later, lives) refl; moves_are = moves_are }
   computed d found left next moves (rules.DecrementsToZero x reason word other last) =
-      let won = itself word in
-      let later = other_test word fresh_word other in
-      let dies = same_test (word - ONE_REFERENCE) dead_word last in
+      let won = eq-eqb word word refl in
+      let later = ne_eqb word fresh_word other in
+      let dies = eq-eqb (word - ONE_REFERENCE) dead_word last in
       let moves_are = exchanged_moves x reason word in
       record { left_is = rw (won, later) refl; next_is = rw (won, later, dies) refl; moves_are = moves_are }
   computed d found left next moves (rules.ExchangeLost x reason word f lost) =
-      let missed = other_test f word lost in
+      let missed = ne_eqb f word lost in
       record { left_is = rw missed refl; next_is = rw missed refl; moves_are = lost_moves x reason word f lost }
   computed d found left next moves (rules.OwnerRuns x f runs) =
-      record { left_is = refl; next_is = rw (same_test f 1 runs) refl; moves_are = refl }
+      record { left_is = refl; next_is = rw (eq-eqb f 1 runs) refl; moves_are = refl }
   computed d found left next moves (rules.OwnerExits x f exits) =
-      record { left_is = refl; next_is = rw (other_test f 1 exits) refl; moves_are = refl }
+      record { left_is = refl; next_is = rw (ne_eqb f 1 exits) refl; moves_are = refl }
   computed d found left next moves (rules.MarkTakenBack x f set) =
-      record { left_is = refl; next_is = rw (same_test (mark_at f (mark_bit layout x)) 1 set) refl; moves_are = refl }
+      record { left_is = refl; next_is = rw (eq-eqb (mark_at f (mark_bit layout x)) 1 set) refl; moves_are = refl }
   computed d found left next moves (rules.MarkGone x f gone) =
-      record { left_is = refl; next_is = rw (other_test (mark_at f (mark_bit layout x)) 1 gone) refl; moves_are = refl }
+      record { left_is = refl; next_is = rw (ne_eqb (mark_at f (mark_bit layout x)) 1 gone) refl; moves_are = refl }
   computed d found left next moves (rules.MarkClaimed x f set) =
-      record { left_is = refl; next_is = rw (same_test (mark_at f (mark_bit layout x)) 1 set) refl; moves_are = refl }
+      record { left_is = refl; next_is = rw (eq-eqb (mark_at f (mark_bit layout x)) 1 set) refl; moves_are = refl }
   computed d found left next moves (rules.NothingToClaim x f none) =
-      record { left_is = refl; next_is = rw (other_test (mark_at f (mark_bit layout x)) 1 none) refl; moves_are = refl }
+      record { left_is = refl; next_is = rw (ne_eqb (mark_at f (mark_bit layout x)) 1 none) refl; moves_are = refl }
   computed d found left next moves (rules.NobodysCount x reason f nobody) =
-      record { left_is = refl; next_is = rw (same_test f 0 nobody) refl; moves_are = refl }
+      record { left_is = refl; next_is = rw (eq-eqb f 0 nobody) refl; moves_are = refl }
   computed d found left next moves (rules.LocalTakenOut x reason f owned) =
-      record { left_is = refl; next_is = rw (other_test f 0 owned) refl; moves_are = refl }
+      record { left_is = refl; next_is = rw (ne_eqb f 0 owned) refl; moves_are = refl }
   computed d found left next moves (rules.Merges x carried word alive) =
-      let won = itself word in let lives = other_test (merged_word word carried) dead_word alive in
+      let won = eq-eqb word word refl in let lives = ne_eqb (merged_word word carried) dead_word alive in
       record { left_is = rw won refl; next_is = rw (won, lives) refl; moves_are = refl }
   computed d found left next moves (rules.MergesToZero x carried word dead) =
-      let won = itself word in let dies = same_test (merged_word word carried) dead_word dead in
+      let won = eq-eqb word word refl in let dies = eq-eqb (merged_word word carried) dead_word dead in
       record { left_is = rw won refl; next_is = rw (won, dies) refl; moves_are = refl }
   computed d found left next moves (rules.MergesForHanded x carried word) =
-      let won = itself word in record { left_is = rw won refl; next_is = rw won refl; moves_are = refl }
+      let won = eq-eqb word word refl in record { left_is = rw won refl; next_is = rw won refl; moves_are = refl }
   computed d found left next moves (rules.MergeLost x carried word reason f lost) =
-      let missed = other_test f word lost in
+      let missed = ne_eqb f word lost in
       record { left_is = rw missed refl; next_is = rw missed refl; moves_are = refl }
   computed d found left next moves (rules.DyingResource x f is) =
       record { left_is = refl; next_is = rw is refl; moves_are = refl }
@@ -156,10 +128,10 @@ module _ (memory : Address → ℕ) (layout : Layout) (t : ℕ) (running : Bool)
       record { left_is = refl; next_is = rw is refl; moves_are = refl }
   computed d found left next moves (rules.FoundMarkTaken w marks f set) =
       let mark = mark_at f (mark_bit layout (found_row layout t w marks)) in
-      record { left_is = refl; next_is = rw (same_test mark 1 set) refl; moves_are = refl }
+      record { left_is = refl; next_is = rw (eq-eqb mark 1 set) refl; moves_are = refl }
   computed d found left next moves (rules.FoundMarkGone w marks f none) =
       let mark = mark_at f (mark_bit layout (found_row layout t w marks)) in
-      record { left_is = refl; next_is = rw (other_test mark 1 none) refl; moves_are = refl }
+      record { left_is = refl; next_is = rw (ne_eqb mark 1 none) refl; moves_are = refl }
   -- the other rules have no condition
   computed d found left next moves _ = record { left_is = refl; next_is = refl; moves_are = refl }
 
@@ -226,7 +198,7 @@ module _ (memory : Address → ℕ) (layout : Layout) (t : ℕ) (running : Bool)
   by_rule (BirthKind x h word) found =
       by_whether (has_resource word) (λ has. applies (rules.KindOfResource x h word found has))
       (λ none. applies (rules.KindOfOther x h word found none))
-  by_rule (BirthSlot x h) found = rules.SlotFilled x h found
+  by_rule (BirthField x h) found = rules.FieldFilled x h found
   by_rule (BirthLocal x h) found = rules.Born x h found
   by_rule (KindLoad x) found = rules.KindRead x found
   by_rule (LockGate x) found =
@@ -235,8 +207,8 @@ module _ (memory : Address → ℕ) (layout : Layout) (t : ℕ) (running : Bool)
   by_rule (UnlockGate x) found = rules.Unlocks x found
   by_rule (CellLoad x cell) found = rules.CellRead x cell found
   by_rule (CellSwap x cell item h) found = rules.ItemStored x cell item h found
-  by_rule (LendSlot x) found = rules.ResourceLent x found
-  by_rule (ReturnSlot x) found = rules.ResourceReturned x found
+  by_rule (LendField x) found = rules.ResourceLent x found
+  by_rule (ReturnField x) found = rules.ResourceReturned x found
   by_rule (RetainLoad x h) found =
       by_whether (is_immortal_word found) (λ immortal. applies (rules.RetainsImmortal x h found immortal))
       (λ mortal. counted_by x h found mortal)
@@ -278,7 +250,7 @@ module _ (memory : Address → ℕ) (layout : Layout) (t : ℕ) (running : Bool)
       by_whether (has_resource found) (λ has. applies (rules.DyingResource x found has))
       (λ none. applies (rules.DyingCells x found none))
   by_rule (SettleCell x cell cells) found = rules.CellEmptied x cell cells found
-  by_rule (TakeSlot x) found = rules.SlotEmptied x found
+  by_rule (TakeField x) found = rules.FieldEmptied x found
   by_rule (CloseResource x) found = rules.ResourceClosed x found
   by_rule (SettleEnd x) found = rules.Closes x found
   by_rule (Leave first rows) found = rules.SaysLeaving first rows found

@@ -13,13 +13,14 @@ use Rattle.brc_model.specs.declared.actor.Status.TheVariants.{Running, Leaving, 
 use Rattle.brc_model.specs.declared.actor.Actor.{Actor}
 use Rattle.brc_model.specs.Machine.{Machine}
 use Rattle.brc_model.specs.StepMachine.{StepMachine, layout_of, first_machine}
-use Rattle.brc_model.specs.Safety.{AreCalls, has_gone, AllGone, IsSafeNow, Safe}
+use Rattle.brc_model.specs.Safety.{AreCalls, has_gone, AllGone, IsSafeNow, HasStates, Safe}
 use Rattle.brc_model.specs.Accounts.{Accounts}
 use Rattle.brc_model.specs.Invariant.{CoreInvariant}
 use Rattle.brc_model.specs.OpenWork.{AgendaFits, exits}
 use Rattle.brc_model.specs.Knowledge.{status_word}
 use Rattle.brc_model.proofs.Basics.Lists.{list_all_found}
 use Rattle.brc_model.proofs.Promises.AtTheEnd.{AreAtEnd, left_in_lists, born_closed, closed_born, closed_free}
+use Rattle.brc_model.proofs.Promises.TrueStates.{true_states, true_where_reached}
 use Rattle.brc_model.proofs.Promises.Agreeing.{agrees_at, is_free_of}
 use Rattle.brc_model.proofs.Keeping.FirstMachine.{first_accounts, has_lines, first_kept, first_coded, first_allowed}
 use Rattle.brc_model.proofs.Keeping.KindsHold.{first_holds}
@@ -98,9 +99,19 @@ first_code_invariant m states rows calls fits accepted states_true are_calls som
   coded = λ t a is. first_coded m states (layout_of m (length calls) rows) calls t a are_calls is;
 }
 
+-- The points of each acceptable module have states.
+acceptable_has_states : (m : Module) → IsAcceptable m → HasStates m
+acceptable_has_states m accepted =
+    let found = true_states m accepted in
+    (found.0, true_where_reached m found.0 found.1)
+
 -- Each acceptable module is safe.
 pub accepted_is_safe : (m : Module) → IsModule m → IsAcceptable m → Safe m
-accepted_is_safe m fits accepted = λ states rows calls events states_true some most are_calls.
-    let whole = first_code_invariant m states rows calls fits accepted states_true are_calls some most in
-    safe_now m (1 + length calls) _
-    (code_invariant_after m (1 + length calls) (first_machine m states rows calls) events whole) (omega arith)
+accepted_is_safe m fits accepted = record {
+  has_states = acceptable_has_states m accepted;
+  runs =
+      λ states rows calls events states_true some most are_calls.
+      let whole = first_code_invariant m states rows calls fits accepted states_true are_calls some most in
+      safe_now m (1 + length calls) _
+      (code_invariant_after m (1 + length calls) (first_machine m states rows calls) events whole) (omega arith);
+}

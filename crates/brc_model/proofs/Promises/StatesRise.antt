@@ -1,8 +1,9 @@
 -- A row's state never falls: default, queued, merged.
-use Rattle.std.proofs.Common.{◌≡◌, ℕ, ◌+◌, ◌-◌, ◌≤◌, Bool, cond, List, inl, inr, ap, subst, arith}
+use Rattle.std.proofs.Common.{◌≡◌, ℕ, ◌+◌, ◌≤◌, Bool, cond, List, inl, inr, ap, subst, arith}
 use Rattle.std.specs.Prelude.{◌==◌}
 use Rattle.std.proofs.lemmas.Bool.Decides.{eqb_tells}
 use Rattle.brc_lang.specs.declared.module.Module.{Module}
+use Rattle.brc_word.specs.declared.values.TheConstants.{ONE_REFERENCE}
 use Rattle.brc_word.specs.Words.{biased_part, phase_part, fresh_word, released_word, merged_word}
 use Rattle.brc_model.specs.declared.thread.Choice.{Choice}
 use Rattle.brc_model.specs.declared.duty.Duty.{Duty}
@@ -12,7 +13,7 @@ use Rattle.brc_model.specs.declared.actor.Actor.{Actor}
 use Rattle.brc_model.specs.Machine.{Machine, written}
 use Rattle.brc_model.specs.StepMachine.{StepMachine}
 use Rattle.brc_model.specs.Progress.{StatesRise}
-use Rattle.brc_model.proofs.Objects.RowSteps.{shared_range, shared_up, shared_down, shared_merged}
+use Rattle.brc_model.proofs.Objects.RowSteps.{shared_range, shared_up, shared_down, shared_merged, released_queued, released_less}
 use Rattle.brc_model.proofs.Basics.Written.{written_here, written_apart, apart_shared}
 use Rattle.brc_model.proofs.Frame.Leaves.{exchange_alive}
 use Rattle.brc_model.proofs.Stepping.FitsAfter.{memory_by}
@@ -26,14 +27,8 @@ use Rattle.brc_model.specs.Invariant.{AtDuty}
 released_rises : (w : ℕ) → 1 ≤ biased_part w → phase_part w ≤ phase_part (released_word w)
 released_rises w some =
     elim (eqb_tells w fresh_word) [
-      | inl fresh ↦
-          let left : phase_part (released_word w) ≡ phase_part (w + 2) =
-          ap (λ (b : Bool). phase_part (cond b (w + 2) (w - 4))) fresh.0 in
-          omega (arith, left, fresh.1)
-      | inr other ↦
-          let left : phase_part (released_word w) ≡ phase_part (w - 4) =
-          ap (λ (b : Bool). phase_part (cond b (w + 2) (w - 4))) other.0 in
-          omega (arith, left, (shared_down w some).1)
+      | inl fresh ↦ omega (arith, ap phase_part (released_queued w fresh.0), fresh.1)
+      | inr other ↦ omega (arith, ap phase_part (released_less w other.0), (shared_down w some).1)
     ]
 
 merged_rises : (w c : ℕ) → phase_part w ≤ phase_part (merged_word w c)
@@ -80,7 +75,7 @@ module _ {p : Accounts} {n : ℕ} {m : Machine} {t : ℕ} {a : Actor} {rest : Li
   rises : (d : Duty) (x : ℕ) → AtDuty p n m t a d rest
       → phase_part (m.memory (Shared x)) ≤ phase_part (memory_by m t a d (Shared x))
   rises (RetainAdd y h) x here =
-      rises_at m y (m.memory (Shared y) + 4) x (omega (arith, (shared_up (m.memory (Shared y))).1))
+      rises_at m y (m.memory (Shared y) + ONE_REFERENCE) x (omega (arith, (shared_up (m.memory (Shared y))).1))
   rises (DecideAtZero y) x here = loads m y x
   rises (SharedLoad y r) x here = loads m y x
   rises (SharedExchange y r w) x here =

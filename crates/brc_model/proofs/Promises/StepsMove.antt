@@ -281,7 +281,7 @@ stop_elsewhere functions states first (InCall context at variables) before =
       | None ↦ tt
       | Some s ↦
           stopping_decides (λ (next : Place). next ≢ InCall context at variables) (row_locked s.locked variables)
-          (owned_rows s.vars variables ∷ outer) (λ e. cc) (λ e. cc)
+          (owned_rows s.slots variables ∷ outer) (λ e. cc) (λ e. cc)
     ]
 stop_elsewhere functions states first _ before = cc
 

@@ -25,7 +25,7 @@ use Rattle.brc_model.proofs.Dispatch.Programs.{number_of, program_of, Program}
 use Rattle.brc_model.proofs.Dispatch.Grounded.{number_there, IsWaiting, AreOpen, left_by, waiting_is}
 use Rattle.brc_model.proofs.Dispatch.Holds.{activation}
 use Rattle.brc_model.specs.declared.actor.OpenCall.{OpenCall}
-use Rattle.brc_model.specs.VarStates.{is_owned, var_of}
+use Rattle.brc_model.specs.SlotStates.{is_owned, var_of}
 use Rattle.brc_model.specs.Stops.{owned_by}
 
 stop_leads : (m : StepMachine) (t at : ℕ) (a : StepActor) (context : Context) (variables : List (Option ℕ)) (s : State)
@@ -33,10 +33,10 @@ stop_leads : (m : StepMachine) (t at : ℕ) (a : StepActor) (context : Context) 
     → m.states (number_under a.function context.outer) at ≡ Some s → a.actor.locked ≡ row_locked s.locked variables
     → slice_get (step (world_of m) t Stop).actors t
     ≡ Some (at_place a (stopping a.actor.locked
-    (owned_rows s.vars variables ∷ given_up m.functions m.states a.function context.outer)))
+    (owned_rows s.slots variables ∷ given_up m.functions m.states a.function context.outer)))
 stop_leads m t at a context variables s found may is known lock =
     let outer = given_up m.functions m.states a.function context.outer in
-    let calls = owned_rows s.vars variables ∷ outer in
+    let calls = owned_rows s.slots variables ∷ outer in
     let there : Place → List StepActor = λ place.
     (machine_by m t a Success (stop_action m.functions m.states a.function place)).actors in
     ap (λ (w : World). slice_get w.actors t) (world_stops m t a found may)
@@ -58,7 +58,7 @@ call_gives_up program outer o waits =
       owned = λ v x.
           subst (λ (w : Option State). (row_of (owned_by w o.variables) v ≡ Some x)
           ↔ ((is_owned (var_of state v) ≡ true) × (row_of o.variables v ≡ Some x))) (sym known)
-          (owned_exactly state.vars o.variables v x);
+          (owned_exactly state.slots o.variables v x);
     }
 
 each_gives_up : (program : Program) (outer : List OpenCall) → AreOpen program outer
@@ -84,7 +84,7 @@ gives_up p n m t at a context variables whole found may is =
       state = s;
       is_state = known;
       lock = lock;
-      owned = owned_exactly s.vars variables;
+      owned = owned_exactly s.slots variables;
       outer = each_gives_up program context.outer says.1.is_call.open_calls;
       leads = stop_leads m t at a context variables s found may is known lock;
     }

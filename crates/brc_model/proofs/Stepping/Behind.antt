@@ -1,5 +1,5 @@
--- The duties behind the first know what they knew, after the thread's own step: it closes no row of theirs, and doesn't
--- change their gates.
+-- After the thread's own step the duties after the first know what they knew: the step closes no row of theirs, and
+-- doesn't change their gates.
 use Rattle.std.proofs.Common.{◌≡◌, ℕ, zero, suc, ◌+◌, ◌-◌, ◌<◌, Bool, true, false, cond, List, [], ◌∷◌, ◌++◌, Some, refl, sym, ap, ◌∙◌, subst, arith}
 use Rattle.std.specs.Prelude.{nat_lt}
 use Rattle.std.proofs.lemmas.Bool.{eq-eqb, eqb-false, ltb-true, ltb-false, false≢true}
@@ -27,9 +27,9 @@ use Rattle.brc_model.proofs.Frame.Lives.{next_of}
 use Rattle.brc_model.proofs.Frame.Cells.{stays_empty, one_emptied, all_emptied}
 use Rattle.brc_model.proofs.Objects.Closing.{GoesOn as LifeGoesOn, BeginsToDie, IsClosed, IsBorn, life_step}
 
--- ---- the rows of the duties behind
+-- ---- the rows of later duties
 
--- An agenda's duties finalise the row of the first one once more than those behind it.
+-- An agenda's duties finalise the row of the first one once more than those after it.
 pub finalised_first : (d : Duty) (rest : List Duty) (x : ℕ)
     → finalised (d ∷ rest) x ≡ one_if (is_finalising d x) + finalised rest x
 finalised_first d rest x =
@@ -132,7 +132,7 @@ module _ {p : Accounts} {n : ℕ} {m : Machine} {t : ℕ} {a : Actor} {d : Duty}
     all_still ds here (λ x some. apart x (omega (arith, some, finalised_first e ds x))) all.1,
   )
 
-  -- The duties behind the first know what they knew.
+  -- The duties after the first know what they knew.
   pub still_behind : AtDuty p n m t a d rest → AllBehind (machine_by_duty m t a d rest) t rest
   still_behind here =
       all_still rest here (λ x some. one_finalises x here some)
@@ -236,7 +236,7 @@ module _ {p : Accounts} {n : ℕ} {m : Machine} {t : ℕ} {a : Actor} {rest : Li
       (still_behind here)
 
 module _ {p : Accounts} {n : ℕ} {m : Machine} {t : ℕ} {a : Actor} {d : Duty} {rest : List Duty} where
-  -- The duties behind the first of the new agenda know what they need.
+  -- The duties after the first of the new agenda know what they need.
   pub behind_after : AtDuty p n m t a d rest
       → BehindOf (machine_by_duty m t a d rest) t
       (actor_by m.layout t a d rest (m.memory (address_of m.layout t a.head d))).agenda

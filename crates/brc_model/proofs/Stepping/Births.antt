@@ -5,7 +5,7 @@ use Rattle.std.proofs.lemmas.Bool.Decides.{eqb_tells}
 use Rattle.brc_word.specs.declared.values.TheConstants.{EMPTY}
 use Rattle.brc_model.specs.declared.duty.Holding.{Holding}
 use Rattle.brc_model.specs.declared.duty.Duty.{Duty}
-use Rattle.brc_model.specs.declared.duty.Duty.TheVariants.{BirthKind, BirthSlot, BirthLocal}
+use Rattle.brc_model.specs.declared.duty.Duty.TheVariants.{BirthKind, BirthField, BirthLocal}
 use Rattle.brc_model.specs.Duties.{has_resource, resources_of}
 use Rattle.brc_model.specs.declared.actor.Actor.{Actor}
 use Rattle.brc_model.specs.Machine.{Life, Unborn, Live, Machine, machine_by_duty, actor_by}
@@ -14,7 +14,7 @@ use Rattle.brc_model.specs.Accounts.{Accounts}
 use Rattle.brc_model.specs.Knowledge.{IsNext, HasCountedKind}
 use Rattle.brc_model.specs.OpenWork.{Agenda, dies_by}
 use Rattle.brc_model.proofs.Basics.Written.{written_here}
-use Rattle.brc_model.specs.declared.address.Address.TheVariants.{KindOf, Slot}
+use Rattle.brc_model.specs.declared.address.Address.TheVariants.{KindOf, Field}
 use Rattle.brc_model.specs.Kinds.{kind_of_word, is_counted_kind}
 use Rattle.brc_model.proofs.Basics.Blocks.{next_unborn, next_block, next_index}
 use Rattle.brc_model.proofs.Objects.BlanksAfter.{blanks_here}
@@ -52,13 +52,13 @@ module _ {p : Accounts} {n : ℕ} {m : Machine} {t : ℕ} {a : Actor} {rest : Li
       let new = machine_by_duty m t a d rest in
       let said : HasCountedKind new.memory x =
       ap (λ (v : ℕ). is_counted_kind (kind_of_word v)) (written_here m.memory (KindOf x) w) ∙ fits.2 in
-      let empty : m.memory (Slot x) ≡ EMPTY = (blanks_here here).slots x (next_block m t a x fits.0)
+      let empty : m.memory (Field x) ≡ EMPTY = (blanks_here here).fields x (next_block m t a x fits.0)
       (omega (arith, next_index m t a x fits.0)) refl in
       elim (has_resource w) as (λ b. has_resource w ≡ b → FitsAfter p m t a d rest) [
         | true ↦ λ e.
-            own_next (BirthSlot x h) here alive refl refl refl
-            (ap (λ (b : Bool). cond b (BirthSlot x h ∷ []) (BirthLocal x h ∷ [])) e)
-            (held_same m.abstract.references t (d ∷ rest) (BirthSlot x h ∷ rest) (λ k o. refl) (λ k o. refl))
+            own_next (BirthField x h) here alive refl refl refl
+            (ap (λ (b : Bool). cond b (BirthField x h ∷ []) (BirthLocal x h ∷ [])) e)
+            (held_same m.abstract.references t (d ∷ rest) (BirthField x h ∷ rest) (λ k o. refl) (λ k o. refl))
             (agenda_here here alive) (λ b status head used locked. (
               still_next m new t a b x refl status used fits.0,
               fits.1,
@@ -67,7 +67,7 @@ module _ {p : Accounts} {n : ℕ} {m : Machine} {t : ℕ} {a : Actor} {rest : Li
             ))
         | false ↦ λ e.
             own_next (BirthLocal x h) here alive refl refl refl
-            (ap (λ (b : Bool). cond b (BirthSlot x h ∷ []) (BirthLocal x h ∷ [])) e)
+            (ap (λ (b : Bool). cond b (BirthField x h ∷ []) (BirthLocal x h ∷ [])) e)
             (held_same m.abstract.references t (d ∷ rest) (BirthLocal x h ∷ rest) (λ k o. refl) (λ k o. refl))
             (agenda_here here alive) (λ b status head used locked. (
               still_next m new t a b x refl status used fits.0,
@@ -77,11 +77,11 @@ module _ {p : Accounts} {n : ℕ} {m : Machine} {t : ℕ} {a : Actor} {rest : Li
             ))
       ] refl
 
-  -- The thread fits after `SlotFilled`.
-  pub thread_after_birth_slot : (x : ℕ) (h : Holding) → AtDuty p n m t a (BirthSlot x h) rest → NotGone a
-      → FitsAfter p m t a (BirthSlot x h) rest
-  thread_after_birth_slot x h here alive =
-      let d : Duty = BirthSlot x h in
+  -- The thread fits after `FieldFilled`.
+  pub thread_after_birth_field : (x : ℕ) (h : Holding) → AtDuty p n m t a (BirthField x h) rest → NotGone a
+      → FitsAfter p m t a (BirthField x h) rest
+  thread_after_birth_field x h here alive =
+      let d : Duty = BirthField x h in
       let fits = head_of here in
       let new = machine_by_duty m t a d rest in
       own_next (BirthLocal x h) here alive refl refl refl refl
@@ -90,7 +90,7 @@ module _ {p : Accounts} {n : ℕ} {m : Machine} {t : ℕ} {a : Actor} {rest : Li
         still_next m new t a b x refl status used fits.0,
         fits.1,
         fits.2,
-        written_here m.memory (Slot x) 1 ∙ sym fits.3,
+        written_here m.memory (Field x) 1 ∙ sym fits.3,
       ))
 
 -- A birth doesn't change which rows the thread is finalising.

@@ -99,7 +99,7 @@ agenda_makes used status Finish [] k x fits = refl
 agenda_makes used status Finish (e ∷ rest) k x fits = absurd fits
 agenda_makes used status _ rest k x fits = later_makes used status rest k x fits
 
--- No duty behind an agenda's first makes a reference.
+-- No duty after an agenda's first makes a reference.
 behind_makes : (a : Actor) (status : Status) (d : Duty) (rest : List Duty) (k : Holding) (x : ℕ) → a.agenda ≡ d ∷ rest
     → AgendaFits a status → sum_by (makes k x) rest ≡ 0
 behind_makes a Gone d rest k x is fits = absurd (let wrong : [] ≡ d ∷ rest = sym fits.0 ∙ is in cc)
@@ -167,8 +167,8 @@ module _ {p : Accounts} {n : ℕ} {m : Machine} {t : ℕ} {a : Actor} {rest : Li
         none,
       )
 
-  -- Of a thread that locks, the account has the reference that backs the lock: none of the thread's work makes or gives
-  -- up a reference to the list.
+  -- The account of a thread that locks has the reference that backs the lock: none of the thread's work makes a
+  -- reference to the list or gives one up.
   backed_account : (x : ℕ) → AtDuty p n m t a (LockGate x) rest → (backed : IsHeld m t x)
       → making a backed.by x < p t backed.by x
   backed_account x here backed =

@@ -65,7 +65,7 @@ ready_past d rest agenda none then = record {
   knows = λ m a h behind. then.knows m a h behind.1;
 }
 
--- The duties behind a finished one make an agenda, once those that need no step are skipped.
+-- The duties after a finished one make an agenda, once those that need no step are skipped.
 pub ready_is : (layout : Layout) (t used : ℕ) (status : Status) (head : ℕ) (rest : List Duty)
     → Later used status rest → IsReady layout t used status head rest (ready head rest)
 ready_is layout t used status zero [] later = ready_as [] later (λ k o. refl) (λ k o. refl) (λ m a h b. tt)

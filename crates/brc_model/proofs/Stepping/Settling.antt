@@ -6,7 +6,7 @@ use Rattle.std.proofs.lemmas.Bool.{ltb-true, ltb-false, ne_eqb, false≢true, eq
 use Rattle.brc_model.specs.declared.duty.Holding.{Holding}
 use Rattle.brc_model.specs.declared.duty.Holding.TheVariants.{InFlight}
 use Rattle.brc_model.specs.declared.duty.Duty.{Duty}
-use Rattle.brc_model.specs.declared.duty.Duty.TheVariants.{ReleaseLoad, SettleKind, SettleCell, SettleEnd, TakeSlot, CloseResource, Leave, Scan, TakeFound, Finish, Settle}
+use Rattle.brc_model.specs.declared.duty.Duty.TheVariants.{ReleaseLoad, SettleKind, SettleCell, SettleEnd, TakeField, CloseResource, Leave, Scan, TakeFound, Finish, Settle}
 use Rattle.brc_model.specs.declared.address.Address.TheVariants.{Gate, KindOf, Cell}
 use Rattle.brc_model.specs.Duties.{cells_of, cells_from, release_found, has_resource, resources_of}
 use Rattle.brc_model.specs.declared.actor.Status.{Status}
@@ -160,8 +160,8 @@ module _ {p : Accounts} {n : ℕ} {m : Machine} {t : ℕ} {a : Actor} {rest : Li
       ap resources_of (written_load m.memory (KindOf x) (KindOf x)) in
       elim (has_resource word) as (λ b. has_resource word ≡ b → FitsAfter p m t a (SettleKind x) rest) [
         | true ↦
-            λ e. settles_on (TakeSlot x) x here alive step refl
-            (ap (λ (b : Bool). cond b (TakeSlot x ∷ []) (cells_from x 0 (cells_of word))) e) (λ dies gate b. (
+            λ e. settles_on (TakeField x) x here alive step refl
+            (ap (λ (b : Bool). cond b (TakeField x ∷ []) (cells_from x 0 (cells_of word))) e) (λ dies gate b. (
               fits.0,
               dies,
               gate,
@@ -171,7 +171,7 @@ module _ {p : Accounts} {n : ℕ} {m : Machine} {t : ℕ} {a : Actor} {rest : Li
             ))
         | false ↦
             λ e. cells_step x 0 (cells_of word) here alive step
-            (ap (λ (b : Bool). cond b (TakeSlot x ∷ []) (cells_from x 0 (cells_of word))) e)
+            (ap (λ (b : Bool). cond b (TakeField x ∷ []) (cells_from x 0 (cells_of word))) e)
             (λ j out. here.core.cells_end x j (elim out [
               | inl low ↦ absurd (omega (arith, low))
               | inr high ↦ high
@@ -268,10 +268,10 @@ module _ {p : Accounts} {n : ℕ} {m : Machine} {t : ℕ} {a : Actor} {rest : Li
 
   -- ---- the row's resource
 
-  -- The thread fits after `SlotEmptied`.
-  pub thread_after_take_slot : (x : ℕ) → AtDuty p n m t a (TakeSlot x) rest → NotGone a
-      → FitsAfter p m t a (TakeSlot x) rest
-  thread_after_take_slot x here alive =
+  -- The thread fits after `FieldEmptied`.
+  pub thread_after_take_field : (x : ℕ) → AtDuty p n m t a (TakeField x) rest → NotGone a
+      → FitsAfter p m t a (TakeField x) rest
+  thread_after_take_field x here alive =
       let fits = head_of here in
       settles_on (CloseResource x) x here alive (record {
         above = fits.0;
@@ -279,7 +279,7 @@ module _ {p : Accounts} {n : ℕ} {m : Machine} {t : ℕ} {a : Actor} {rest : Li
         gate = fits.2;
         steady = refl;
         hands = λ y. refl;
-        held = λ e more less. held_same m.abstract.references t (TakeSlot x ∷ rest) (e ∷ rest) more less;
+        held = λ e more less. held_same m.abstract.references t (TakeField x ∷ rest) (e ∷ rest) more less;
         later = agenda_here here alive;
       }) refl refl (λ dies gate b. (fits.0, dies, gate, fits.3))
 

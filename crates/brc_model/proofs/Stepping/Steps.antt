@@ -6,7 +6,7 @@ use Rattle.std.specs.Prelude.{◌==◌, slice_get, ◌&&◌}
 use Rattle.std.proofs.lemmas.Bool.{eq-eqb}
 use Rattle.std.proofs.lemmas.Bool.Decides.{eqb_tells}
 use Rattle.brc_model.specs.declared.duty.Duty.{Duty}
-use Rattle.brc_model.specs.declared.duty.Duty.TheVariants.{Look, Die, Settle, SettleKind, SettleCell, SettleEnd, Leave, Finish, TakeSlot, CloseResource, BirthLocal, LockGate, UnlockGate}
+use Rattle.brc_model.specs.declared.duty.Duty.TheVariants.{Look, Die, Settle, SettleKind, SettleCell, SettleEnd, Leave, Finish, TakeField, CloseResource, BirthLocal, LockGate, UnlockGate}
 use Rattle.brc_model.specs.declared.address.Address.TheVariants.{Gate, ThreadWord}
 use Rattle.brc_model.specs.Duties.{new_head, ready}
 use Rattle.brc_model.specs.declared.actor.Status.{Status}
@@ -53,7 +53,7 @@ abbrev pub finalises_none : Duty → Bool
 finalises_none (Die x) = false
 finalises_none (SettleKind x) = false
 finalises_none (SettleCell x i n) = false
-finalises_none (TakeSlot x) = false
+finalises_none (TakeField x) = false
 finalises_none (CloseResource x) = false
 finalises_none (SettleEnd x) = false
 finalises_none _ = true
@@ -159,7 +159,7 @@ module _ {p : Accounts} {n : ℕ} {m : Machine} {t : ℕ} {a : Actor} {d : Duty}
         knows = λ b status head used locked. step.knows b status head (used ∙ uses_same a.used d born) locked;
       })
 
-  -- If nothing follows the duty, the agenda goes on with the duties behind it.
+  -- If nothing follows the duty, the agenda goes on with the duties after it.
   pub own_done : AtDuty p n m t a d rest → NotGone a → keeps_lives d ≡ true → next_of m t a d ≡ []
       → Later a.used a.status rest → HeldStep m.abstract.references (bag_by m t a d) t (d ∷ rest) []
       → FitsAfter p m t a d rest

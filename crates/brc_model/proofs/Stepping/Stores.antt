@@ -6,7 +6,7 @@
 use Rattle.std.proofs.Common.{◌≡◌, ℕ, ◌≤◌, Bool, true, List, [], ◌∷◌, refl, sym, ap, ◌∙◌, subst, arith, Option}
 use Rattle.brc_word.specs.declared.values.TheConstants.{NOBODY}
 use Rattle.brc_model.specs.declared.duty.Duty.{Duty}
-use Rattle.brc_model.specs.declared.duty.Duty.TheVariants.{RetainStore, ReleaseStore, Die, SettleEnd, Leave, Finish, BirthKind, BirthSlot, BirthLocal, UnlockGate, ReturnSlot}
+use Rattle.brc_model.specs.declared.duty.Duty.TheVariants.{RetainStore, ReleaseStore, Die, SettleEnd, Leave, Finish, BirthKind, BirthField, BirthLocal, UnlockGate, ReturnField}
 use Rattle.brc_model.specs.declared.address.Address.{Address}
 use Rattle.brc_model.specs.declared.address.Address.TheVariants.{Local, ThreadWord}
 use Rattle.brc_model.specs.declared.actor.Status.{Status}
@@ -60,13 +60,13 @@ stores_blindly memory layout t running head Finish found other is =
     record { left = refl; next = refl; head_after = refl; locked = λ l. refl; lent = λ l. refl; moves = refl }
 stores_blindly memory layout t running head (BirthKind x h w) found other is =
     record { left = refl; next = refl; head_after = refl; locked = λ l. refl; lent = λ l. refl; moves = refl }
-stores_blindly memory layout t running head (BirthSlot x h) found other is =
+stores_blindly memory layout t running head (BirthField x h) found other is =
     record { left = refl; next = refl; head_after = refl; locked = λ l. refl; lent = λ l. refl; moves = refl }
 stores_blindly memory layout t running head (BirthLocal x h) found other is =
     record { left = refl; next = refl; head_after = refl; locked = λ l. refl; lent = λ l. refl; moves = refl }
 stores_blindly memory layout t running head (UnlockGate x) found other is =
     record { left = refl; next = refl; head_after = refl; locked = λ l. refl; lent = λ l. refl; moves = refl }
-stores_blindly memory layout t running head (ReturnSlot x) found other is =
+stores_blindly memory layout t running head (ReturnField x) found other is =
     record { left = refl; next = refl; head_after = refl; locked = λ l. refl; lent = λ l. refl; moves = refl }
 stores_blindly memory layout t running head _ found other is = absurd cc
 
@@ -129,11 +129,11 @@ module _ {p : Accounts} {n : ℕ} {m : Machine} {t : ℕ} {a : Actor} {rest : Li
       let d : Duty = BirthKind x h w in
       let next = (head_of here).0 in
       (blanks_here here).kinds x (next_block m t a x next) (next_unused m t a x next) refl
-  overwritten (BirthSlot x h) here =
-      let d : Duty = BirthSlot x h in
+  overwritten (BirthField x h) here =
+      let d : Duty = BirthField x h in
       let next = (head_of here).0 in
-      (blanks_here here).slots x (next_block m t a x next) (next_unused m t a x next) refl
+      (blanks_here here).fields x (next_block m t a x next) (next_unused m t a x next) refl
   overwritten (BirthLocal x h) here = next_local x here (head_of here).0
   overwritten (UnlockGate x) here = ((here.core.each t a here.found).0.locks x (head_of here).1).gate
-  overwritten (ReturnSlot x) here = returning_finds p n m t a x rest here
+  overwritten (ReturnField x) here = returning_finds p n m t a x rest here
   overwritten _ here = tt

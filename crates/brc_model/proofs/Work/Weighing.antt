@@ -18,7 +18,7 @@ use Rattle.brc_model.specs.OpenWork.{Later, Agenda, AgendaFits, is_about, about_
 use Rattle.brc_model.specs.Invariant.{AtDuty, CoreInvariant}
 use Rattle.brc_model.proofs.Frame.Aside.{IsOfRow, aside_weighs}
 
--- ---- duties behind the first weigh nothing
+-- ---- duties after the first weigh nothing
 
 later_weighs : (x : ℕ) (f : Duty → ℕ) → IsOfRow x f
     → (used : ℕ) (status : Status) (rest : List Duty)
@@ -79,7 +79,7 @@ rest_weighs x f of_row used status Finish (e ∷ rest) fits = absurd fits
 rest_weighs x f of_row used status _ rest fits =
     later_weighs x f of_row used status rest fits
 
--- The duties behind the first duty of a fitting agenda weigh nothing at any row.
+-- The duties after the first one of a fitting agenda weigh nothing at any row.
 behind_weighs : (x : ℕ) (f : Duty → ℕ) → IsOfRow x f
     → (a : Actor) (status : Status) (d : Duty) (rest : List Duty)
     → AgendaFits a status → a.agenda ≡ d ∷ rest → sum_by f rest ≡ 0

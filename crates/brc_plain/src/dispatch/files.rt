@@ -61,7 +61,7 @@ fn lend(here: &Here, file: Variable) -> Result<Act, Refused>
         return Ok(Act::Stuck);
     };
     let place = here.inside(Stage::Lent)?;
-    Ok(does(Duty::LendSlot { row }, Rest::Nothing, place))
+    Ok(does(Duty::LendField { row }, Rest::Nothing, place))
 }
 
 /// Puts the resource of the file or socket in the variable back.
@@ -71,7 +71,7 @@ fn put_back(here: &Here, file: Variable, place: Place) -> Act
     let Some(row) = here.row_of(file) else {
         return Act::Stuck;
     };
-    does(Duty::ReturnSlot { row }, Rest::Nothing, place)
+    does(Duty::ReturnField { row }, Rest::Nothing, place)
 }
 
 /// Calls the host, which uses the resource of the file or socket in the variable.

@@ -54,7 +54,7 @@ impl Plain<'_> {
     {
         match choice {
             Choice::Stop => Err(Refused::OutOfBounds),
-            Choice::Claim { row } => self.claim(alloc, number, thread, row),
+            Choice::Claim(row) => self.claim(alloc, number, thread, row),
             Choice::Ok | Choice::Fault => self.go_on(alloc, number, thread),
         }
     }

@@ -85,7 +85,7 @@ impl Plain<'_> {
         ensures { result ≡ chooses_unfit (machine_in self.now) (actor_of thread.now) choice }
     {
         match choice {
-            Choice::Claim { .. } | Choice::Stop => false,
+            Choice::Claim(_) | Choice::Stop => false,
             Choice::Ok | Choice::Fault => self.begins_unfit(thread),
         }
     }

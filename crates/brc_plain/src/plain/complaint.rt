@@ -12,7 +12,7 @@ use crate::plain::{Plain, numbered};
 use crate::refused::Refused;
 use crate::thread::Thread;
 use brc_effect::address_of;
-use brc_lang::{Instr, Kind, Variable};
+use brc_lang::{Instr, Variable};
 use brc_machine::variables::{Variables, entry_variables, row_of};
 use brc_model::{Choice, Duty, Holding};
 use std::alloc::Global;
@@ -79,14 +79,6 @@ impl Plain<'_> {
             }
         }
         None
-    }
-
-    /// Returns the kind of the row's object.
-    pub fn kind_of(&self, row: u32) -> Kind {
-        match self.bag.kinds.get(row as usize) {
-            Some(kind) => *kind,
-            None => Kind::Any,
-        }
     }
 
     fn stuck(&self, thread: &Thread) -> Complaint {

@@ -1,5 +1,9 @@
 //! What a search asks of a machine.
 
+ghost use Rattle.std.specs.Prelude.{◌≡◌};
+ghost use Rattle.brc_plain.specs.Gone.{is_gone_at};
+ghost use Rattle.brc_plain.specs.Plains.{machine_in};
+
 use crate::act::Act;
 use crate::plain::{Plain, has_gone, numbered};
 use crate::refused::Refused;
@@ -8,7 +12,10 @@ use std::alloc::Global;
 
 impl Plain<'_> {
     /// Returns whether the thread is gone. One that isn't there is.
-    pub fn is_gone(&self, number: usize) -> bool {
+    #[tactic(auto, using(crate::proofs::Threads::get_in))]
+    pub fn is_gone(&self, number: usize) -> bool
+        ensures { result ≡ is_gone_at (machine_in self.now) number }
+    {
         match self.threads.get(number) {
             Some(thread) => has_gone(thread.status),
             None => true,

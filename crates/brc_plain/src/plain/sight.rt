@@ -11,13 +11,13 @@ ghost use Rattle.brc_plain.specs.Threads.{actor_of};
 
 use crate::act::Act;
 use crate::dispatch::number_in;
-use crate::kinds::kind_of_word;
 use crate::place::Place;
 use crate::plain::stepping::exit_of;
 use crate::plain::touching::touch_of;
 use crate::plain::{Plain, numbered};
 use crate::refused::Refused;
 use crate::thread::{Thread, is_running};
+use brc_effect::kinds::kind_of_word;
 use brc_lang::Kind;
 use brc_machine::exits::exit_part;
 use brc_machine::{Event, ExitPart, Part, Sight};
@@ -120,7 +120,7 @@ fn begins_at(thread: &Thread, choice: Choice) -> Option<Part>
 {
     match choice {
         Choice::Ok | Choice::Fault => next_part(&thread.place, thread.agenda.as_slice()),
-        Choice::Claim { row } => Some(Part::Claim { row }),
+        Choice::Claim(row) => Some(Part::Claim { row }),
         Choice::Stop => Some(Part::Stop),
     }
 }

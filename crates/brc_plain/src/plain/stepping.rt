@@ -22,7 +22,7 @@ pub(crate) fn exit_of(choice: Choice) -> Exit
     ensures { result ≡ exit_of choice }
 {
     match choice {
-        Choice::Ok | Choice::Claim { .. } | Choice::Stop => Exit::Success,
+        Choice::Ok | Choice::Claim(_) | Choice::Stop => Exit::Success,
         Choice::Fault => Exit::Fault,
     }
 }

@@ -14,13 +14,13 @@ use Rattle.brc_model.specs.declared.actor.Place.{Place}
 use Rattle.brc_model.specs.declared.actor.Place.TheVariants.{InCall, Inside}
 use Rattle.brc_model.specs.declared.actor.Stage.TheVariants.{Granted}
 use Rattle.brc_model.specs.declared.duty.Duty.{Duty}
-use Rattle.brc_model.specs.declared.duty.Duty.TheVariants.{BirthKind, BirthSlot, BirthLocal}
+use Rattle.brc_model.specs.declared.duty.Duty.TheVariants.{BirthKind, BirthField, BirthLocal}
 use Rattle.brc_model.specs.declared.duty.Holding.{Holding}
 use Rattle.brc_model.specs.declared.duty.Holding.TheVariants.{AsCaller}
 use Rattle.brc_model.specs.declared.state.Exit.TheVariants.{Success, Fault}
 use Rattle.brc_model.specs.declared.event.WordEvent.{WordEvent}
 use Rattle.brc_table.specs.declared.view.View.{View}
-use Rattle.brc_table.specs.Views.{view_by, view_after, bearing, next_row, slot_filled, slot_filled_by, with_next}
+use Rattle.brc_table.specs.Views.{view_by, view_after, bearing, next_row, field_filled, field_filled_by, with_next}
 use Rattle.brc_heap.specs.Calls.{born}
 use Rattle.brc_model.specs.Trace.{events_of}
 use Rattle.brc_work.specs.Traces.{Program, function_under, dispatch_in, Makes, Refl, Reads, Continues, Traces, MakesTrace, thread_with, begun_at, has_read}
@@ -32,20 +32,20 @@ use Rattle.brc_work.proofs.Traces.Starting.{goes_silently}
 
 -- what comes next after the store of the kind word
 abbrev pub birth_next : Bool → ℕ → Holding → List Duty
-birth_next has x holding = cond has (BirthSlot x holding ∷ []) (BirthLocal x holding ∷ [])
+birth_next has x holding = cond has (BirthField x holding ∷ []) (BirthLocal x holding ∷ [])
 
 -- the hand before it stores the first local word
 abbrev pub begun : View → ℕ → View
 begun v word = with_next (view_after (bearing v word) 0) (BirthLocal (next_row v) AsCaller ∷ [])
 
 filled_is : (has : Bool) (head x : ℕ) (u : View) → u.actor.agenda ≡ ready head (birth_next has x AsCaller ++ [])
-    → slot_filled u ≡ with_next u (BirthLocal x AsCaller ∷ [])
-filled_is true zero x u is = ap (λ (ds : List Duty). slot_filled_by ds u) is
-filled_is true (suc head) x u is = ap (λ (ds : List Duty). slot_filled_by ds u) is
+    → field_filled u ≡ with_next u (BirthLocal x AsCaller ∷ [])
+filled_is true zero x u is = ap (λ (ds : List Duty). field_filled_by ds u) is
+filled_is true (suc head) x u is = ap (λ (ds : List Duty). field_filled_by ds u) is
 filled_is false zero x u is =
-    ap (λ (ds : List Duty). slot_filled_by ds u) is ∙ ap (with_next u) is
+    ap (λ (ds : List Duty). field_filled_by ds u) is ∙ ap (with_next u) is
 filled_is false (suc head) x u is =
-    ap (λ (ds : List Duty). slot_filled_by ds u) is ∙ ap (with_next u) is
+    ap (λ (ds : List Duty). field_filled_by ds u) is ∙ ap (with_next u) is
 
 -- A birth is two stores.
 born_is : (v : View) (word : ℕ) → born v word ≡ view_by (begun v word) (BirthLocal (next_row v) AsCaller ∷ []) 0
@@ -53,22 +53,22 @@ born_is v word =
     ap (λ (u : View). view_after u 0)
     (filled_is (has_resource word) v.actor.head (next_row v) (view_after (bearing v word) 0) refl)
 
--- The thread puts the resource into the slot, if the object has one: by this no word changes.
+-- The thread puts the resource into the field, if the object has one: by this no word changes.
 fills : (has : Bool) (program : Program) (q : Place) (x : ℕ) (holding : Holding) (u : View)
     → Traces 0 [] program q (ready u.actor.head (birth_next has x holding ++ [])) u q (BirthLocal x holding ∷ []) u
 fills true program q x holding u =
-    let filled : Traces 0 [] program q (BirthSlot x holding ∷ []) u q (ready u.actor.head
+    let filled : Traces 0 [] program q (BirthField x holding ∷ []) u q (ready u.actor.head
     (BirthLocal x holding ∷ [])) u =
     record {
       events = [];
       trace = sym (append-nil u.trace);
-      makes = Continues 0 [] [] q (thread_with u (BirthSlot x holding ∷ [])) (BirthSlot x holding) [] 0 Refl refl refl;
+      makes = Continues 0 [] [] q (thread_with u (BirthField x holding ∷ [])) (BirthField x holding) [] 0 Refl refl refl;
       layout = refl;
       thread = refl;
     } in
     subst (λ (ds : List Duty). Traces 0 [] program q ds u q (BirthLocal x holding ∷ []) u)
-    (sym (comes_next u.actor.head (BirthSlot x holding) [] refl))
-    (with_duties program q q (BirthSlot x holding ∷ []) _ (BirthLocal x holding ∷ []) u u
+    (sym (comes_next u.actor.head (BirthField x holding) [] refl))
+    (with_duties program q q (BirthField x holding ∷ []) _ (BirthLocal x holding ∷ []) u u
     (comes_next u.actor.head (BirthLocal x holding) [] refl) filled)
 fills false program q x holding u =
     subst (λ (ds : List Duty). Traces 0 [] program q ds u q (BirthLocal x holding ∷ []) u)
@@ -109,7 +109,7 @@ turns_to_birth : {n : ℕ} {cs : List HostCall} (program : Program) (p q : Place
 turns_to_birth program p q v word none one =
     let x = next_row v in
     traces_behind program p q q [] [] [] v v (bearing v word) one
-    (turns_to program q [] (BirthKind x AsCaller word ∷ []) v (x ∷ v.references) v.in_slot none)
+    (turns_to program q [] (BirthKind x AsCaller word ∷ []) v (x ∷ v.references) v.in_field none)
 
 -- The birth of what `read` has read.
 reads : (program : Program) (place : Place) (context : Context) (at : ℕ) (rows : List (Option ℕ)) (v : View)

@@ -12,7 +12,7 @@ use Rattle.brc_model.specs.Actions.{first_context, argument_rows, passed_variabl
 use Rattle.brc_model.specs.Stops.{row_locked, owned_rows, stopping}
 use Rattle.brc_model.specs.Tables.{Reaches}
 use Rattle.brc_model.specs.Threads.{function_at, row_of, entry_variables}
-use Rattle.brc_model.specs.VarStates.{target, after}
+use Rattle.brc_model.specs.SlotStates.{target, after}
 use Rattle.brc_model.specs.declared.actor.Context.{Context}
 use Rattle.brc_model.specs.declared.actor.OpenCall.{OpenCall}
 use Rattle.brc_model.specs.declared.actor.Place.{Place}
@@ -312,7 +312,7 @@ module _ (functions : List Function) (number : ℕ) (entry : List (Option ℕ)) 
         let program = called_in functions first in
         let here = come first start context about in
         let within = runs first (entered context) (inner context) (about_inner first context) in
-        let own = owned_rows (after i Fault s).vars kept in
+        let own = owned_rows (after i Fault s).slots kept in
         let last = InCall within.inner within.at within.variables in
         record {
           inner = within.inner;
@@ -333,10 +333,10 @@ module _ (functions : List Function) (number : ℕ) (entry : List (Option ℕ)) 
           gives_up = λ further.
               subst (λ (calls : List (List (Option ℕ))).
               GivesUpTo program (stopping (row_locked within.state.locked within.variables)
-              (owned_rows within.state.vars within.variables ∷ calls)) within.there further x)
+              (owned_rows within.state.slots within.variables ∷ calls)) within.there further x)
               (sym (append_assoc within.between (own ∷ []) further))
               (releases program (stopping (row_locked within.state.locked within.variables)
-              (owned_rows within.state.vars within.variables ∷ (within.between ++ (own ∷ further)))) within.there
+              (owned_rows within.state.slots within.variables ∷ (within.between ++ (own ∷ further)))) within.there
               further (within.gives_up (own ∷ further)));
         }
 
@@ -399,6 +399,6 @@ module _ (functions : List Function) (number may left : ℕ) (some : 0 < may) (c
         calls_are = refl;
         comes = within.comes;
         gives_up = stops_last its (stopping (row_locked within.state.locked within.variables)
-            (owned_rows within.state.vars within.variables ∷ further)) within.there ds u w (within.gives_up []) none
+            (owned_rows within.state.slots within.variables ∷ further)) within.there ds u w (within.gives_up []) none
             settled empty;
       }

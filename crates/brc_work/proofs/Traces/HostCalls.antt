@@ -11,14 +11,14 @@ use Rattle.brc_lang.specs.declared.module.Instr.TheVariants as instructions
 use Rattle.brc_model.specs.Actions.{Silent, Calls, Does, always, by_exit, with_row, number_word, file_word, sock_word, grant_action, granted_birth, lend_action, return_action, dispatch_instruction, dispatch_inside, by_variable}
 use Rattle.brc_model.specs.declared.actor.Actor.{Actor}
 use Rattle.brc_model.specs.Machine.{has_room, actor_by}
-use Rattle.brc_model.specs.VarStates.{target}
+use Rattle.brc_model.specs.SlotStates.{target}
 use Rattle.brc_model.specs.Threads.{row_of}
 use Rattle.brc_model.specs.declared.actor.Context.{Context}
 use Rattle.brc_model.specs.declared.actor.Place.{Place}
 use Rattle.brc_model.specs.declared.actor.Place.TheVariants.{InCall, Inside}
 use Rattle.brc_model.specs.declared.actor.Stage.TheVariants.{Loaded, Lent, Called, Granted}
 use Rattle.brc_model.specs.declared.duty.Duty.{Duty}
-use Rattle.brc_model.specs.declared.duty.Duty.TheVariants.{KindLoad, LendSlot, ReturnSlot}
+use Rattle.brc_model.specs.declared.duty.Duty.TheVariants.{KindLoad, LendField, ReturnField}
 use Rattle.brc_model.specs.declared.layout.Layout.{Layout}
 use Rattle.brc_model.specs.declared.state.Exit.{Exit}
 use Rattle.brc_model.specs.declared.state.Exit.TheVariants.{Success, Fault}
@@ -137,7 +137,7 @@ no_more_begins n = omega arith
 
 module _ (program : Program) (context : Context) (at : ℕ) (rows : List (Option ℕ)) (file row : ℕ)
     (names : row_of rows file ≡ Some row) (v u : View) where
-  -- A thread takes the resource out of its slot for a call of the host, and puts it back however the call ends. Its
+  -- A thread takes the resource out of its field for a call of the host, and puts it back however the call ends. Its
   -- hand makes no step on a word meanwhile. If the thread is before an instruction, that has begun with it.
   lends : {n : ℕ} (start p q : Place) (i : Instr) (call : HostCall) (one : MakesTrace n [] program start v p u)
       → slice_get (function_under program context.outer).code at ≡ Some i → Requests one.events i call
@@ -154,13 +154,13 @@ module _ (program : Program) (context : Context) (at : ℕ) (rows : List (Option
       let works = λ (d : ℕ → Duty) (next : Place) (o : Option ℕ). with_row o (λ x. Does (d x) [] (always next)) in
       let begun = n + begun_at p in
       let a = thread_with u [] in
-      let b = actor_by v.layout v.thread a (LendSlot row) [] 1 in
-      let same : actor_by v.layout v.thread b (ReturnSlot row) [] 0 ≡ a =
+      let b = actor_by v.layout v.thread a (LendField row) [] 1 in
+      let same : actor_by v.layout v.thread b (ReturnField row) [] 0 ≡ a =
       λ i. record (thread_with u []) { agenda = no_duty u.actor.head i } in
       let no_more : one.events ++ [] ≡ one.events = append-nil one.events in
       let takes_it : Makes v.layout v.thread program start (thread_with v []) begun [] (one.events ++ []) lent b =
-      Dispatches n [] one.events p a (LendSlot row) [] (always lent) 1 one.makes refl
-      (takes ∙ ap (works LendSlot lent) names) refl in
+      Dispatches n [] one.events p a (LendField row) [] (always lent) 1 one.makes refl
+      (takes ∙ ap (works LendField lent) names) refl in
       let asks_it : Makes v.layout v.thread program start (thread_with v []) (begun + 0) (call ∷ []) one.events
       (called (exit_of call)) b =
       Asks begun [] one.events lent b (row_of rows file) called i call
@@ -169,9 +169,9 @@ module _ (program : Program) (context : Context) (at : ℕ) (rows : List (Option
       takes_it)
       (no_duty u.actor.head) calls found asks in
       let puts_it : Makes v.layout v.thread program start (thread_with v []) ((begun + 0) + 0) (call ∷ [])
-      (one.events ++ []) q (actor_by v.layout v.thread b (ReturnSlot row) [] 0) =
-      Dispatches (begun + 0) (call ∷ []) one.events (called (exit_of call)) b (ReturnSlot row) [] (always q) 0 asks_it
-      (no_duty u.actor.head) (puts ∙ ap (works ReturnSlot q) names) refl in
+      (one.events ++ []) q (actor_by v.layout v.thread b (ReturnField row) [] 0) =
+      Dispatches (begun + 0) (call ∷ []) one.events (called (exit_of call)) b (ReturnField row) [] (always q) 0 asks_it
+      (no_duty u.actor.head) (puts ∙ ap (works ReturnField q) names) refl in
       record {
         events = one.events;
         trace = one.trace;
@@ -180,7 +180,7 @@ module _ (program : Program) (context : Context) (at : ℕ) (rows : List (Option
             (subst (λ (c : Actor).
             Makes v.layout v.thread program start (thread_with v []) ((begun + 0) + 0) (call ∷ []) one.events q c) same
             (subst (λ (es : List WordEvent). Makes v.layout v.thread program start (thread_with v []) ((begun + 0) + 0)
-            (call ∷ []) es q (actor_by v.layout v.thread b (ReturnSlot row) [] 0)) no_more puts_it));
+            (call ∷ []) es q (actor_by v.layout v.thread b (ReturnField row) [] 0)) no_more puts_it));
         layout = one.layout;
         thread = one.thread;
       }

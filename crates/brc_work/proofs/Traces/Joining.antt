@@ -123,10 +123,10 @@ quietly program p ds v w trace layout thread same = record {
 pub turns_to : (program : Program) (p : Place) (ds agenda : List Duty) (v : View) (references : List ℕ) (n : ℕ)
     → v.actor.agenda ≡ []
     → Traces 0 [] program p ds v p ds
-    (record (with_work v agenda (open_work v)) { references = references; in_slot = n })
+    (record (with_work v agenda (open_work v)) { references = references; in_field = n })
 turns_to program p ds agenda v references n none =
     let same : v.actor.aside ≡ open_work v = ap (λ (es : List Duty). es ++ v.actor.aside) (sym none) in
-    quietly program p ds v (record (with_work v agenda (open_work v)) { references = references; in_slot = n }) refl
+    quietly program p ds v (record (with_work v agenda (open_work v)) { references = references; in_field = n }) refl
     refl
     refl (λ i. record (thread_with v ds) { aside = same i })
 

@@ -1,10 +1,9 @@
 -- `as`.
-use Rattle.std.proofs.Common.{◌≡◌, ◌≢◌, ℕ, ◌+◌, Bool, true, false, cond, List, [], Option, Some, refl, sym, ap, ◌∙◌, subst}
-use Rattle.std.proofs.lemmas.Bool.{eq-eqb, ne_eqb}
+use Rattle.std.proofs.Common.{◌≡◌, ℕ, ◌+◌, Bool, true, false, cond, List, [], Option, Some, refl, sym, ap, ◌∙◌, subst}
 use Rattle.brc_lang.specs.declared.kind.Kind.{Kind}
 use Rattle.brc_lang.specs.declared.module.Instr.TheVariants as instructions
 use Rattle.brc_model.specs.Actions.{Does}
-use Rattle.brc_model.specs.Kinds.{kind_number, kind_of_word, same_kind}
+use Rattle.brc_model.specs.Kinds.{kind_of_word, same_kind}
 use Rattle.brc_model.specs.Threads.{row_of}
 use Rattle.brc_model.specs.declared.actor.Context.{Context}
 use Rattle.brc_model.specs.declared.actor.Place.{Place}
@@ -40,11 +39,11 @@ module _ (from row word otherwise : ℕ) (kind seen : Kind) (rows : List (Option
         (λ x. Does (KindLoad x) [] next) refl names))))
 
     -- The object is of the kind,
-    pub is_of : kind_number seen ≡ kind_number kind
+    pub is_of : same_kind seen kind ≡ true
         → Performs [] (instructions.As from kind otherwise) Success rows v rows u
-    is_of same = asked true (eq-eqb (kind_number seen) (kind_number kind) same)
+    is_of same = asked true same
 
     -- or it isn't.
-    pub is_not_of : kind_number seen ≢ kind_number kind
+    pub is_not_of : same_kind seen kind ≡ false
         → Performs [] (instructions.As from kind otherwise) Fault rows v rows u
-    is_not_of other = asked false (ne_eqb (kind_number seen) (kind_number kind) other)
+    is_not_of other = asked false other

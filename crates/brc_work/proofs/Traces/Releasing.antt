@@ -14,7 +14,7 @@ use Rattle.brc_model.specs.declared.duty.Holding.{Holding}
 use Rattle.brc_model.specs.declared.duty.Holding.TheVariants.{AsCaller}
 use Rattle.brc_model.specs.declared.duty.Reason.TheVariants.{Own}
 use Rattle.brc_table.specs.declared.view.View.{View}
-use Rattle.brc_table.specs.Views.{view_after, releasing, slot_emptied, slot_emptied_by, without_reference}
+use Rattle.brc_table.specs.Views.{view_after, releasing, field_emptied, field_emptied_by, without_reference}
 use Rattle.brc_heap.specs.Calls.{released_locally, counts_here}
 use Rattle.brc_free.specs.Works.{Refl as Unchanged, Next, HasWorked, closes_by, to_settle}
 use Rattle.brc_work.specs.Performs.{MakesRelease, GivesUp}
@@ -24,17 +24,17 @@ use Rattle.brc_work.proofs.Traces.Joining.{turns_to, traces_then, traces_before}
 use Rattle.brc_work.proofs.Traces.Duties.{no_duty, IsSame, next_duties, starts_with, continues_with}
 use Rattle.brc_work.proofs.Traces.Working.{WorksOn, goes_on, works_on, worked_off, comes_to_settle}
 
--- The duty that follows the load of the local word is none on a slot.
+-- The duty that follows the load of the local word is none on a field.
 after_load : (immortal counts : Bool) (head x word : ℕ) (u : View)
     → u.actor.agenda ≡ ready head (cond immortal [] (cond counts (ReleaseStore x word ∷ []) (SharedLoad x Own ∷ []))
     ++ [])
-    → slot_emptied u ≡ u
-after_load true counts zero x word u is = ap (λ (ds : List Duty). slot_emptied_by ds u) is
-after_load true counts (suc head) x word u is = ap (λ (ds : List Duty). slot_emptied_by ds u) is
-after_load false true zero x word u is = ap (λ (ds : List Duty). slot_emptied_by ds u) is
-after_load false true (suc head) x word u is = ap (λ (ds : List Duty). slot_emptied_by ds u) is
-after_load false false zero x word u is = ap (λ (ds : List Duty). slot_emptied_by ds u) is
-after_load false false (suc head) x word u is = ap (λ (ds : List Duty). slot_emptied_by ds u) is
+    → field_emptied u ≡ u
+after_load true counts zero x word u is = ap (λ (ds : List Duty). field_emptied_by ds u) is
+after_load true counts (suc head) x word u is = ap (λ (ds : List Duty). field_emptied_by ds u) is
+after_load false true zero x word u is = ap (λ (ds : List Duty). field_emptied_by ds u) is
+after_load false true (suc head) x word u is = ap (λ (ds : List Duty). field_emptied_by ds u) is
+after_load false false zero x word u is = ap (λ (ds : List Duty). field_emptied_by ds u) is
+after_load false false (suc head) x word u is = ap (λ (ds : List Duty). field_emptied_by ds u) is
 
 -- It closes nothing.
 no_close_after_load : (immortal counts : Bool) (head x word : ℕ) (u : View)
@@ -74,9 +74,9 @@ module _ {n : ℕ} (program : Program) (p : Place) (ds : List Duty) (w : View) (
             v.actor.head x word
             loaded refl)
             ∙ ap (λ (b : Bool). cond b (view_after loaded word) loaded) (sym counts))
-            (subst (λ (cs : List HostCall). WorksOn later n cs program p ds w q (view_after (slot_emptied loaded) word))
+            (subst (λ (cs : List HostCall). WorksOn later n cs program p ds w q (view_after (field_emptied loaded) word))
             (no_close_after_load (is_immortal_word word) (counts_here v word) v.actor.head x word loaded refl)
-            (works_on program p ds w q [] loaded _ (view_after (slot_emptied loaded) word) (loads word)
+            (works_on program p ds w q [] loaded _ (view_after (field_emptied loaded) word) (loads word)
             (Next [] loaded word false Unchanged)))
         | inr shares ↦
             subst (WorksOn later n [] program p ds w q) (ap (λ (b : Bool). cond b (view_after loaded word) loaded)
@@ -109,7 +109,7 @@ releases x word cs v mid after none released settled empty =
       first = λ program place next holding is.
           settles program place [] v next holding x v (λ w.
           traces_before program place place next [] [] _ v (releasing v x) _
-          (turns_to program place [] (ReleaseLoad x AsCaller ∷ []) v references v.in_slot none)
+          (turns_to program place [] (ReleaseLoad x AsCaller ∷ []) v references v.in_field none)
           (starts_with program place (releasing v x) (ReleaseLoad x holding) (ReleaseLoad x AsCaller) rest [] w
           (load_same x holding v w) (always next) (is v.layout v.thread v.actor.used) refl))
           word cs mid after released settled empty;
@@ -117,7 +117,7 @@ releases x word cs v mid after none released settled empty =
           let ds = ReleaseLoad x holding ∷ rest in
           settles program place ds v place holding x v (λ w.
           traces_then program place place place ds ds _ v (releasing v x) _
-          (turns_to program place ds (ReleaseLoad x AsCaller ∷ []) v references v.in_slot none)
+          (turns_to program place ds (ReleaseLoad x AsCaller ∷ []) v references v.in_field none)
           (continues_with program place (releasing v x) (ReleaseLoad x holding) (ReleaseLoad x AsCaller) rest [] w
           (load_same x holding v w) refl))
           word cs mid after released settled empty;

@@ -54,9 +54,9 @@ module _ (program : Program) (p : Place) (v : View) where
 abbrev pub kind_event : ℕ → ℕ → WordEvent
 kind_event x word = record { address = KindOf x; found = word; left = word }
 
--- the hand without work that turns to the duties, and has these references and this slot
+-- the hand without work that turns to the duties, and has these references and this field
 abbrev pub busy : View → List Duty → List ℕ → ℕ → View
-busy v ds references n = record (with_work v ds (open_work v)) { references = references; in_slot = n }
+busy v ds references n = record (with_work v ds (open_work v)) { references = references; in_field = n }
 
 module _ (program : Program) (p : Place) (next : ℕ → Place) (v : View) (none : v.actor.agenda ≡ []) where
   -- A hand that makes one step.
@@ -79,7 +79,7 @@ module _ (program : Program) (p : Place) (next : ℕ → Place) (v : View) (none
   pub asks_kind : (x word : ℕ) → dispatch_in v.layout v.thread v.actor.used program p ≡ Does (KindLoad x) [] next
       → MakesTrace (begun_at p) [] program p v (next word) (view_after (asking v x) word)
   asks_kind x word is =
-      one_step (KindLoad x) v.references v.in_slot word is refl
+      one_step (KindLoad x) v.references v.in_field word is refl
       (record { event = refl; status = refl; head = refl; used = refl; locked = refl; lent = refl })
       (no_duty v.actor.head)
 
@@ -112,7 +112,7 @@ module _ (program : Program) (p : Place) (next : ℕ → Place) (v : View) (none
   pub unlocks : (x found : ℕ) → dispatch_in v.layout v.thread v.actor.used program p ≡ Does (UnlockGate x) [] next
       → MakesTrace (begun_at p) [] program p v (next found) (view_after (unlocking v x) found)
   unlocks x found is =
-      one_step (UnlockGate x) v.references v.in_slot found is refl
+      one_step (UnlockGate x) v.references v.in_field found is refl
       (record { event = refl; status = refl; head = refl; used = refl; locked = refl; lent = refl })
       (no_duty v.actor.head)
 
@@ -120,7 +120,7 @@ module _ (program : Program) (p : Place) (next : ℕ → Place) (v : View) (none
   pub looks_in : (x i word : ℕ) → dispatch_in v.layout v.thread v.actor.used program p ≡ Does (CellLoad x i) [] next
       → MakesTrace (begun_at p) [] program p v (next word) (view_after (loading_cell v x i) word)
   looks_in x i word is =
-      one_step (CellLoad x i) v.references v.in_slot word is refl
+      one_step (CellLoad x i) v.references v.in_field word is refl
       (record { event = refl; status = refl; head = refl; used = refl; locked = refl; lent = refl })
       (no_duty v.actor.head)
 
@@ -172,7 +172,7 @@ retains program p next v none x word found holding is =
     let own = counts_locally v.thread (is_running v.actor.status) word && nat_lt (local_part word) most_local in
     let duties = ready v.actor.head (retain_next immortal own x word holding ++ []) in
     traces_before program p p (next word) [] [] [] v turned (view_after loaded found)
-    (turns_to program p [] (RetainLoad x AsCaller ∷ []) v (with_reference v.layout x v.references) v.in_slot none)
+    (turns_to program p [] (RetainLoad x AsCaller ∷ []) v (with_reference v.layout x v.references) v.in_field none)
     (traces_then program p (next word) (next word) [] duties [] turned loaded (view_after loaded found)
     (starts_with program p turned (RetainLoad x holding) (RetainLoad x AsCaller) [] [] word
     (record { event = refl; status = refl; head = refl; used = refl; locked = refl; lent = refl }) next is refl)

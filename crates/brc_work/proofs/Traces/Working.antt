@@ -9,11 +9,11 @@ use Rattle.brc_model.specs.Layout.{mark_bit}
 use Rattle.brc_model.specs.Machine.{is_running}
 use Rattle.brc_model.specs.declared.actor.Place.{Place}
 use Rattle.brc_model.specs.declared.duty.Duty.{Duty}
-use Rattle.brc_model.specs.declared.duty.Duty.TheVariants.{RetainLoad, RetainStore, RetainAdd, ReleaseLoad, ReleaseStore, DecideAtZero, SharedLoad, SharedExchange, SetMark, Look, TakeMark, MergeSwap, MergeLoad, MergeExchange, Die, Settle, SettleKind, SettleCell, TakeSlot, CloseResource, SettleEnd, Scan, TakeFound, ClaimMark, BirthKind, BirthSlot, CellSwap, LendSlot, ReturnSlot}
+use Rattle.brc_model.specs.declared.duty.Duty.TheVariants.{RetainLoad, RetainStore, RetainAdd, ReleaseLoad, ReleaseStore, DecideAtZero, SharedLoad, SharedExchange, SetMark, Look, TakeMark, MergeSwap, MergeLoad, MergeExchange, Die, Settle, SettleKind, SettleCell, TakeField, CloseResource, SettleEnd, Scan, TakeFound, ClaimMark, BirthKind, BirthField, CellSwap, LendField, ReturnField}
 use Rattle.brc_model.specs.declared.duty.Reason.TheVariants.{Own, Handed}
 use Rattle.brc_model.specs.declared.layout.Layout.{Layout}
 use Rattle.brc_table.specs.declared.view.View.{View}
-use Rattle.brc_table.specs.Views.{view_by, view_after, slot_emptied, slot_emptied_by}
+use Rattle.brc_table.specs.Views.{view_by, view_after, field_emptied, field_emptied_by}
 use Rattle.brc_free.specs.Works.{Works, Refl as Unchanged, Next, closes_by, to_settle}
 use Rattle.brc_work.specs.Stopping.{settle_if}
 use Rattle.brc_work.specs.Traces.{Program, Refl, Continues, Closes, Traces, thread_with, is_close}
@@ -22,46 +22,46 @@ use Rattle.brc_work.proofs.Traces.Duties.{comes_next, IsSame, next_duties, conti
 
 -- ---- duties on words
 
--- Says whether the duty is none on a slot or on a resource, nor lets one follow, but for those by which a dying
+-- Says whether the duty is none on a field or on a resource, nor lets one follow, but for those by which a dying
 -- object's resource is closed.
-abbrev pub is_off_slots : Duty → Bool
-is_off_slots (BirthKind x h w) = false
-is_off_slots (BirthSlot x h) = false
-is_off_slots (CloseResource x) = false
-is_off_slots (LendSlot x) = false
-is_off_slots (ReturnSlot x) = false
-is_off_slots _ = true
+abbrev pub is_off_fields : Duty → Bool
+is_off_fields (BirthKind x h w) = false
+is_off_fields (BirthField x h) = false
+is_off_fields (CloseResource x) = false
+is_off_fields (LendField x) = false
+is_off_fields (ReturnField x) = false
+is_off_fields _ = true
 
-abbrev pub are_off_slots : List Duty → Bool
-are_off_slots [] = true
-are_off_slots (d ∷ ds) = is_off_slots d && are_off_slots ds
+abbrev pub are_off_fields : List Duty → Bool
+are_off_fields [] = true
+are_off_fields (d ∷ ds) = is_off_fields d && are_off_fields ds
 
--- Says whether the duty takes the resource of a dying object out of its slot.
+-- Says whether the duty takes the resource of a dying object out of its field.
 abbrev pub takes_out : Duty → Bool
-takes_out (TakeSlot x) = true
+takes_out (TakeField x) = true
 takes_out _ = false
 
-first_off : (d : Duty) (ds : List Duty) → are_off_slots (d ∷ ds) ≡ true → is_off_slots d ≡ true
-first_off d ds off = elim (cases_Bool (is_off_slots d)) [
+first_off : (d : Duty) (ds : List Duty) → are_off_fields (d ∷ ds) ≡ true → is_off_fields d ≡ true
+first_off d ds off = elim (cases_Bool (is_off_fields d)) [
   | inl is ↦ is
-  | inr not ↦ let wrong : false ≡ true = sym (ap (λ (b : Bool). b && are_off_slots ds) not) ∙ off in absurd cc
+  | inr not ↦ let wrong : false ≡ true = sym (ap (λ (b : Bool). b && are_off_fields ds) not) ∙ off in absurd cc
 ]
 
-behind_off : (d : Duty) (ds : List Duty) → are_off_slots (d ∷ ds) ≡ true → are_off_slots ds ≡ true
-behind_off d ds off = sym (ap (λ (b : Bool). b && are_off_slots ds) (first_off d ds off)) ∙ off
+behind_off : (d : Duty) (ds : List Duty) → are_off_fields (d ∷ ds) ≡ true → are_off_fields ds ≡ true
+behind_off d ds off = sym (ap (λ (b : Bool). b && are_off_fields ds) (first_off d ds off)) ∙ off
 
-off_then : (ds es : List Duty) → are_off_slots ds ≡ true → are_off_slots es ≡ true → are_off_slots (ds ++ es) ≡ true
+off_then : (ds es : List Duty) → are_off_fields ds ≡ true → are_off_fields es ≡ true → are_off_fields (ds ++ es) ≡ true
 off_then [] es off other = other
 off_then (d ∷ ds) es off other =
-    ap (λ (b : Bool). b && are_off_slots (ds ++ es)) (first_off d ds off)
+    ap (λ (b : Bool). b && are_off_fields (ds ++ es)) (first_off d ds off)
     ∙ off_then ds es (behind_off d ds off) other
 
-off_either : (b : Bool) (ds es : List Duty) → are_off_slots ds ≡ true → are_off_slots es ≡ true
-    → are_off_slots (cond b ds es) ≡ true
+off_either : (b : Bool) (ds es : List Duty) → are_off_fields ds ≡ true → are_off_fields es ≡ true
+    → are_off_fields (cond b ds es) ≡ true
 off_either true ds es off other = off
 off_either false ds es off other = other
 
-ready_off : (head : ℕ) (ds : List Duty) → are_off_slots ds ≡ true → are_off_slots (ready head ds) ≡ true
+ready_off : (head : ℕ) (ds : List Duty) → are_off_fields ds ≡ true → are_off_fields (ready head ds) ≡ true
 ready_off zero [] off = refl
 ready_off zero (Settle ∷ ds) off = ready_off zero ds off
 ready_off zero (Scan i zero ∷ ds) off = ready_off zero ds off
@@ -76,20 +76,20 @@ ready_off (suc head) (TakeFound w zero ∷ ds) off = ready_off (suc head) ds off
 ready_off (suc head) (TakeFound w (suc n) ∷ ds) off = off
 ready_off (suc head) (d ∷ ds) off = off
 
-claimed_off : (x mark : ℕ) (ds : List Duty) → are_off_slots ds ≡ true → are_off_slots (claimed x mark ++ ds) ≡ true
+claimed_off : (x mark : ℕ) (ds : List Duty) → are_off_fields ds ≡ true → are_off_fields (claimed x mark ++ ds) ≡ true
 claimed_off x mark ds off =
     off_then (claimed x mark) ds (off_either (mark == 1) (MergeSwap x Handed ∷ []) [] refl refl) off
 
-cells_off : (x i n : ℕ) → are_off_slots (cells_from x i n) ≡ true
+cells_off : (x i n : ℕ) → are_off_fields (cells_from x i n) ≡ true
 cells_off x i n = off_either (nat_lt i n) (SettleCell x i n ∷ []) (SettleEnd x ∷ []) refl refl
 
-found_off : (found : ℕ) (ds : List Duty) → are_off_slots ds ≡ true → are_off_slots (release_found found ++ ds) ≡ true
+found_off : (found : ℕ) (ds : List Duty) → are_off_fields ds ≡ true → are_off_fields (release_found found ++ ds) ≡ true
 found_off zero ds off = off
 found_off (suc y) ds off = off
 
--- No such duty is followed by one on a slot.
-next_off : (layout : Layout) (t : ℕ) (running : Bool) (head : ℕ) (d : Duty) (found : ℕ) → is_off_slots d ≡ true
-    → takes_out d ≡ false → are_off_slots (continuation layout t running head d found) ≡ true
+-- No such duty is followed by one on a field.
+next_off : (layout : Layout) (t : ℕ) (running : Bool) (head : ℕ) (d : Duty) (found : ℕ) → is_off_fields d ≡ true
+    → takes_out d ≡ false → are_off_fields (continuation layout t running head d found) ≡ true
 next_off layout t running head (RetainLoad x h) found off other =
     off_either (is_immortal_word found) [] _ refl
     (off_either (counts_locally t running found && nat_lt (local_part found) most_local) (RetainStore x h found ∷ [])
@@ -118,34 +118,34 @@ next_off layout t running head (MergeExchange x c w Own) found off other =
 next_off layout t running head (MergeExchange x c w Handed) found off other =
     off_either (found == w) (SharedLoad x Handed ∷ []) (MergeLoad x c Handed ∷ []) refl refl
 next_off layout t running head (SettleKind x) found off other =
-    off_either (has_resource found) (TakeSlot x ∷ []) (cells_from x 0 (cells_of found)) refl
+    off_either (has_resource found) (TakeField x ∷ []) (cells_from x 0 (cells_of found)) refl
     (cells_off x 0 (cells_of found))
 next_off layout t running head (SettleCell x i n) found off other =
     found_off found (cells_from x (i + 1) n) (cells_off x (i + 1) n)
-next_off layout t running head (TakeSlot x) found off other = absurd (let wrong : true ≡ false = other in cc)
+next_off layout t running head (TakeField x) found off other = absurd (let wrong : true ≡ false = other in cc)
 next_off layout t running head (CloseResource x) found off other = absurd (let wrong : false ≡ true = off in cc)
 next_off layout t running head (BirthKind x h w) found off other = absurd (let wrong : false ≡ true = off in cc)
-next_off layout t running head (BirthSlot x h) found off other = absurd (let wrong : false ≡ true = off in cc)
+next_off layout t running head (BirthField x h) found off other = absurd (let wrong : false ≡ true = off in cc)
 next_off layout t running head (TakeFound w marks) found off other =
     claimed_off (found_row layout t w marks) (mark_at found (mark_bit layout (found_row layout t w marks))) _ refl
 next_off layout t running head (ClaimMark x) found off other =
     claimed_off x (mark_at found (mark_bit layout x)) _ refl
 next_off layout t running head (CellSwap x i y h) found off other =
-    subst (λ (ds : List Duty). are_off_slots ds ≡ true) (append-nil (release_found found)) (found_off found [] refl)
+    subst (λ (ds : List Duty). are_off_fields ds ≡ true) (append-nil (release_found found)) (found_off found [] refl)
 next_off layout t running head _ found off other = refl
 
 -- Such a duty is one on a word.
-on_word : (u : View) (d : Duty) (found : ℕ) → is_off_slots d ≡ true → takes_out d ≡ false → IsSame u d d found
-on_word u (TakeSlot x) found off other = absurd (let wrong : true ≡ false = other in cc)
+on_word : (u : View) (d : Duty) (found : ℕ) → is_off_fields d ≡ true → takes_out d ≡ false → IsSame u d d found
+on_word u (TakeField x) found off other = absurd (let wrong : true ≡ false = other in cc)
 on_word u (CloseResource x) found off other = absurd (let wrong : false ≡ true = off in cc)
-on_word u (BirthSlot x h) found off other = absurd (let wrong : false ≡ true = off in cc)
-on_word u (LendSlot x) found off other = absurd (let wrong : false ≡ true = off in cc)
-on_word u (ReturnSlot x) found off other = absurd (let wrong : false ≡ true = off in cc)
+on_word u (BirthField x h) found off other = absurd (let wrong : false ≡ true = off in cc)
+on_word u (LendField x) found off other = absurd (let wrong : false ≡ true = off in cc)
+on_word u (ReturnField x) found off other = absurd (let wrong : false ≡ true = off in cc)
 on_word u _ found off other =
     record { event = refl; status = refl; head = refl; used = refl; locked = refl; lent = refl }
 
 -- Nor is it a close.
-no_close : (d : Duty) → is_off_slots d ≡ true → is_close d ≡ false
+no_close : (d : Duty) → is_off_fields d ≡ true → is_close d ≡ false
 no_close (CloseResource x) off = absurd (let wrong : false ≡ true = off in cc)
 no_close _ off = refl
 
@@ -187,16 +187,16 @@ nothing_behind false = refl
 pub record WorksOn (later : Bool) (begun : ℕ) (cs : List HostCall) (program : Program) (p : Place) (ds : List Duty)
     (v : View) (q : Place) (u : View) : Type 0 where
   pub traces : Traces begun cs program p ds v q (behind_of u.actor.head u.actor.agenda (settle_if later)) u
-  pub off : are_off_slots u.actor.agenda ≡ true
+  pub off : are_off_fields u.actor.agenda ≡ true
 
--- A dying object's resource is taken out of its slot and closed without a step on a word.
-takes_slot : (program : Program) (q : Place) (u : View) (x : ℕ) (failed : Bool) (rest : List Duty)
-    → Traces 0 (Close failed ∷ []) program q (TakeSlot x ∷ rest) u q (SettleEnd x ∷ rest) u
-takes_slot program q u x failed rest =
-    let taken : Traces 0 [] program q (TakeSlot x ∷ rest) u q (ready u.actor.head (CloseResource x ∷ rest)) u = record {
+-- A dying object's resource is taken out of its field and closed without a step on a word.
+takes_field : (program : Program) (q : Place) (u : View) (x : ℕ) (failed : Bool) (rest : List Duty)
+    → Traces 0 (Close failed ∷ []) program q (TakeField x ∷ rest) u q (SettleEnd x ∷ rest) u
+takes_field program q u x failed rest =
+    let taken : Traces 0 [] program q (TakeField x ∷ rest) u q (ready u.actor.head (CloseResource x ∷ rest)) u = record {
       events = [];
       trace = sym (append-nil u.trace);
-      makes = Continues 0 [] [] q (thread_with u (TakeSlot x ∷ rest)) (TakeSlot x) rest 1 Refl refl refl;
+      makes = Continues 0 [] [] q (thread_with u (TakeField x ∷ rest)) (TakeField x) rest 1 Refl refl refl;
       layout = refl;
       thread = refl;
     } in
@@ -210,15 +210,15 @@ takes_slot program q u x failed rest =
       layout = refl;
       thread = refl;
     } in
-    traces_then program q q q (TakeSlot x ∷ rest) (CloseResource x ∷ rest) (SettleEnd x ∷ rest) u u u
-    (with_duties program q q (TakeSlot x ∷ rest) _ (CloseResource x ∷ rest) u u
+    traces_then program q q q (TakeField x ∷ rest) (CloseResource x ∷ rest) (SettleEnd x ∷ rest) u u u
+    (with_duties program q q (TakeField x ∷ rest) _ (CloseResource x ∷ rest) u u
     (comes_next u.actor.head (CloseResource x) rest refl) taken)
     (with_duties program q q (CloseResource x ∷ rest) _ (SettleEnd x ∷ rest) u u
     (comes_next u.actor.head (SettleEnd x) rest refl) closed)
 
-unslotted : (u : View) (d : Duty) (tail : List Duty) → takes_out d ≡ false → slot_emptied_by (d ∷ tail) u ≡ u
-unslotted u (TakeSlot x) tail other = absurd (let wrong : true ≡ false = other in cc)
-unslotted u _ tail other = refl
+unfieldted : (u : View) (d : Duty) (tail : List Duty) → takes_out d ≡ false → field_emptied_by (d ∷ tail) u ≡ u
+unfieldted u (TakeField x) tail other = absurd (let wrong : true ≡ false = other in cc)
+unfieldted u _ tail other = refl
 
 module _ {later : Bool} {n : ℕ} (program : Program) (p : Place) (ds : List Duty) (v : View) (q : Place) where
   -- After one duty more the thread still has the hand's duties.
@@ -226,7 +226,7 @@ module _ {later : Bool} {n : ℕ} (program : Program) (p : Place) (ds : List Dut
       → IsSame u d e found
       → (continuation u.layout u.thread (is_running u.actor.status) u.actor.head e found
       ≡ continuation u.layout u.thread (is_running u.actor.status) u.actor.head d found)
-      → is_off_slots e ≡ true → takes_out e ≡ false → are_off_slots tail ≡ true
+      → is_off_fields e ≡ true → takes_out e ≡ false → are_off_fields tail ≡ true
       → Traces n cs program p ds v q (next_duties u d (tail ++ settle_if later) found) (view_by u (e ∷ tail) found)
       → WorksOn later n cs program p ds v q (view_by u (e ∷ tail) found)
   goes_on u d e tail found same next off other behind one =
@@ -249,8 +249,8 @@ module _ {later : Bool} {n : ℕ} (program : Program) (p : Place) (ds : List Dut
 
   -- It is the first of its agenda.
   continues_on : {cs : List HostCall} (u : View) (d : Duty) (tail : List Duty) (found : ℕ)
-      → is_off_slots d ≡ true
-      → takes_out d ≡ false → are_off_slots tail ≡ true → Traces n cs program p ds v q (d ∷ (tail ++ settle_if later)) u
+      → is_off_fields d ≡ true
+      → takes_out d ≡ false → are_off_fields tail ≡ true → Traces n cs program p ds v q (d ∷ (tail ++ settle_if later)) u
       → WorksOn later n cs program p ds v q (view_by u (d ∷ tail) found)
   continues_on u d tail found off other behind one =
       let rest = tail ++ settle_if later in
@@ -269,10 +269,10 @@ module _ {later : Bool} {n : ℕ} (program : Program) (p : Place) (ds : List Dut
 
   plain_next : {cs : List HostCall} (u : View) (found : ℕ) (d : Duty) (tail : List Duty) → u.actor.agenda ≡ d ∷ tail
       → takes_out d ≡ false → WorksOn later n cs program p ds v q u → WorksOn later n cs program p ds v q
-      (view_after (slot_emptied u) found)
+      (view_after (field_emptied u) found)
   plain_next {cs} u found d tail is other on =
-      let off : are_off_slots (d ∷ tail) ≡ true = ap are_off_slots (sym is) ∙ on.off in
-      let same : slot_emptied u ≡ u = ap (λ (es : List Duty). slot_emptied_by es u) is ∙ unslotted u d tail other in
+      let off : are_off_fields (d ∷ tail) ≡ true = ap are_off_fields (sym is) ∙ on.off in
+      let same : field_emptied u ≡ u = ap (λ (es : List Duty). field_emptied_by es u) is ∙ unfieldted u d tail other in
       subst (WorksOn later n cs program p ds v q)
       (sym (ap (λ (w : View). view_after w found) same ∙ does_first u found d tail is))
       (continues_on u d tail found (first_off d tail off) other (behind_off d tail off)
@@ -284,23 +284,23 @@ module _ {later : Bool} {n : ℕ} (program : Program) (p : Place) (ds : List Dut
 
   next_by : (cs : List HostCall) (u : View) (found : ℕ) (failed : Bool) (es : List Duty) → u.actor.agenda ≡ es
       → WorksOn later n cs program p ds v q u → WorksOn later n (cs ++ closes_by es failed) program p ds v q
-      (view_after (slot_emptied u) found)
+      (view_after (field_emptied u) found)
   next_by cs u found failed [] is on =
-      with_no_call cs (view_after (slot_emptied u) found)
+      with_no_call cs (view_after (field_emptied u) found)
       (subst (WorksOn later n cs program p ds v q)
-      (sym (ap (λ (w : View). view_after w found) (ap (λ (es : List Duty). slot_emptied_by es u) is)
+      (sym (ap (λ (w : View). view_after w found) (ap (λ (es : List Duty). field_emptied_by es u) is)
       ∙ does_nothing u found is))
       on)
-  next_by cs u found failed (TakeSlot x ∷ tail) is on =
-      let off : are_off_slots (TakeSlot x ∷ tail) ≡ true = ap are_off_slots (sym is) ∙ on.off in
+  next_by cs u found failed (TakeField x ∷ tail) is on =
+      let off : are_off_fields (TakeField x ∷ tail) ≡ true = ap are_off_fields (sym is) ∙ on.off in
       let rest = tail ++ settle_if later in
       subst (WorksOn later n (cs ++ Close failed ∷ []) program p ds v q)
-      (sym (ap (λ (es : List Duty). view_after (slot_emptied_by es u) found) is))
-      (continues_on u (SettleEnd x) tail found refl refl (behind_off (TakeSlot x) tail off)
-      (calls_on cs (Close failed ∷ []) program p q q ds (TakeSlot x ∷ rest) (SettleEnd x ∷ rest) v u u
-      (with_agenda u (TakeSlot x ∷ tail) is on) (takes_slot program q u x failed rest)))
+      (sym (ap (λ (es : List Duty). view_after (field_emptied_by es u) found) is))
+      (continues_on u (SettleEnd x) tail found refl refl (behind_off (TakeField x) tail off)
+      (calls_on cs (Close failed ∷ []) program p q q ds (TakeField x ∷ rest) (SettleEnd x ∷ rest) v u u
+      (with_agenda u (TakeField x ∷ tail) is on) (takes_field program q u x failed rest)))
   next_by cs u found failed (d ∷ tail) is on =
-      with_no_call cs (view_after (slot_emptied u) found) (plain_next u found d tail is refl on)
+      with_no_call cs (view_after (field_emptied u) found) (plain_next u found d tail is refl on)
 
   -- A hand that does duty after duty,
   pub works_on : (cs : List HostCall) (u : View) (fs : List HostCall) (w : View) → WorksOn later n cs program p ds v q u
@@ -308,7 +308,7 @@ module _ {later : Bool} {n : ℕ} (program : Program) (p : Place) (ds : List Dut
       → WorksOn later n (cs ++ fs) program p ds v q w
   works_on cs u fs w on Unchanged = with_no_call cs u on
   works_on cs u fs w on (Next ks x found failed other) =
-      subst (λ (hs : List HostCall). WorksOn later n hs program p ds v q (view_after (slot_emptied x) found))
+      subst (λ (hs : List HostCall). WorksOn later n hs program p ds v q (view_after (field_emptied x) found))
       (append_assoc cs ks (closes_by x.actor.agenda failed))
       (next_by (cs ++ ks) x found failed x.actor.agenda refl (works_on cs u ks x on other))
 

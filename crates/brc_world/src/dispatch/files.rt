@@ -43,7 +43,7 @@ pub(super) fn ask_host(
     *start = Start::Calling(HostCall::Asks { to, otherwise });
 }
 
-/// Begins `read`: the thread takes the resource out of its slot, if it has a row left for the number that it reads.
+/// Begins `read`: the thread takes the resource out of its field, if it has a row left for the number that it reads.
 #[inline(always)]
 pub(super) fn read(
     to: Variable,
@@ -107,7 +107,7 @@ fn lend(file: Variable, thread: &mut Thread, left: u32, start: &mut Start)
         Some(row) => {
             thread.left = left;
             thread.mode = Mode::Inside(Stage::Lent);
-            *start = Start::Doing(Duty::LendSlot { row });
+            *start = Start::Doing(Duty::LendField { row });
         }
         None => *start = Start::Stuck,
     }
@@ -166,7 +166,7 @@ pub(super) fn put_back(instr: Instr, exit: Exit, thread: &mut Thread, start: &mu
                         thread.go_to(left, usize::from(otherwise));
                     }
                 }
-                *start = Start::Doing(Duty::ReturnSlot { row });
+                *start = Start::Doing(Duty::ReturnField { row });
             }
             None => *start = Start::Stuck,
         },
@@ -180,7 +180,7 @@ pub(super) fn put_back(instr: Instr, exit: Exit, thread: &mut Thread, start: &mu
                     Exit::Success => thread.go_to(left, next),
                     Exit::Fault => thread.go_to(left, usize::from(otherwise)),
                 }
-                *start = Start::Doing(Duty::ReturnSlot { row });
+                *start = Start::Doing(Duty::ReturnField { row });
             }
             None => *start = Start::Stuck,
         },

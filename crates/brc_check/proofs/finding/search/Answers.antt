@@ -1,5 +1,5 @@
 use Rattle.std.proofs.Common.{arith, ap, ◌∙◌}
-use Rattle.brc_model.specs.VarStates.{entry_of}
+use Rattle.brc_model.specs.SlotStates.{entry_of}
 use Rattle.brc_check.specs.Searching.{first_visits}
 use Rattle.brc_check.proofs.Searches.{searched-first, searched-all}
 use Rattle.brc_check.proofs.finding.search.Goals as goal

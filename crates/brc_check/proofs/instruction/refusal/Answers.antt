@@ -2,7 +2,7 @@ use Rattle.std.proofs.Common.{List, sym, ap, ◌∙◌}
 use Rattle.brc_lang.specs.declared.module.Instr.{Instr}
 use Rattle.brc_lang.specs.declared.module.Instr.TheVariants.{Call}
 use Rattle.brc_lang.specs.declared.parameter.Argument.{Argument}
-use Rattle.brc_model.specs.VarStates.{lowest}
+use Rattle.brc_model.specs.SlotStates.{lowest}
 use Rattle.brc_check.proofs.instruction.refusal.Goals as goal
 
 pub returns-in-Call : goal.returns-in-Call

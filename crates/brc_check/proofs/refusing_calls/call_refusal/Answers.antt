@@ -2,7 +2,7 @@ use Rattle.std.proofs.Common.{Bool, true, false, refl, ap, ◌∙◌}
 use Rattle.std.specs.Prelude.{is_some}
 use Rattle.std.specs.Bool.{then_some}
 use Rattle.brc_lang.specs.declared.check_code.CheckCode.TheVariants.{SecondLock}
-use Rattle.brc_model.specs.VarStates.{is_owned}
+use Rattle.brc_model.specs.SlotStates.{is_owned}
 use Rattle.brc_check.proofs.Calls.{lowest_by, locked_alone, not_owned}
 use Rattle.brc_check.proofs.refusing_calls.call_refusal.Goals as goal
 use Rattle.brc_check.proofs.refusing_calls.call_refusal.Goals.{then-not-are_given_once-via-then-not-are_given_once}

@@ -1,6 +1,6 @@
 use Rattle.std.proofs.Common.{◌≡◌}
 use Rattle.std.specs.Prelude.{drop}
-use Rattle.brc_model.specs.VarStates.{without_stolen}
+use Rattle.brc_model.specs.SlotStates.{without_stolen}
 use Rattle.brc_check.proofs.variables.forget_stolen.Given as goal
 
 -- what is left to be stolen leaves what all of it leaves

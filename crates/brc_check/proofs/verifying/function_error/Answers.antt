@@ -1,6 +1,6 @@
 use Rattle.std.proofs.Common.{arith, refl, ap, ◌∙◌, subst}
 use Rattle.brc_model.specs.declared.state.State.{State}
-use Rattle.brc_model.specs.VarStates.{entry_of}
+use Rattle.brc_model.specs.SlotStates.{entry_of}
 use Rattle.brc_model.specs.Paths.{At}
 use Rattle.brc_check.specs.Lookups.{MeetsKept}
 use Rattle.brc_check.proofs.Comparing.{entry_closed, all_closed}

@@ -1,6 +1,6 @@
 use Rattle.std.proofs.Common.{◌≡◌, ◌<◌, ℕ}
 use Rattle.std.specs.Prelude.{Some}
-use Rattle.brc_model.specs.VarStates.{entry_of}
+use Rattle.brc_model.specs.SlotStates.{entry_of}
 use Rattle.brc_check.specs.Entries.{IsClosedAt}
 use Rattle.brc_check.specs.Lookups.{HasState}
 use Rattle.brc_check.specs.Tables.{state_at}

@@ -19,7 +19,7 @@ use Rattle.brc_run.proofs.running.run.Goals as goal
 -- Each worker that `fan_out` answers is gone.
 pub joined-counted-requires-clause-gone : goal.joined-counted-requires-clause-gone
 joined-counted-requires-clause-gone g c = λ k w below.
-    let hand = (c.in-Ok.ensures.gone k w below).hand_is in (hand.of, hand.gone, hand.no_slot)
+    let hand = (c.in-Ok.ensures.gone k w c.args.main_host.now below).hand_is in (hand.of, hand.gone, hand.no_field)
 
 -- The tally is that of the workers that `fan_out` answers, and of the end after main's leave.
 pub returns-clause-tally : goal.returns-clause-tally
@@ -29,7 +29,7 @@ returns-clause-tally g c = elim c.match-ran.branch [
       let as_many : vec_len gone ≡ c.args.plan.threads = w.in-Ok.ensures.one_each ∙ c.requires.one_each in
       let counted = c.left-failed.ensures.counted in
       let len : length (vec_items gone) ≡ vec_len gone = search rules in
-      let end = c.finished-end.result in
+      let end = c.finished-end.result.state in
       let m = c.args.checked.now.module in
       let opened : c.in_ok-heap.heap.layout ≡ layout_of m c.args.plan.threads c.args.plan.rows =
       c.in_ok-heap.ensures.layout
@@ -62,7 +62,7 @@ returns-clause-tally g c = elim c.match-ran.branch [
           gone = vec_items gone;
           end = end;
           one_each = search (rules, as_many);
-          each = λ k v below. w.in-Ok.ensures.gone k v (omega (arith, below, as_many));
+          each = λ k v h below. w.in-Ok.ensures.gone k v h (omega (arith, below, as_many));
           of = c.finished-end.ensures.table;
           layout = layout;
           ended = c.finished-end.ensures.ended;
@@ -77,8 +77,8 @@ returns-clause-tally g c = elim c.match-ran.branch [
               (λ i v below. subst (λ (u : HandState). let hand = (get_or (vec_items gone) i v).0 in
               HasJoined u.view (record { thread = hand.view.thread; used = hand.view.actor.used })) (sym w.main-is)
               (each i v (omega (arith, below, len))))
-              (λ i v below. (w.in-Ok.ensures.gone i v (omega (arith, below, len))).hand_is.thread_is)
-              (λ i v below. (w.in-Ok.ensures.gone i v (omega (arith, below, len))).created) k d
+              (λ i v below. (w.in-Ok.ensures.gone i v c.args.main_host.now (omega (arith, below, len))).hand_is.thread_is)
+              (λ i v below. (w.in-Ok.ensures.gone i v c.args.main_host.now (omega (arith, below, len))).created) k d
               (omega (arith, low, len, as_many))) no_totals;
         };
       }

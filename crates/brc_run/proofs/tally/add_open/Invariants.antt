@@ -7,5 +7,6 @@ use Rattle.brc_run.proofs.tally.add_open.Given as goal
 abbrev pub invariant-loop-row : goal.invariant-loop-row
 invariant-loop-row g l = record {
   first : l.first ≤ l.row;
-  passed : l.left ≡ l.fn.left ++ map (left_at l.fn.end) (filter (is_open l.fn.end) (rows_between l.first l.row));
+  passed : l.left
+      ≡ l.fn.left ++ map (left_at l.fn.end.state) (filter (is_open l.fn.end.state) (rows_between l.first l.row));
 }

@@ -8,5 +8,5 @@ use Rattle.brc_run.proofs.tally.born_in.Given as goal
 abbrev pub invariant-loop-row : goal.invariant-loop-row
 invariant-loop-row g l = record {
   first : l.first ≤ l.row;
-  counted : l.born ≡ count_by (was_born l.fn.end) (rows_between l.first l.row);
+  counted : l.born ≡ count_by (was_born l.fn.end.state) (rows_between l.first l.row);
 }

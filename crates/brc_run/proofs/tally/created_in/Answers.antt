@@ -7,8 +7,8 @@ use Rattle.brc_run.proofs.tally.created_in.Goals as goal
 
 pub overflow_add-result : goal.overflow_add-result
 overflow_add-result g c =
-    let front = few_pass (was_born c.args.end.now) root_row c.first_immortal_list.result in
-    let rear = few_pass (was_born c.args.end.now) c.first_number.result c.rows.result in
+    let front = few_pass (was_born c.args.end.now.state) root_row c.first_immortal_list.result in
+    let rear = few_pass (was_born c.args.end.now.state) c.first_number.result c.rows.result in
     omega (
       arith,
       front,
@@ -29,4 +29,4 @@ returns g c =
       c.first_immortal_list.ensures,
       c.first_number.ensures,
       c.rows.ensures,
-    ) (created_in_two c.args.end.now c.args.layout c.requires.layout)
+    ) (created_in_two c.args.end.now.state c.args.layout c.requires.layout)

@@ -8,5 +8,5 @@ use Rattle.brc_run.proofs.tally.gone_in.Given as goal
 abbrev pub invariant-loop-row : goal.invariant-loop-row
 invariant-loop-row g l = record {
   first : l.first ≤ l.row;
-  counted : l.closed ≡ count_by (is_closed l.fn.end) (rows_between l.first l.row);
+  counted : l.closed ≡ count_by (is_closed l.fn.end.state) (rows_between l.first l.row);
 }

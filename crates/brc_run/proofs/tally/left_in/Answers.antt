@@ -11,4 +11,4 @@ returns g c =
       c.first_immortal_list.ensures,
       c.first_number.ensures,
       c.rows.ensures,
-    ) (left_in_two c.args.end.now c.args.layout c.requires.layout)
+    ) (left_in_two c.args.end.now.state c.args.layout c.requires.layout)

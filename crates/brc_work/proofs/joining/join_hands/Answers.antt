@@ -19,15 +19,15 @@ join-requires g c =
     let same : get_or (vec_items c.args.gone) was.joined left ≡ left =
     sym (subst (λ xs. left ≡ get_or xs was.joined left) began.0 here) in
     let facts =
-    subst (λ w. IsOf c.args.heap.now w.0 × (w.0.view.actor.status ≡ Gone) × (w.0.slots ≡ [])) same
+    subst (λ w. IsOf c.args.heap.now w.0 × (w.0.view.actor.status ≡ Gone) × (w.0.fields ≡ [])) same
     (c.requires.gone was.joined left (omega (arith, was.passed, step.1, began.1))) in
-    record { table = search rules; other_table = search (rules, facts); gone = facts.1; no_slot = facts.2 }
+    record { table = search rules; other_table = search (rules, facts); gone = facts.1; no_field = facts.2 }
 
 pub loop-left-init : goal.loop-left-init
 loop-left-init g c = record {
   of = search rules;
   carried = search rules;
-  slots = search rules;
+  fields = search rules;
   more = joins_none c.args.main.now.view;
   joined = 0;
   passed = search rules;
@@ -48,7 +48,7 @@ loop-left-preserved g c =
     record {
       of = search rules;
       carried = c.join.ensures.kept.carried ∙ was.carried;
-      slots = c.join.ensures.kept.slots ∙ was.slots;
+      fields = c.join.ensures.kept.fields ∙ was.fields;
       more = joins_then c.args.main.now.view before after left.0.view was.more is;
       joined = was.joined + 1;
       passed = omega (arith, was.passed, step.1);

@@ -10,7 +10,7 @@ abbrev pub invariant-loop-left : goal.invariant-loop-left
 invariant-loop-left g l = record {
   of : IsOf l.fn.heap l.main;
   carried : l.main.carried ≡ l.fn.main.carried;
-  slots : l.main.slots ≡ l.fn.main.slots;
+  fields : l.main.fields ≡ l.fn.main.fields;
   more : JoinsMore l.fn.main.view l.main.view;
   joined : ℕ;
   passed : joined + into_iter_len l.left-iterator ≡ into_iter_len l.initial.left-iterator;

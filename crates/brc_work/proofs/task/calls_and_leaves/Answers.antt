@@ -44,12 +44,11 @@ returns g c =
           of = search rules;
           thread_is = left.thread ∙ run.called.follows.thread;
           gone = left.gone;
-          no_slot = left.slots ∙ (run.called.slots ∙ c.requires.fresh.no_slot);
+          no_field = left.fields ∙ (run.called.fields ∙ c.requires.fresh.no_field);
         };
         idle = left.idle;
         holds_none = left.holds_none;
         created = same ∙ (born ∙ omega (arith, none, bears, used));
-        first = c.args.host.now;
         later = c.leave-failed.new.host;
         asked = subst (λ (t : Totals). Asked g.H.Host.answers g.H.Host.counts c.args.host.now c.leave-failed.new.host
             no_totals t (λ calls. CallsAndLeaves program c.args.times c.args.steps (is_done c.with_totals.result) calls

@@ -12,13 +12,16 @@ invariant-loop-host g l = record {
   of : IsOf l.heap l.main;
   kept : KeepsMain l.fn.main.view l.main.view;
   carried : l.main.carried ≡ l.fn.main.carried;
-  slots : l.main.slots ≡ l.fn.main.slots;
+  fields : l.main.fields ≡ l.fn.main.fields;
   free : (t : ℕ) → l.thread ≤ t → is_given t l.main.view ≡ false;
   given : (t : ℕ) → is_given t l.main.view ≡ true → (k : ℕ) × (k < vec_len l.tasks) × (k + 1 ≡ t);
   number : l.thread ≡ vec_len l.tasks + 1;
   rest : vec_len l.tasks + length (iter_mut_rest l.host-iterator) ≡ length (iter_mut_rest l.initial.host-iterator);
   room : length (iter_mut_rest l.initial.host-iterator) ≤ vec_capacity l.tasks;
-  each : (k : ℕ) (t : _) → k < vec_len l.tasks → let task = get_or (vec_items l.tasks) k t in
-      job task.heap.now task.checked.now.module task.function task.times task.steps task.thread
-      ≡ job l.heap l.checked.module l.function l.times l.steps (k + 1);
+  place : (k : ℕ) (h : _) → k < length (iter_mut_rest l.host-iterator) → get_or (iter_mut_rest l.host-iterator) k h
+      ≡ get_or (iter_mut_rest l.initial.host-iterator) (vec_len l.tasks + k) h;
+  each : (k : ℕ) (t : _) (h : _) → k < vec_len l.tasks → let task = get_or (vec_items l.tasks) k t in
+      job task.heap.now task.checked.now.module task.function task.times task.steps task.thread task.host.now
+      ≡ job l.heap l.checked.module l.function l.times l.steps (k + 1)
+      (get_or (iter_mut_rest l.initial.host-iterator) k h);
 }

@@ -1,7 +1,7 @@
 use Rattle.std.proofs.Common.{◌≡◌}
 use Rattle.std.specs.Prelude.{drop, fold}
 use Rattle.brc_model.specs.Actions.{without_row}
-use Rattle.brc_model.specs.VarStates.{stolen}
+use Rattle.brc_model.specs.SlotStates.{stolen}
 use Rattle.brc_work.proofs.variables.keep.Given as goal
 
 -- what is left to be stolen leaves what all of it leaves

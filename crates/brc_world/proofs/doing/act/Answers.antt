@@ -18,16 +18,18 @@ returns-in-Some c =
     (reverse c.pop.new.self.items) c.in_default.not-Gone first in
     rw (does, first) (record {
       did = refl;
-      words = c.do_duty.ensures.word.words;
-      actor = c.do_duty.ensures.actor;
-      faults = c.count_duty.ensures;
-      same_words = tt;
-      same_actor = tt;
-      same_faults = tt;
+      turned = record {
+        words = c.do_duty.ensures.word.words;
+        actor = c.do_duty.ensures.actor;
+        faults_are = c.count_duty.ensures;
+        same_words = tt;
+        same_actor = tt;
+        same_faults = tt;
+        rows = c.do_duty.ensures.word.rows;
+        threads = c.do_duty.ensures.word.threads;
+        cells = c.do_duty.ensures.word.width;
+      };
       refused = tt;
-      as_many_rows = c.do_duty.ensures.word.rows;
-      as_many_threads = c.do_duty.ensures.word.threads;
-      as_many_cells = c.do_duty.ensures.word.width;
     })
 
 -- ---- no duty left
@@ -48,17 +50,8 @@ act_by_dispatch-requires c =
 pub returns-in-None : goal.returns-in-None
 returns-in-None c =
     let same = sym (append-nil c.pop.new.self.items) ∙ sym c.in-None.ensures.items ∙ c.in_ok-reserve.ensures.items in
-    let acts = c.act_by_dispatch.ensures in
     record {
-      did = rw same at acts.did;
-      words = rw same at acts.words;
-      actor = rw same at acts.actor;
-      faults = rw same at acts.faults;
-      same_words = tt;
-      same_actor = tt;
-      same_faults = tt;
+      did = rw same at c.act_by_dispatch.ensures.did;
+      turned = rw same at c.act_by_dispatch.ensures.turned;
       refused = tt;
-      as_many_rows = acts.as_many_rows;
-      as_many_threads = acts.as_many_threads;
-      as_many_cells = acts.as_many_cells;
     }

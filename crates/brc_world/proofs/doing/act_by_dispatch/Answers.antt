@@ -53,12 +53,17 @@ returns-in-Stuck c =
     (begun (goal.at.returns-in-Stuck c).After-dispatch starts.Stuck c.in-Stuck.is) in
     record {
       did = step.answer;
-      words = step.memory_is;
-      actor = step.actor;
-      faults = step.faults c.args.faults.now;
-      as_many_rows = refl;
-      as_many_threads = refl;
-      as_many_cells = refl;
+      turned = record {
+        words = step.memory_is;
+        actor = step.actor;
+        faults_are = step.faults c.args.faults.now;
+        same_words = tt;
+        same_actor = tt;
+        same_faults = tt;
+        rows = refl;
+        threads = refl;
+        cells = refl;
+      };
     }
 
 pub returns-in-Moved : goal.returns-in-Moved
@@ -69,12 +74,17 @@ returns-in-Moved c =
     (begun (goal.at.returns-in-Moved c).After-dispatch starts.Moved c.in-Moved.is) in
     record {
       did = step.answer;
-      words = step.memory_is;
-      actor = step.actor;
-      faults = step.faults c.args.faults.now;
-      as_many_rows = refl;
-      as_many_threads = refl;
-      as_many_cells = refl;
+      turned = record {
+        words = step.memory_is;
+        actor = step.actor;
+        faults_are = step.faults c.args.faults.now;
+        same_words = tt;
+        same_actor = tt;
+        same_faults = tt;
+        rows = refl;
+        threads = refl;
+        cells = refl;
+      };
     }
 
 pub returns-in-Calling : goal.returns-in-Calling
@@ -85,12 +95,17 @@ returns-in-Calling c =
     (begun (goal.at.returns-in-Calling c).After-dispatch (starts.Calling c.in-Calling.call) c.in-Calling.is) in
     record {
       did = step.answer;
-      words = step.memory_is;
-      actor = c.end_call.ensures ∙ step.actor;
-      faults = c.count_call.ensures ∙ step.faults c.args.faults.now;
-      as_many_rows = refl;
-      as_many_threads = refl;
-      as_many_cells = refl;
+      turned = record {
+        words = step.memory_is;
+        actor = c.end_call.ensures ∙ step.actor;
+        faults_are = c.count_call.ensures ∙ step.faults c.args.faults.now;
+        same_words = tt;
+        same_actor = tt;
+        same_faults = tt;
+        rows = refl;
+        threads = refl;
+        cells = refl;
+      };
     }
 
 -- ---- a duty
@@ -120,16 +135,21 @@ returns-in-Doing c =
     (begun (goal.at.returns-in-Doing c).After-dispatch start c.in-Doing.is) refl in
     record {
       did = step.answer;
-      words = duty.word.words ∙ step.memory_is;
-      actor =
-          goes_on start c.args.exit c.do_duty.result before c.do_duty.new.thread
-          (actor_after c.args.blocks c.args.number (word_in c.args.memory.now) (actor_of before) c.in-Doing.duty)
-          duty.actor duty.mode duty.calls duty.turns duty.outer duty.point duty.variables
-          ∙ step.actor;
-      faults = c.count_duty.ensures ∙ step.faults c.args.faults.now;
-      as_many_rows = duty.word.rows;
-      as_many_threads = duty.word.threads;
-      as_many_cells = duty.word.width;
+      turned = record {
+        words = duty.word.words ∙ step.memory_is;
+        actor =
+            goes_on start c.args.exit c.do_duty.result before c.do_duty.new.thread
+            (actor_after c.args.blocks c.args.number (word_in c.args.memory.now) (actor_of before) c.in-Doing.duty)
+            duty.actor duty.mode duty.calls duty.turns duty.outer duty.point duty.variables
+            ∙ step.actor;
+        faults_are = c.count_duty.ensures ∙ step.faults c.args.faults.now;
+        same_words = tt;
+        same_actor = tt;
+        same_faults = tt;
+        rows = duty.word.rows;
+        threads = duty.word.threads;
+        cells = duty.word.width;
+      };
     }
 
 -- ---- a duty whose word answers a question
@@ -169,16 +189,21 @@ returns-in-Asking c =
     (begun (goal.at.returns-in-Asking c).After-dispatch start c.in-Asking.is) refl in
     record {
       did = step.answer;
-      words = duty.word.words ∙ step.memory_is;
-      actor = c.answer.ensures
-          ∙ goes_on start c.args.exit c.do_duty-found.result before c.do_duty-found.new.thread done duty.actor duty.mode
-          duty.calls duty.turns duty.outer duty.point duty.variables
-          ∙ ap (λ (found : ℕ). at_place done (place_after start c.args.exit found before)) duty.found
-          ∙ step.actor;
-      faults = c.count_duty-in-Asking.ensures ∙ step.faults c.args.faults.now;
-      as_many_rows = duty.word.rows;
-      as_many_threads = duty.word.threads;
-      as_many_cells = duty.word.width;
+      turned = record {
+        words = duty.word.words ∙ step.memory_is;
+        actor = c.answer.ensures
+            ∙ goes_on start c.args.exit c.do_duty-found.result before c.do_duty-found.new.thread done duty.actor duty.mode
+            duty.calls duty.turns duty.outer duty.point duty.variables
+            ∙ ap (λ (found : ℕ). at_place done (place_after start c.args.exit found before)) duty.found
+            ∙ step.actor;
+        faults_are = c.count_duty-in-Asking.ensures ∙ step.faults c.args.faults.now;
+        same_words = tt;
+        same_actor = tt;
+        same_faults = tt;
+        rows = duty.word.rows;
+        threads = duty.word.threads;
+        cells = duty.word.width;
+      };
     }
 
 -- ---- a lock
@@ -212,14 +237,19 @@ returns-in-Locking c =
     (begun (goal.at.returns-in-Locking c).After-dispatch start c.in-Locking.is) refl in
     record {
       did = c.enter.ensures.did ∙ ap entering duty.found ∙ step.answer;
-      words = duty.word.words ∙ step.memory_is;
-      actor = c.enter.ensures.actor
-          ∙ goes_on start c.args.exit c.do_duty-found-in-Locking.result before c.do_duty-found-in-Locking.new.thread
-          done duty.actor duty.mode duty.calls duty.turns duty.outer duty.point duty.variables
-          ∙ ap (λ (found : ℕ). at_place done (place_after start c.args.exit found before)) duty.found
-          ∙ step.actor;
-      faults = step.faults c.args.faults.now;
-      as_many_rows = duty.word.rows;
-      as_many_threads = duty.word.threads;
-      as_many_cells = duty.word.width;
+      turned = record {
+        words = duty.word.words ∙ step.memory_is;
+        actor = c.enter.ensures.actor
+            ∙ goes_on start c.args.exit c.do_duty-found-in-Locking.result before c.do_duty-found-in-Locking.new.thread
+            done duty.actor duty.mode duty.calls duty.turns duty.outer duty.point duty.variables
+            ∙ ap (λ (found : ℕ). at_place done (place_after start c.args.exit found before)) duty.found
+            ∙ step.actor;
+        faults_are = step.faults c.args.faults.now;
+        same_words = tt;
+        same_actor = tt;
+        same_faults = tt;
+        rows = duty.word.rows;
+        threads = duty.word.threads;
+        cells = duty.word.width;
+      };
     }

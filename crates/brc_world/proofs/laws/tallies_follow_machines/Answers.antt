@@ -20,5 +20,5 @@ returns c = λ p m of.
       were_born = at_machine ClosedWereBorn p m of (c.closed_rows_were_born.ensures p of.fits of.accepted);
       closed_once = at_machine ClosedOnce p m of (c.a_row_is_finalised_once.ensures p of.fits of.accepted);
       gates = at_machine GatesTell p m of (c.gates_tell_what_is_closed.ensures p of.fits of.accepted);
-      kinds = (at_machine IsSafeNow p m of (c.accepted_is_safe.ensures p of.fits of.accepted)).kinds;
+      kinds = (at_machine IsSafeNow p m of (c.accepted_is_safe.ensures p of.fits of.accepted).runs).kinds;
     })

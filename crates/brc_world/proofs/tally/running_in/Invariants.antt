@@ -1,11 +1,12 @@
-use Rattle.std.proofs.Common.{◌≡◌, ◌+◌, ◌≤◌}
-use Rattle.std.specs.Prelude.{count_by, drop}
-use Rattle.brc_world.proofs.Tallying.{runs_still}
+use Rattle.std.proofs.Common.{◌≡◌, ◌≤◌, take}
+use Rattle.std.specs.Prelude.{count_by}
+use Rattle.brc_machine.specs.MachineTallies.{still_runs}
+use Rattle.brc_world.specs.Actors.{actor_of}
 use Rattle.brc_world.proofs.tally.running_in.Given as goal
 
--- those that are counted and those left are all that run
+-- the running threads so far are counted
 abbrev pub invariant-loop-thread : goal.invariant-loop-thread
 invariant-loop-thread l = record {
   few : l.running ≤ l.thread-index;
-  all : l.running + count_by runs_still (drop l.thread-index l.threads) ≡ count_by runs_still l.threads;
+  all : l.running ≡ count_by (λ thread. still_runs (actor_of thread)) (take l.thread-index l.threads);
 }

@@ -14,8 +14,8 @@ returns-in-SetMark c = rw c.in-SetMark.is (c.set_mark.ensures _)
 pub returns-in-Die : goal.returns-in-Die
 returns-in-Die c = rw c.in-Die.is (c.die.ensures _)
 
-pub returns-in-TakeSlot : goal.returns-in-TakeSlot
-returns-in-TakeSlot c = rw c.in-TakeSlot.is (c.take_slot.ensures _)
+pub returns-in-TakeField : goal.returns-in-TakeField
+returns-in-TakeField c = rw c.in-TakeField.is (c.take_field.ensures _)
 
 pub returns-in-Leave : goal.returns-in-Leave
 returns-in-Leave c = rw c.in-Leave.is (c.leave.ensures _)
@@ -26,8 +26,8 @@ returns-in-Finish c = rw c.in-Finish.is (c.finish.ensures _)
 pub returns-in-BirthKind : goal.returns-in-BirthKind
 returns-in-BirthKind c = rw c.in-BirthKind.is (c.birth_kind.ensures _)
 
-pub returns-in-BirthSlot : goal.returns-in-BirthSlot
-returns-in-BirthSlot c = rw c.in-BirthSlot.is (c.birth_slot.ensures _)
+pub returns-in-BirthField : goal.returns-in-BirthField
+returns-in-BirthField c = rw c.in-BirthField.is (c.birth_field.ensures _)
 
 pub returns-in-BirthLocal : goal.returns-in-BirthLocal
 returns-in-BirthLocal c = rw c.in-BirthLocal.is (c.birth_local.ensures _ _ _)
@@ -35,8 +35,8 @@ returns-in-BirthLocal c = rw c.in-BirthLocal.is (c.birth_local.ensures _ _ _)
 pub returns-in-UnlockGate : goal.returns-in-UnlockGate
 returns-in-UnlockGate c = rw c.in-UnlockGate.is (c.unlock_gate.ensures _ _)
 
-pub returns-in-ReturnSlot : goal.returns-in-ReturnSlot
-returns-in-ReturnSlot c = rw c.in-ReturnSlot.is (c.return_slot.ensures _ _)
+pub returns-in-ReturnField : goal.returns-in-ReturnField
+returns-in-ReturnField c = rw c.in-ReturnField.is (c.return_field.ensures _ _)
 
 pub returns-in-CellSwap : goal.returns-in-CellSwap
 returns-in-CellSwap c = rw c.in-CellSwap.is (c.cell_swap.ensures _ _ _ _)

@@ -1,12 +1,12 @@
 use Rattle.std.proofs.Common.{◌≡◌, ℕ, ◌-◌, true, false, List, [], ◌∷◌, ◌++◌, refl, sym, ap, ◌∙◌, subst}
 use Rattle.brc_model.specs.declared.duty.Duty.{Duty}
-use Rattle.brc_model.specs.declared.duty.Duty.TheVariants.{Settle, SettleKind, SettleEnd, TakeSlot}
+use Rattle.brc_model.specs.declared.duty.Duty.TheVariants.{Settle, SettleKind, SettleEnd, TakeField}
 use Rattle.brc_model.specs.Duties.{has_resource, cells_of, cells_from}
 use Rattle.brc_table.specs.Hands.{TableState}
 use Rattle.brc_table.specs.Accesses.{IsNext}
 use Rattle.brc_table.specs.Calls.{ClosesRow}
 use Rattle.brc_free.specs.Works.{HasWorked, ComesToSettle, to_settle, behind}
-use Rattle.brc_free.proofs.FirstDuties.{settle_kind_first, take_slot_first, settle_end_first}
+use Rattle.brc_free.proofs.FirstDuties.{settle_kind_first, take_field_first, settle_end_first}
 use Rattle.brc_free.proofs.Working.{head_unlocked, worked_call}
 use Rattle.brc_free.proofs.SettleDuties.{comes_alive, taken_off, kind_has_resource, cells_next, cells_first, all_closed, ended}
 use Rattle.brc_host.specs.HostCalls.{NoCall}
@@ -22,10 +22,10 @@ off g c rest comes =
     taken_off _ _ _ c.gate_load.result rest c.requires.chain (ap (λ (n : ℕ). n - 1) c.head-row.ensures) comes
     c.gate_load.ensures.view c.rows_are_there.ensures
 
--- An object that has a resource: it is taken out of its slot next.
+-- An object that has a resource: it is taken out of its field next.
 resource : (g : given.Over) (c : After-step-kind g) (rest : List Duty)
     → ComesToSettle c.args.hand.now.view rest → has_resource c.step-kind.result ≡ true
-    → HasWorked (to_settle rest c.args.hand.now.view) [] (TakeSlot (c.head-row.result - 1) ∷ Settle ∷ rest)
+    → HasWorked (to_settle rest c.args.hand.now.view) [] (TakeField (c.head-row.result - 1) ∷ Settle ∷ rest)
     c.step-kind.new.hand.view
 resource g c rest comes has =
     kind_has_resource _ _ _ [] _ c.step-kind.result (Settle ∷ rest) (off g c rest comes)
@@ -105,14 +105,14 @@ pub close_resource-requires-clause-duty : goal.close_resource-requires-clause-du
 close_resource-requires-clause-duty g c = λ κs lives.
     let at = resource g (goal.at.close_resource-requires-clause-duty g c).After-step-kind _ c.requires.duty.1
     (sym c.has_resource.ensures ∙ c.if-has_resource.true) in
-    record { rest = Settle ∷ c.requires.duty.0; next = at.agenda ∙ take_slot_first _ _ _ }
+    record { rest = Settle ∷ c.requires.duty.0; next = at.agenda ∙ take_field_first _ _ _ }
 
 pub returns-then-has_resource-clause-work : goal.returns-then-has_resource-clause-work
 returns-then-has_resource-clause-work g c = λ rest comes.
     let at = resource g (goal.at.returns-then-has_resource-clause-work g c).After-step-kind rest comes
     (sym c.has_resource.ensures ∙ c.if-has_resource.true) in
     let one = c.close_resource.ensures.work in
-    (one.0, worked_call _ _ _ one.0 _ behind at (take_slot_first _ _ _) one.1, one.2, one.3)
+    (one.0, worked_call _ _ _ one.0 _ behind at (take_field_first _ _ _) one.1, one.2, one.3)
 
 pub close_cells-requires-clause-alive : goal.close_cells-requires-clause-alive
 close_cells-requires-clause-alive g c = λ gone.

@@ -8,7 +8,7 @@ pub first_local_store-requires-clause-duty : goal.first_local_store-requires-cla
 first_local_store-requires-clause-duty g c = elim c.match-resource.branch [
   | in-Some put ↦
       owns_after c.args.hand.now.view c.args.word
-      (ap (λ (h : HandState). h.view) put.hand-is ∙ (put.slot_put.ensures.view ∙ c.kind_store-row.ensures.view))
+      (ap (λ (h : HandState). h.view) put.hand-is ∙ (put.field_put.ensures.view ∙ c.kind_store-row.ensures.view))
       c.kind_store-row.ensures.row
   | in_default none ↦
       owns_after c.args.hand.now.view c.args.word

@@ -81,7 +81,7 @@ loop-thread-preserved g c =
           below_next (SeesEnd c.thread_peek-word.new.hand.view) c.loop-thread.thread
           (λ t low. peek.keeps t (kept.seen t low)) (peek.sees kept.main is);
       carried = peek.kept.carried ∙ kept.carried;
-      slots = peek.kept.slots ∙ kept.slots;
+      fields = peek.kept.fields ∙ kept.fields;
       words = kept.words ++ word ∷ [];
       each = length-append kept.words (word ∷ []) ∙ omega (arith, kept.each);
       ended = All-append (λ (w : ℕ). (w ≡ 0) ⊎ (w ≡ 3)) kept.words (word ∷ []) kept.ended (ended_one word is);
@@ -94,7 +94,7 @@ loop-thread-preserved g c =
 -- Main's hand has seen the end of each thread, and the table was closed with it.
 pub returns-clause-ended : goal.returns-clause-ended
 returns-clause-ended g c =
-    let end = c.close.result in
+    let end = c.close.result.state in
     let ends = c.close.ensures.ends in
     let kept = c.loop-thread.invariant in
     let workers : end.layout.workers ≡ c.workers-workers.result =
@@ -111,8 +111,8 @@ returns-clause-ended g c =
       threads = ended;
       rows = λ x counted there.
           c.rows_end_in_every_table.ensures (plan_at end) end.words ends.views x ends.stands ended counted there;
-      slots = λ x counted there.
-          c.slots_end_in_every_table.ensures c.loop-thread.main.view end x ends ended counted there;
+      fields = λ x counted there.
+          c.fields_end_in_every_table.ensures c.loop-thread.main.view end x ends ended counted there;
       first = λ x some there. c.first_kinds_stay.ensures c.loop-thread.main.view end x ends some there;
     }
 
@@ -132,13 +132,13 @@ returns-clause-closed g c =
             ap (λ (w : TableState). w.layout.workers) c.self-2.view_is,
           );
       ended = kept.ended;
-      ends = subst (λ (v : View). EndsWith v c.close.result) kept.looked c.close.ensures.ends;
+      ends = subst (λ (v : View). EndsWith v c.close.result.state) kept.looked c.close.ensures.ends;
     }
 
 -- The rule tells the rows of joined hands, and main's hand has joined none on the way.
 pub returns-clause-joined : goal.returns-clause-joined
 returns-clause-joined g c =
-    let end = c.close.result in
+    let end = c.close.result.state in
     let ends = c.close.ensures.ends in
     let kept = c.loop-thread.invariant in
     subst (λ (v : View). All (RowsAreUsed end.layout end.words) v.joined) kept.looked

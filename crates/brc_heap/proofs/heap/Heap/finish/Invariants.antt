@@ -15,7 +15,7 @@ invariant-loop-thread g l = record {
   most : l.thread ≤ l.workers + 1;
   seen : (t : ℕ) → t < l.thread → SeesEnd l.main.view t;
   carried : l.main.carried ≡ l.fn.main.carried;
-  slots : l.main.slots ≡ l.fn.main.slots;
+  fields : l.main.fields ≡ l.fn.main.fields;
   words : List ℕ;
   each : length words ≡ l.thread;
   ended : AllEnded words;

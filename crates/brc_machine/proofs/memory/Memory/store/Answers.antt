@@ -32,10 +32,10 @@ returns-in-Cell c =
     let there = rw (c.in-Cell.is, sym c.self.view_is) at c.requires in
     rw (c.in-Cell.is, sym c.self.view_is, c.from.ensures) (stored _ _ c.args.word c.self.invariant there)
 
-pub returns-in-Slot : goal.returns-in-Slot
-returns-in-Slot c =
-    let there = rw (c.in-Slot.is, sym c.self.view_is) at c.requires in
-    rw (c.in-Slot.is, sym c.self.view_is) (stored _ _ c.args.word c.self.invariant there)
+pub returns-in-Field : goal.returns-in-Field
+returns-in-Field c =
+    let there = rw (c.in-Field.is, sym c.self.view_is) at c.requires in
+    rw (c.in-Field.is, sym c.self.view_is) (stored _ _ c.args.word c.self.invariant there)
 
 pub returns-in-Resource : goal.returns-in-Resource
 returns-in-Resource c =

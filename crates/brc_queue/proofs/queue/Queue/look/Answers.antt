@@ -11,9 +11,9 @@ use Rattle.brc_queue.proofs.queue.Queue.look.Goals as goal
 pub returns-clause-left : goal.returns-clause-left
 returns-clause-left g c =
     stepped_leaves (turned_works c.args.row c.args.hand.now.view)
-    (subst (λ (ds : List Duty). HasStepped (turned c.args.hand.now.view c.args.row) ds c.look_after.new.hand.view)
-    (append-nil (look_left c.args.row c.look_after.result)) (c.look_after.ensures.left [] c.requires.duty))
-    (look_piece c.args.row c.look_after.result)
+    (subst (λ (ds : List Duty). HasStepped (turned c.args.hand.now.view c.args.row) ds c.check_owner.new.hand.view)
+    (append-nil (look_left c.args.row c.check_owner.result)) (c.check_owner.ensures.left [] c.requires.duty))
+    (look_piece c.args.row c.check_owner.result)
 
 pub returns-clause-references : goal.returns-clause-references
-returns-clause-references g c = (c.look_after.ensures.left [] c.requires.duty).keeps.references
+returns-clause-references g c = (c.check_owner.ensures.left [] c.requires.duty).keeps.references

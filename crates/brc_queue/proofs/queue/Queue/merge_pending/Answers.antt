@@ -28,9 +28,9 @@ pub loop-word-preserved : goal.loop-word-preserved
 loop-word-preserved g c =
     let v = c.args.hand.now.view in
     let u = c.loop-word.hand.view in
-    let w = c.look_at.new.hand.view in
+    let w = c.claim_word.new.hand.view in
     let kept = c.loop-word.invariant in
-    let one = c.look_at.ensures in
+    let one = c.claim_word.ensures in
     let before = kept.4 in (
       kept_on kept.0 one.kept,
       one.free,
@@ -40,15 +40,15 @@ loop-word-preserved g c =
         before.0 ++ one.work.0,
         NextWord c.loop-word.word before.0 one.work.0 u w before.1 one.work.1,
         c.saturating_add-failed.ensures
-            ∙ (sums_both c.loop-word.failed c.look_at.result (close_faults before.0) (close_faults one.work.0) before.2
+            ∙ (sums_both c.loop-word.failed c.claim_word.result (close_faults before.0) (close_faults one.work.0) before.2
             one.work.2
             ∙ ap (λ (n : ℕ). raised n 0) (sym (close_faults_then before.0 one.work.0))),
         answered_then before.3 one.work.3,
       ),
     )
 
-pub look_at-requires-clause-used : goal.look_at-requires-clause-used
-look_at-requires-clause-used g c =
+pub claim_word-requires-clause-used : goal.claim_word-requires-clause-used
+claim_word-requires-clause-used g c =
     let v = c.args.hand.now.view in
     let kept = c.loop-word.invariant in
     omega (

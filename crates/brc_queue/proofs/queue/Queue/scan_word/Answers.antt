@@ -32,7 +32,7 @@ loop-marks-init g c =
       record {
         table = c.step-found.ensures.table;
         carried = c.step-found.ensures.carried;
-        slots = c.step-found.ensures.slots;
+        fields = c.step-found.ensures.fields;
       },
       scan_head v c.step-found.new.hand.view used c.args.word found c.requires.duty c.step-found.ensures.view
           c.requires.settled,

@@ -3,7 +3,7 @@ use Rattle.std.specs.Slots.{slots_filled, slots_len}
 use Rattle.std.specs.Slots.Ownership.{Filled}
 use Rattle.brc_table.proofs.closed.Closed.drop.Given as goal
 
--- The slots from the next one on still have their values, and those before it are empty.
+-- The fields from the next one on still have their values, and those before it are empty.
 abbrev pub invariant-loop-i : goal.invariant-loop-i
 invariant-loop-i g l =
     Filled (slots_filled l.table.slots) l.i (slots_len l.table.slots)

@@ -3,4 +3,5 @@ use Rattle.brc_table.proofs.closed.Closed.first_rows_are_few.Goals as goal
 
 pub returns : goal.returns
 returns g c =
-    few_by_lines c.args.self.now.lines c.args.self.now.layout c.layout_is_plain.ensures c.lines_are_there.ensures
+    let state = c.args.self.now.state in
+    few_by_lines state.lines state.layout c.layout_is_plain.ensures c.lines_are_there.ensures

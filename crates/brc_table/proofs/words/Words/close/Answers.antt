@@ -29,7 +29,7 @@ invariant_of-result g c =
           (subst (CellsNameRows key.layout) last.2
           (cells_name_rows c.items_are_there.ensures key last.0.words last.0.views holds.stands)),
       (slots_counts c.close_with.result.slots).0
-          ∙ (sym last.3 ∙ (holds.slots.rows ∙ ap row_count (holds.stands.layout_is ∙ sym is))),
+          ∙ (sym last.3 ∙ (holds.fields.rows ∙ ap row_count (holds.stands.layout_is ∙ sym is))),
       c.self.invariant.3 ∙ sym is,
       subst (λ (l : Layout). HasLines c.of-of.result.value.lines l) (sym is)
           (subst (λ (w : TableState). HasLines w.lines key.layout) (c.self.view_is ∙ sym c.of-of.ensures)

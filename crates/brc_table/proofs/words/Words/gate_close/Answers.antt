@@ -4,15 +4,15 @@ use Rattle.brc_model.specs.Layout.{row_count}
 use Rattle.brc_table.specs.Hands.{plan_of}
 use Rattle.brc_table.proofs.DyingDuties.{gate_close_next, gate_close_there, close_due}
 use Rattle.brc_table.proofs.Silent.{emptied_becomes, emptied_alive}
-use Rattle.brc_table.proofs.SlotLists.{taken_once}
+use Rattle.brc_table.proofs.FieldLists.{taken_once}
 use Rattle.brc_table.proofs.words.Words.gate_close.Goals as goal
 
 pub step_from-requires-clause-begins : goal.step_from-requires-clause-begins
 step_from-requires-clause-begins g c =
     let v = c.args.hand.now.view in
-    emptied_becomes c.duties_are_kept.ensures c.needed_slots_are_unlocked.ensures (plan_of c.args.self.now) c.args.row v
+    emptied_becomes c.duties_are_kept.ensures c.needed_fields_are_unlocked.ensures (plan_of c.args.self.now) c.args.row v
     v.actor.agenda refl c.requires.duty c.requires.alive
-    (taken_once c.args.hand.now c.args.row 0 c.slots_are_taken.ensures c.requires.slot)
+    (taken_once c.args.hand.now c.args.row 0 c.fields_are_taken.ensures c.requires.field)
 
 pub step_from-requires-clause-there : goal.step_from-requires-clause-there
 step_from-requires-clause-there g c =
@@ -30,4 +30,4 @@ step_from-requires-clause-next g c =
 
 pub step_from-requires-clause-due : goal.step_from-requires-clause-due
 step_from-requires-clause-due g c =
-    let v = c.args.hand.now.view in (0, c.requires.slot, close_due v c.args.row v.actor.agenda refl c.requires.duty)
+    let v = c.args.hand.now.view in (0, c.requires.field, close_due v c.args.row v.actor.agenda refl c.requires.duty)

@@ -25,4 +25,4 @@ pub step_from-requires-clause-next : goal.step_from-requires-clause-next
 step_from-requires-clause-next g c = refl
 
 pub step_from-requires-clause-due : goal.step_from-requires-clause-due
-step_from-requires-clause-due g c = (c.args.hand.now.view.in_slot, c.requires.slot, refl)
+step_from-requires-clause-due g c = (c.args.hand.now.view.in_field, c.requires.field, refl)

@@ -27,8 +27,8 @@ step_from-requires-clause-next g c = refl
 pub returns-clause-stays : goal.returns-clause-stays
 returns-clause-stays g c = c.step_from.ensures.finds.0
 
-pub returns-clause-slot : goal.returns-clause-slot
-returns-clause-slot g c = c.step_from.ensures.finds.1
+pub returns-clause-field : goal.returns-clause-field
+returns-clause-field g c = c.step_from.ensures.finds.1
 
 pub returns-clause-first : goal.returns-clause-first
 returns-clause-first g c =

@@ -4,7 +4,7 @@ use Rattle.brc_table.specs.declared.view.View.{View}
 use Rattle.brc_table.specs.Hands.{TableState, HandState, IsRunning, HasNoWork, HoldsOne}
 use Rattle.brc_table.specs.Places.{word_count, in_tile}
 use Rattle.brc_table.proofs.Places.{header_within}
-use Rattle.brc_table.proofs.SlotSteps.{lock_allowed}
+use Rattle.brc_table.proofs.FieldSteps.{lock_allowed}
 use Rattle.brc_table.proofs.words.Words.lock_gate.Goals as goal
 
 pub compare_exchange-requires : goal.compare_exchange-requires

@@ -11,14 +11,14 @@ use Rattle.brc_model.specs.declared.layout.Layout.{Layout}
 use Rattle.brc_model.specs.Duties.{address_of, new_word, new_head}
 use Rattle.brc_model.specs.Layout.{block_size}
 use Rattle.brc_model.specs.Machine.{is_running, status_by, used_by}
-use Rattle.brc_model.specs.SlotLaws.{use_of}
+use Rattle.brc_model.specs.FieldLaws.{use_of}
 use Rattle.brc_model.specs.Stores.{Overwrites}
 use Rattle.brc_model.specs.Within.{Suits}
 use Rattle.brc_table.specs.declared.view.View.{View}
 use Rattle.brc_effect.specs.Accesses.{IfStored, left_by}
 use Rattle.brc_table.specs.Accesses.{HasAccess, IsNext}
 use Rattle.brc_table.specs.Begins.{KeepsButWork}
-use Rattle.brc_table.specs.DutySteps.{DueSlot, Steps, StepsBy}
+use Rattle.brc_table.specs.DutySteps.{DueField, Steps, StepsBy}
 use Rattle.brc_table.specs.Hands.{HandState, TableState, plan_of}
 use Rattle.brc_table.specs.Rule.{reading}
 use Rattle.brc_table.specs.Views.{RowsAreThere}
@@ -118,7 +118,7 @@ operate-word-requires-clause-allowed g c =
     → left_by access found ≡ new_word u.layout hand.thread k d found) head
     (subst (λ (l : Layout). (running : Bool) (n found : ℕ) → found < 2 ^ 64 → Suits hand.thread running n d found
     → left_by access found ≡ new_word l hand.thread hand.head d found) layout c.access_of-access.ensures.word)))
-    (subst (λ (h : HandState). DueSlot (use_of d 0) h.slots (begins h.view)) (sym view_is) c.requires.due))
+    (subst (λ (h : HandState). DueField (use_of d 0) h.fields (begins h.view)) (sym view_is) c.requires.due))
 
 pub operate-word-requires-clause-before : goal.operate-word-requires-clause-before
 operate-word-requires-clause-before g c =
@@ -233,17 +233,11 @@ invariant_of-hand g c =
       fits.8,
     )
 
-pub returns-clause-table : goal.returns-clause-table
-returns-clause-table g c = c.operate-word.ensures.table ∙ ap (λ (h : HandState). h.table) c.hand.view_is
-
-pub returns-clause-carried : goal.returns-clause-carried
-returns-clause-carried g c = ap (λ (h : HandState). h.carried) c.hand.view_is
-
 -- What a caller reads off the step.
 record Made (lines : List (List ℕ)) (begins : View → View) (hand : HandState) (d : Duty) (found : ℕ) (after : View)
-    (slots : List (ℕ × ℕ))
+    (fields : List (ℕ × ℕ))
     : Type 0 where
-  slots_are : slots ≡ held_after hand.slots (use_of d 0) (first_due (d ∷ []) found)
+  fields_are : fields ≡ held_after hand.fields (use_of d 0) (first_due (d ∷ []) found)
   view_is : after ≡ view_after (begins hand.view) found
   overwrites : Overwrites hand.view.thread d found
   suits : SuitsFirst (begins hand.view) (begins hand.view).actor.agenda found
@@ -253,18 +247,18 @@ record Made (lines : List (List ℕ)) (begins : View → View) (hand : HandState
 
 made : (lines : List (List ℕ)) (begins : View → View) (hand : HandState) (d : Duty) {T : Type 0}
     (me after : Me (Option T) View)
-    (word found : ℕ) → me.0 ≡ hand.view → held_in me.1 ≡ hand.slots → KeepsButWork hand.view (begins hand.view)
+    (word found : ℕ) → me.0 ≡ hand.view → held_in me.1 ≡ hand.fields → KeepsButWork hand.view (begins hand.view)
     → IsNext d (begins hand.view).actor.agenda → HasAccess d → StepsBy lines begins me word after
     → ((layout : Layout) (t head : ℕ) → found ≡ reading (address_of layout t head d) word)
     → Made lines begins hand d found after.0 (held_in after.1)
-made lines begins hand d me after word found view_is slots_is same coming known steps says =
+made lines begins hand d me after word found view_is fields_is same coming known steps says =
     let u = begins me.0 in
     let is = subst (λ (v : View). IsNext d (begins v).actor.agenda) (sym view_is) coming in
     let step = stepped lines begins d me after word found is known steps (says u.layout u.thread u.actor.head) in
     record {
-      slots_are =
-          step.0.3 ∙ (next.slots_next u d is known (held_in me.1) found
-          ∙ ap (λ (l : List (ℕ × ℕ)). held_after l (use_of d 0) (first_due (d ∷ []) found)) slots_is);
+      fields_are =
+          step.0.3 ∙ (next.fields_next u d is known (held_in me.1) found
+          ∙ ap (λ (l : List (ℕ × ℕ)). held_after l (use_of d 0) (first_due (d ∷ []) found)) fields_is);
       view_is = step.0.0 ∙ ap (λ (v : View). view_after (begins v) found) view_is;
       overwrites =
           subst (λ (t : ℕ). Overwrites t d found) (ap (λ (v : View). (begins v).thread) view_is
@@ -276,60 +270,24 @@ made lines begins hand d me after word found view_is slots_is same coming known 
       first = subst (λ (v : View). FindsFirst lines (begins v) (begins v).actor.agenda found) view_is step.5;
     }
 
-pub returns-clause-slots : goal.returns-clause-slots
-returns-clause-slots g c =
-    (made g.B.Begins.lines g.B.Begins.begins c.args.hand.now c.args.duty.now c.hand.inside.seat.me
-    c.operate-word.new.seat.me c.operate-word.result c.said_by-found.result
-    (ap (λ (h : HandState). h.view) c.hand.view_is)
-    (ap (λ (h : HandState). h.slots) c.hand.view_is) c.requires.begins.same c.requires.next c.requires.known
-    c.operate-word.ensures.step c.said_by-found.ensures).slots_are
-
-pub returns-clause-view : goal.returns-clause-view
-returns-clause-view g c =
-    (made g.B.Begins.lines g.B.Begins.begins c.args.hand.now c.args.duty.now c.hand.inside.seat.me
-    c.operate-word.new.seat.me c.operate-word.result c.said_by-found.result
-    (ap (λ (h : HandState). h.view) c.hand.view_is)
-    (ap (λ (h : HandState). h.slots) c.hand.view_is) c.requires.begins.same c.requires.next c.requires.known
-    c.operate-word.ensures.step c.said_by-found.ensures).view_is
-
-pub returns-clause-overwrites : goal.returns-clause-overwrites
-returns-clause-overwrites g c =
-    (made g.B.Begins.lines g.B.Begins.begins c.args.hand.now c.args.duty.now c.hand.inside.seat.me
-    c.operate-word.new.seat.me c.operate-word.result c.said_by-found.result
-    (ap (λ (h : HandState). h.view) c.hand.view_is)
-    (ap (λ (h : HandState). h.slots) c.hand.view_is) c.requires.begins.same c.requires.next c.requires.known
-    c.operate-word.ensures.step c.said_by-found.ensures).overwrites
-
-pub returns-clause-suits : goal.returns-clause-suits
-returns-clause-suits g c =
-    (made g.B.Begins.lines g.B.Begins.begins c.args.hand.now c.args.duty.now c.hand.inside.seat.me
-    c.operate-word.new.seat.me c.operate-word.result c.said_by-found.result
-    (ap (λ (h : HandState). h.view) c.hand.view_is)
-    (ap (λ (h : HandState). h.slots) c.hand.view_is) c.requires.begins.same c.requires.next c.requires.known
-    c.operate-word.ensures.step c.said_by-found.ensures).suits
-
-pub returns-clause-owner : goal.returns-clause-owner
-returns-clause-owner g c =
-    (made g.B.Begins.lines g.B.Begins.begins c.args.hand.now c.args.duty.now c.hand.inside.seat.me
-    c.operate-word.new.seat.me c.operate-word.result c.said_by-found.result
-    (ap (λ (h : HandState). h.view) c.hand.view_is)
-    (ap (λ (h : HandState). h.slots) c.hand.view_is) c.requires.begins.same c.requires.next c.requires.known
-    c.operate-word.ensures.step c.said_by-found.ensures).owner
-
-pub returns-clause-finds : goal.returns-clause-finds
-returns-clause-finds g c =
-    (made g.B.Begins.lines g.B.Begins.begins c.args.hand.now c.args.duty.now c.hand.inside.seat.me
-    c.operate-word.new.seat.me c.operate-word.result c.said_by-found.result
-    (ap (λ (h : HandState). h.view) c.hand.view_is)
-    (ap (λ (h : HandState). h.slots) c.hand.view_is) c.requires.begins.same c.requires.next c.requires.known
-    c.operate-word.ensures.step c.said_by-found.ensures).finds
-
-pub returns-clause-first : goal.returns-clause-first
-returns-clause-first g c =
+pub returns : goal.returns
+returns g c =
     let begins = g.B.Begins.begins in
-    subst (λ (l : List (List ℕ)). FindsFirst l (begins c.args.hand.now.view)
-    (begins c.args.hand.now.view).actor.agenda c.said_by-found.result) c.requires.lines
-    (made g.B.Begins.lines begins c.args.hand.now c.args.duty.now c.hand.inside.seat.me c.operate-word.new.seat.me
+    let is =
+    made g.B.Begins.lines begins c.args.hand.now c.args.duty.now c.hand.inside.seat.me c.operate-word.new.seat.me
     c.operate-word.result c.said_by-found.result (ap (λ (h : HandState). h.view) c.hand.view_is)
-    (ap (λ (h : HandState). h.slots) c.hand.view_is) c.requires.begins.same c.requires.next c.requires.known
-    c.operate-word.ensures.step c.said_by-found.ensures).first
+    (ap (λ (h : HandState). h.fields) c.hand.view_is) c.requires.begins.same c.requires.next c.requires.known
+    c.operate-word.ensures.step c.said_by-found.ensures in
+    record {
+      table = c.operate-word.ensures.table ∙ ap (λ (h : HandState). h.table) c.hand.view_is;
+      carried = ap (λ (h : HandState). h.carried) c.hand.view_is;
+      fields = is.fields_are;
+      view = is.view_is;
+      overwrites = is.overwrites;
+      suits = is.suits;
+      owner = is.owner;
+      finds = is.finds;
+      first =
+          subst (λ (l : List (List ℕ)). FindsFirst l (begins c.args.hand.now.view)
+          (begins c.args.hand.now.view).actor.agenda c.said_by-found.result) c.requires.lines is.first;
+    }

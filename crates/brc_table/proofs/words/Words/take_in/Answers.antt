@@ -17,7 +17,7 @@ join_seat-requires g c =
     let gone = c.gone.inside.seat in (
       ap (λ (h : HandState). h.table) c.hand.view_is ∙ (c.requires.table.0 ∙ sym table_is),
       ap (λ (h : HandState). h.table) c.gone.view_is ∙ (c.requires.other_table.0 ∙ sym table_is),
-      none_held gone.me.1 (ap (λ (h : HandState). h.slots) c.gone.view_is ∙ c.requires.no_slot),
+      none_held gone.me.1 (ap (λ (h : HandState). h.fields) c.gone.view_is ∙ c.requires.no_field),
       omega (arith, c.self.invariant.1),
       joins c.self.inside.table.shared.key hand.id gone.id hand.me.0 gone.me.0 g.E.Ended.view
           (ap (λ (v : View). v.actor.status) view_is ∙ c.requires.gone) (view_is ∙ c.requires.view),

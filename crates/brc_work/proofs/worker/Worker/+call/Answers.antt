@@ -7,7 +7,7 @@ use Rattle.brc_lang.specs.declared.parameter.Argument.{Argument}
 use Rattle.brc_model.specs.Actions.{kept_rows, passed_variables}
 use Rattle.brc_model.specs.Tables.{Reaches}
 use Rattle.brc_model.specs.Threads.{function_at}
-use Rattle.brc_model.specs.VarStates.{after}
+use Rattle.brc_model.specs.SlotStates.{after}
 use Rattle.brc_model.specs.declared.state.Exit.TheVariants.{Fault}
 use Rattle.brc_model.specs.declared.state.State.{State}
 use Rattle.brc_model.proofs.Basics.Lists.{all_of_found}

@@ -1,10 +1,10 @@
 use Rattle.std.proofs.Common.{ℕ, List, ◌∷◌, Option, Some, refl, sym, ap, ◌∙◌, subst}
 use Rattle.std.specs.Prelude.{slice_set}
 use Rattle.brc_model.specs.declared.layout.Layout.{Layout}
-use Rattle.brc_model.specs.declared.state.VarState.TheVariants.{Owned}
+use Rattle.brc_model.specs.declared.state.Slot.TheVariants.{Owned}
 use Rattle.brc_model.specs.Kinds.{kind_numbered}
 use Rattle.brc_model.specs.Layout.{IsCounted}
-use Rattle.brc_model.specs.VarStates.{var_of, put}
+use Rattle.brc_model.specs.SlotStates.{var_of, put}
 use Rattle.brc_model.specs.Threads.{row_of}
 use Rattle.brc_model.proofs.Dispatch.Kinds.{numbered_kind}
 use Rattle.brc_heap.specs.Calls.{kind_word}
@@ -26,7 +26,7 @@ returns-clause-goes g c = λ base s fits can.
     let did =
     born_acts hand after fits.rests born (c.birth-row.ensures.table.0 ∙ ap (λ (w : TableState). w.table) c.self.view_is
     ∙ sym c.requires.fits.of.0)
-    c.birth-row.ensures.carried c.birth-row.ensures.slots in
+    c.birth-row.ensures.carried c.birth-row.ensures.fields in
     let counted : IsCounted base.first.view.layout row =
     subst (λ (l : Layout). IsCounted l row) fits.follows.layout c.birth-row.ensures.counted in
     subst (λ (rows : List (Option ℕ)). Fits base (put s c.args.to (Owned c.args.kind)) rows after)

@@ -1,9 +1,9 @@
 use Rattle.std.proofs.Common.{◌≡◌, ℕ, List, Option, None, Some, inl, refl, sym, ap, ◌∙◌, subst}
 use Rattle.brc_lang.specs.declared.kind.Kind.TheVariants as kinds
 use Rattle.brc_lang.specs.declared.module.Instr.TheVariants as instructions
-use Rattle.brc_model.specs.declared.state.VarState.TheVariants.{Empty, Locked}
+use Rattle.brc_model.specs.declared.state.Slot.TheVariants.{Empty, Locked}
 use Rattle.brc_model.specs.declared.state.State.{State}
-use Rattle.brc_model.specs.VarStates.{var_of, is_empty, names, put, lowest}
+use Rattle.brc_model.specs.SlotStates.{var_of, is_empty, names, put, lowest}
 use Rattle.brc_model.specs.Threads.{row_of}
 use Rattle.brc_model.proofs.Dispatch.Passing.{are_met}
 use Rattle.brc_table.specs.Hands.{TableState}
@@ -27,7 +27,7 @@ sized g c rests =
     sized_acts c.args.hand.now c.size.new.hand c.row_in-row.result c.size.ensures.events.0 rests c.size.ensures.keeps
     (c.size.ensures.table.0
     ∙ (ap (λ (w : TableState). w.table) (c.new-lists.ensures ∙ c.self.view_is) ∙ sym c.requires.may.of.0))
-    c.size.ensures.carried c.size.ensures.slots c.size.ensures.locked c.size.ensures.events.1
+    c.size.ensures.carried c.size.ensures.fields c.size.ensures.locked c.size.ensures.events.1
 
 -- and the variables and the hand are still as the state says.
 later : (g : given.Over) (c : After-size g) (base : Base) (s : State)
@@ -58,7 +58,7 @@ looked : (g : given.Over) (c : After-item-found g) → Rests c.size.new.hand →
 looked g c rests list =
     item_acts c.size.new.hand c.item-found.new.hand c.row_in-row.result c.from-cell.result c.item-found.ensures.sees.0
     rests c.item-found.ensures.keeps (c.item-found.ensures.table.0 ∙ sym c.size.ensures.table.0)
-    c.item-found.ensures.carried c.item-found.ensures.slots list.locked (c.item-found.ensures.locked ∙ list.locked)
+    c.item-found.ensures.carried c.item-found.ensures.fields list.locked (c.item-found.ensures.locked ∙ list.locked)
     c.item-found.ensures.sees.1
 
 -- The hand has asked for the list's size.

@@ -117,7 +117,7 @@ returns-in-Stopped-clause-called g c =
     settled_returned base c.call.new.hand c.settle-failed.new.hand work.0 ended work.1 c.settle-failed.ensures.chain
     (c.settle-failed.ensures.table.0
     ∙ (ap (λ (w : TableState). w.table) (c.new-in-Stopped.ensures ∙ c.self.view_is) ∙ sym c.in-Stopped.ensures.of.0))
-    c.settle-failed.ensures.carried c.settle-failed.ensures.slots
+    c.settle-failed.ensures.carried c.settle-failed.ensures.fields
 
 pub returns-in-Stopped-clause-asked : goal.returns-in-Stopped-clause-asked
 returns-in-Stopped-clause-asked g c =

@@ -5,7 +5,7 @@ use Rattle.brc_work.specs.Traces.{ForPeer}
 use Rattle.brc_lang.specs.declared.module.Instr.TheVariants as instructions
 use Rattle.brc_model.specs.declared.state.State.{State}
 use Rattle.brc_model.specs.Actions.{sock_word}
-use Rattle.brc_model.specs.VarStates.{lowest}
+use Rattle.brc_model.specs.SlotStates.{lowest}
 use Rattle.brc_model.proofs.Dispatch.Passing.{are_met}
 use Rattle.brc_work.specs.Changes.{CanFill}
 use Rattle.brc_work.proofs.Conditions.{can_fill}

@@ -1,9 +1,9 @@
 use Rattle.std.proofs.Common.{◌≡◌, ℕ, ◌<◌, List, length, Option, None, Some, inl, inr, refl, sym, ap, ◌∙◌, subst}
 use Rattle.brc_lang.specs.declared.kind.Kind.TheVariants as kinds
 use Rattle.brc_lang.specs.declared.module.Instr.TheVariants as instructions
-use Rattle.brc_model.specs.declared.state.VarState.TheVariants.{Empty, Owned}
+use Rattle.brc_model.specs.declared.state.Slot.TheVariants.{Empty, Owned}
 use Rattle.brc_model.specs.declared.state.State.{State}
-use Rattle.brc_model.specs.VarStates.{var_of, is_empty, names, put, lowest}
+use Rattle.brc_model.specs.SlotStates.{var_of, is_empty, names, put, lowest}
 use Rattle.brc_model.specs.Threads.{row_of}
 use Rattle.brc_model.proofs.Dispatch.Passing.{are_met}
 use Rattle.brc_model.specs.declared.layout.Layout.{Layout}
@@ -30,7 +30,7 @@ sized g c rests =
     sized_acts c.args.hand.now c.size.new.hand c.row_in-row.result c.size.ensures.events.0 rests c.size.ensures.keeps
     (c.size.ensures.table.0
     ∙ (ap (λ (w : TableState). w.table) (c.new-lists.ensures ∙ c.self.view_is) ∙ sym c.requires.may.of.0))
-    c.size.ensures.carried c.size.ensures.slots c.size.ensures.locked c.size.ensures.events.1
+    c.size.ensures.carried c.size.ensures.fields c.size.ensures.locked c.size.ensures.events.1
 
 -- and the variables and the hand are still as the state says.
 later : (g : given.Over) (c : After-size g) (base : Base) (s : State)
@@ -61,7 +61,7 @@ looked : (g : given.Over) (c : After-item-found g) → Rests c.size.new.hand →
 looked g c rests list =
     item_acts c.size.new.hand c.item-found.new.hand c.row_in-row.result c.from-cell.result c.item-found.ensures.sees.0
     rests c.item-found.ensures.keeps (c.item-found.ensures.table.0 ∙ sym c.size.ensures.table.0)
-    c.item-found.ensures.carried c.item-found.ensures.slots list.locked (c.item-found.ensures.locked ∙ list.locked)
+    c.item-found.ensures.carried c.item-found.ensures.fields list.locked (c.item-found.ensures.locked ∙ list.locked)
     c.item-found.ensures.sees.1
 
 -- The hand has asked for the list's size.
@@ -131,7 +131,7 @@ returns-in-Some-clause-done g c = λ base s fits passes.
     left_acts seen after c.in-Some.item found.rests c.retain.ensures.left
     (c.retain.ensures.table.0 ∙ (ap (λ (w : TableState). w.table) c.self.view_is
     ∙ (sym of_lists ∙ sym c.item-found.ensures.table.0)))
-    c.retain.ensures.carried c.retain.ensures.slots c.retain.ensures.head in
+    c.retain.ensures.carried c.retain.ensures.fields c.retain.ensures.head in
     subst (λ (rows : List (Option ℕ)). Fits base (put s c.args.to (Owned kinds.Any)) rows after)
     (sym c.name-in-Some.ensures.named)
     (refits base s c.args.rows.now seen after c.args.to (Owned kinds.Any) (Some c.in-Some.item) found

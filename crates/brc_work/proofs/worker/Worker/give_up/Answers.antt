@@ -1,8 +1,8 @@
 use Rattle.std.proofs.Common.{ℕ, List, Option, None, sym, ap, ◌∙◌, subst}
 use Rattle.brc_work.proofs.Counting.{asked_as}
 use Rattle.brc_model.specs.declared.layout.Layout.{Layout}
-use Rattle.brc_model.specs.declared.state.VarState.TheVariants.{Empty}
-use Rattle.brc_model.specs.VarStates.{var_of, put}
+use Rattle.brc_model.specs.declared.state.Slot.TheVariants.{Empty}
+use Rattle.brc_model.specs.SlotStates.{var_of, put}
 use Rattle.brc_table.specs.Views.{without_reference}
 use Rattle.brc_work.specs.Fits.{Fits}
 use Rattle.brc_work.proofs.Fitting.{refits}

@@ -1,7 +1,7 @@
 use Rattle.std.proofs.Common.{◌≡◌, ℕ, suc, ◌+◌, List, Option, sym, ◌∙◌, subst, arith}
 use Rattle.brc_table.specs.Hands.{HandState}
-use Rattle.brc_model.specs.VarStates.{put}
-use Rattle.brc_model.specs.declared.state.VarState.TheVariants.{Empty}
+use Rattle.brc_model.specs.SlotStates.{put}
+use Rattle.brc_model.specs.declared.state.Slot.TheVariants.{Empty}
 use Rattle.brc_work.specs.Changes.{CanGive}
 use Rattle.brc_work.specs.Stopping.{GoesChained, Loosens}
 use Rattle.brc_work.proofs.GivingUp.{HaveGiven, none_given, can_loosen, one_given, none_more, all_returned, all_made}

@@ -2,7 +2,7 @@ use Rattle.std.proofs.Common.{ℕ, List, Option, Some, sym, ap, ◌∙◌, subst
 use Rattle.std.specs.Prelude.{slice_set}
 use Rattle.brc_lang.specs.declared.module.Instr.TheVariants as instructions
 use Rattle.brc_work.proofs.Conditions.{kept}
-use Rattle.brc_model.specs.VarStates.{var_of, is_empty}
+use Rattle.brc_model.specs.SlotStates.{var_of, is_empty}
 use Rattle.brc_model.proofs.Dispatch.Passing.{are_met}
 use Rattle.brc_work.specs.Fits.{Fits}
 use Rattle.brc_work.proofs.Holding.{names_object}

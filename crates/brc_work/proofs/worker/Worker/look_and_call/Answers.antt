@@ -13,7 +13,7 @@ returns-clause-called g c =
     called_then hand mid c.call_from_outside.new.hand
     (looked_called hand mid c.requires.ready looked.keeps looked.free looked.settled
     (looked.table.0 ∙ (ap (λ (w : TableState). w.table) (c.self.invariant ∙ c.self.view_is) ∙ sym c.requires.of.0))
-    looked.carried looked.slots)
+    looked.carried looked.fields)
     c.call_from_outside.ensures.called
 
 pub returns-clause-asked : goal.returns-clause-asked

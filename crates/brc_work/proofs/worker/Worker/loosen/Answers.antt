@@ -1,7 +1,7 @@
 use Rattle.std.proofs.Common.{ℕ, List, Option, None, sym, ap, ◌∙◌, subst}
 use Rattle.brc_model.specs.declared.layout.Layout.{Layout}
-use Rattle.brc_model.specs.declared.state.VarState.TheVariants.{Empty}
-use Rattle.brc_model.specs.VarStates.{put}
+use Rattle.brc_model.specs.declared.state.Slot.TheVariants.{Empty}
+use Rattle.brc_model.specs.SlotStates.{put}
 use Rattle.brc_table.specs.Hands.{TableState}
 use Rattle.brc_table.specs.Views.{without_reference}
 use Rattle.brc_work.specs.Fits.{Fits}
@@ -38,7 +38,7 @@ returns-clause-goes g c = λ base s fits can.
     (loosened_acts hand after row fits.rests released
     (c.release.ensures.table.0
     ∙ (ap (λ (w : TableState). w.table) (c.new-finaliser.ensures ∙ c.self.view_is) ∙ sym c.requires.fits.of.0))
-    c.release.ensures.carried c.release.ensures.slots) tt
+    c.release.ensures.carried c.release.ensures.fields) tt
     (given base s c.args.rows.now (unchained hand) (unchained after) c.args.from row fits can c.row_in-row.ensures
     (released.keeps.references
     ∙ ap (λ (l : Layout). without_reference l row hand.view.references) fits.follows.layout)))

@@ -1,8 +1,8 @@
 use Rattle.std.proofs.Common.{ℕ, List, Option, Some, refl, sym, ap, ◌∙◌, subst}
 use Rattle.brc_lang.specs.declared.module.Instr.TheVariants as instructions
 use Rattle.brc_model.specs.declared.layout.Layout.{Layout}
-use Rattle.brc_model.specs.declared.state.VarState.TheVariants.{Owned}
-use Rattle.brc_model.specs.VarStates.{var_of, kind_of, is_empty, put}
+use Rattle.brc_model.specs.declared.state.Slot.TheVariants.{Owned}
+use Rattle.brc_model.specs.SlotStates.{var_of, kind_of, is_empty, put}
 use Rattle.brc_model.specs.Threads.{row_of}
 use Rattle.brc_model.proofs.Dispatch.Passing.{are_met}
 use Rattle.brc_table.specs.Views.{with_reference}
@@ -46,7 +46,7 @@ returns-clause-done g c = λ base s fits passes.
     let did =
     left_acts hand after row fits.rests c.retain.ensures.left
     (c.retain.ensures.table.0 ∙ ap (λ (w : TableState). w.table) c.self.view_is ∙ sym c.requires.may.of.0)
-    c.retain.ensures.carried c.retain.ensures.slots c.retain.ensures.head in
+    c.retain.ensures.carried c.retain.ensures.fields c.retain.ensures.head in
     subst (λ (rows : List (Option ℕ)). Fits base (put s c.args.to (Owned (kind_of from))) rows after)
     (sym c.name.ensures.named)
     (refits base s c.args.rows.now hand after c.args.to (Owned (kind_of from))

@@ -1,8 +1,8 @@
 use Rattle.std.proofs.Common.{ℕ, List, Option, Some, refl, sym, subst}
 use Rattle.brc_lang.specs.declared.kind.Kind.TheVariants as kinds
 use Rattle.brc_lang.specs.declared.module.Instr.TheVariants as instructions
-use Rattle.brc_model.specs.declared.state.VarState.TheVariants.{Owned}
-use Rattle.brc_model.specs.VarStates.{var_of, put}
+use Rattle.brc_model.specs.declared.state.Slot.TheVariants.{Owned}
+use Rattle.brc_model.specs.SlotStates.{var_of, put}
 use Rattle.brc_model.specs.Threads.{row_of}
 use Rattle.brc_model.proofs.Dispatch.Passing.{are_met}
 use Rattle.brc_work.specs.Fits.{OfNone, Fits}

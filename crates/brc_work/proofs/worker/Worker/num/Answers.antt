@@ -1,7 +1,7 @@
 use Rattle.std.proofs.Common.{ℕ, List, Option, sym, ◌∙◌, subst}
 use Rattle.brc_lang.specs.declared.module.Instr.TheVariants as instructions
-use Rattle.brc_model.specs.declared.state.VarState.TheVariants.{Empty}
-use Rattle.brc_model.specs.VarStates.{put}
+use Rattle.brc_model.specs.declared.state.Slot.TheVariants.{Empty}
+use Rattle.brc_model.specs.SlotStates.{put}
 use Rattle.brc_model.proofs.Dispatch.Passing.{are_met}
 use Rattle.brc_work.specs.Fits.{Fits}
 use Rattle.brc_work.proofs.Conditions.{can_fill}

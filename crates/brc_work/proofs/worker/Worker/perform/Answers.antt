@@ -4,7 +4,7 @@ use Rattle.brc_model.specs.declared.state.Exit.TheVariants.{Success}
 use Rattle.brc_work.specs.Fits.{HasDone, LayoutAllows}
 use Rattle.brc_work.specs.Performs.{PerformsAt}
 use Rattle.brc_lang.specs.declared.module.Instr.TheVariants as instructions
-use Rattle.brc_model.specs.VarStates.{var_of, is_empty, is_borrowed, names}
+use Rattle.brc_model.specs.SlotStates.{var_of, is_empty, is_borrowed, names}
 use Rattle.brc_model.proofs.Dispatch.Passing.{are_met}
 use Rattle.brc_work.proofs.Conditions.{kept, can_give}
 use Rattle.brc_work.proofs.Counting.{asked_as, asked_nothing}

@@ -1,7 +1,7 @@
 use Rattle.std.proofs.Common.{◌≡◌, ℕ, ◌<◌, false, List, length, inl, sym, ap, ◌∙◌, refl, subst, arith}
 use Rattle.brc_model.specs.declared.layout.Layout.{Layout}
 use Rattle.brc_model.specs.declared.state.State.{State}
-use Rattle.brc_model.specs.VarStates.{var_of, is_empty, names}
+use Rattle.brc_model.specs.SlotStates.{var_of, is_empty, names}
 use Rattle.brc_model.proofs.Basics.Lists.{first_false, second_false}
 use Rattle.brc_table.specs.Views.{without_reference}
 use Rattle.brc_table.specs.Hands.{TableState, most_references}
@@ -28,7 +28,7 @@ later g c base s fits =
     c.size.ensures.keeps
     (c.size.ensures.table.0
     ∙ (ap (λ (w : TableState). w.table) (c.new.ensures ∙ c.self.view_is) ∙ sym c.requires.may.of.0))
-    c.size.ensures.carried c.size.ensures.slots c.size.ensures.locked c.size.ensures.events.1
+    c.size.ensures.carried c.size.ensures.fields c.size.ensures.locked c.size.ensures.events.1
 
 -- The list is the one that the hand has locked.
 on : (g : given.Over) (c : After-size g) → OnList c.size.new.hand c.row_in-row.result
@@ -48,7 +48,7 @@ retained : (g : given.Over) (c : After-retain g) → Rests c.size.new.hand
 retained g c rests =
     left_acts c.size.new.hand c.retain.new.hand c.row_in-item.result rests c.retain.ensures.left
     (c.retain.ensures.table.0 ∙ (ap (λ (w : TableState). w.table) (sym c.new.ensures) ∙ sym c.size.ensures.table.0))
-    c.retain.ensures.carried c.retain.ensures.slots c.retain.ensures.head
+    c.retain.ensures.carried c.retain.ensures.fields c.retain.ensures.head
 
 -- The hand has asked for the list's size.
 has_sized : (g : given.Over) (c : After-size g)

@@ -7,8 +7,8 @@ use Rattle.brc_lang.specs.declared.kind.Kind.TheVariants as kinds
 use Rattle.brc_lang.specs.declared.module.Instr.TheVariants as instructions
 use Rattle.brc_model.specs.Actions.{number_word}
 use Rattle.brc_model.specs.declared.state.Exit.TheVariants.{Fault}
-use Rattle.brc_model.specs.declared.state.VarState.TheVariants.{Empty}
-use Rattle.brc_model.specs.VarStates.{var_of, kind_of, is_empty, is_one_of, with_resource, names, put}
+use Rattle.brc_model.specs.declared.state.Slot.TheVariants.{Empty}
+use Rattle.brc_model.specs.SlotStates.{var_of, kind_of, is_empty, is_one_of, with_resource, names, put}
 use Rattle.brc_model.proofs.Dispatch.Passing.{are_met}
 use Rattle.brc_table.specs.declared.view.View.{View}
 use Rattle.brc_table.specs.Hands.{TableState, HandState, IsOf}
@@ -44,7 +44,7 @@ back g c file =
     (c.give_back.ensures.table.0
     ∙ (ap (λ (w : TableState). w.table) (c.new-lists.ensures ∙ c.self.view_is) ∙ sym c.requires.may.of.0))
     c.lend-resource.ensures.view c.give_back.ensures.view c.lend-resource.ensures.carried c.give_back.ensures.carried
-    c.lend-resource.ensures.slots c.give_back.ensures.slots
+    c.lend-resource.ensures.fields c.give_back.ensures.fields
 
 pub returns-then-not-room-clause-done : goal.returns-then-not-room-clause-done
 returns-then-not-room-clause-done g c = λ base s fits passes.
@@ -59,9 +59,9 @@ row_in-row-requires g c =
     names_object _ _ _ _ c.requires.may.fits c.args.file
     (kept (is_empty (var_of c.requires.may.state c.args.file)) (none_broken c.requires.may).not_empty)
 
-pub lend-resource-requires-clause-slot : goal.lend-resource-requires-clause-slot
-lend-resource-requires-clause-slot g c =
-    inl (on g (goal.at.lend-resource-requires-clause-slot g c).After-row_in-row).locked
+pub lend-resource-requires-clause-field : goal.lend-resource-requires-clause-field
+lend-resource-requires-clause-field g c =
+    inl (on g (goal.at.lend-resource-requires-clause-field g c).After-row_in-row).locked
 
 pub lend-resource-requires-clause-there : goal.lend-resource-requires-clause-there
 lend-resource-requires-clause-there g c =
@@ -69,13 +69,13 @@ lend-resource-requires-clause-there g c =
 
 pub give_back-requires-clause-whole : goal.give_back-requires-clause-whole
 give_back-requires-clause-whole g c = λ locked.
-    ap (λ (v : View). v.in_slot) c.lend-resource.ensures.view
+    ap (λ (v : View). v.in_field) c.lend-resource.ensures.view
     ∙ (on g (goal.at.give_back-requires-clause-whole g c).After-row_in-row).whole
 
-pub give_back-requires-clause-slot : goal.give_back-requires-clause-slot
-give_back-requires-clause-slot g c =
+pub give_back-requires-clause-field : goal.give_back-requires-clause-field
+give_back-requires-clause-field g c =
     inl (ap (λ (v : View). v.actor.locked) c.lend-resource.ensures.view
-    ∙ (on g (goal.at.give_back-requires-clause-slot g c).After-row_in-row).locked)
+    ∙ (on g (goal.at.give_back-requires-clause-field g c).After-row_in-row).locked)
 
 pub bear-requires-clause-fits : goal.bear-requires-clause-fits
 bear-requires-clause-fits g c =

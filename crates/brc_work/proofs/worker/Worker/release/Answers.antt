@@ -35,7 +35,7 @@ returns-clause-acts g c =
     (c.settle-failed.ensures.table.0
     ∙ (ap (λ (w : TableState). w.table) (c.new-finaliser.ensures ∙ c.self.view_is) ∙ sym c.requires.of.0))
     (c.settle-failed.ensures.carried ∙ c.release.ensures.carried)
-    (c.settle-failed.ensures.slots ∙ c.release.ensures.slots)
+    (c.settle-failed.ensures.fields ∙ c.release.ensures.fields)
 
 pub returns-clause-less : goal.returns-clause-less
 returns-clause-less g c =

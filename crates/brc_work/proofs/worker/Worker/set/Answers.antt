@@ -3,9 +3,9 @@ use Rattle.std.specs.Prelude.{slice_set}
 use Rattle.brc_work.proofs.Counting.{asked_as}
 use Rattle.brc_lang.specs.declared.module.Instr.TheVariants as instructions
 use Rattle.brc_model.specs.declared.layout.Layout.{Layout}
-use Rattle.brc_model.specs.declared.state.VarState.TheVariants.{Empty}
+use Rattle.brc_model.specs.declared.state.Slot.TheVariants.{Empty}
 use Rattle.brc_model.specs.declared.state.State.{State}
-use Rattle.brc_model.specs.VarStates.{var_of, is_empty, is_borrowed, names, put, lowest, without_items}
+use Rattle.brc_model.specs.SlotStates.{var_of, is_empty, is_borrowed, names, put, lowest, without_items}
 use Rattle.brc_model.proofs.Basics.Lists.{first_false, second_false}
 use Rattle.brc_model.proofs.Dispatch.Passing.{are_met}
 use Rattle.brc_table.specs.Views.{without_reference}
@@ -32,7 +32,7 @@ later g c base s fits =
     c.size.ensures.keeps
     (c.size.ensures.table.0
     ∙ (ap (λ (w : TableState). w.table) (c.new.ensures ∙ c.self.view_is) ∙ sym c.requires.may.of.0))
-    c.size.ensures.carried c.size.ensures.slots c.size.ensures.locked c.size.ensures.events.1
+    c.size.ensures.carried c.size.ensures.fields c.size.ensures.locked c.size.ensures.events.1
 
 -- The variable's reference may be given away.
 can : (g : facts.Over) (c : After-size g) (s : State)

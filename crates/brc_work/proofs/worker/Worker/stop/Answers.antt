@@ -76,7 +76,7 @@ returns-clause-made g c = λ program outer.
     let free = unlocked g here in
     let state = c.args.state.now in
     let rows = c.args.rows.now in
-    let calls = owned_rows state.vars rows ∷ outer in
+    let calls = owned_rows state.slots rows ∷ outer in
     let p = stopping (row_locked state.locked rows) calls in
     let now = left_fits g here c.requires.fits.base (known_fits g here) in
     c.give_up_owned.ensures.made program p c.args.hand.now.view outer

@@ -3,9 +3,9 @@ use Rattle.std.specs.Prelude.{slice_set}
 use Rattle.brc_lang.specs.declared.kind.Kind.TheVariants as kinds
 use Rattle.brc_lang.specs.declared.module.Instr.TheVariants as instructions
 use Rattle.brc_model.specs.declared.layout.Layout.{Layout}
-use Rattle.brc_model.specs.declared.state.VarState.TheVariants.{Owned}
+use Rattle.brc_model.specs.declared.state.Slot.TheVariants.{Owned}
 use Rattle.brc_model.specs.Layout.{first_immortal_list, first_number, is_immortal_row}
-use Rattle.brc_model.specs.VarStates.{var_of, put}
+use Rattle.brc_model.specs.SlotStates.{var_of, put}
 use Rattle.brc_model.specs.Threads.{row_of}
 use Rattle.brc_model.proofs.Basics.Blocks.{list_immortal}
 use Rattle.brc_model.proofs.Dispatch.Passing.{are_met}

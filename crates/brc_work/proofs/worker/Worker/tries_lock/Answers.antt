@@ -2,7 +2,7 @@ use Rattle.std.proofs.Common.{◌≡◌, Bool, false, cond, ◌∷◌, None, Som
 use Rattle.std.specs.Prelude.{is_some}
 use Rattle.brc_lang.specs.declared.module.Instr.TheVariants as instructions
 use Rattle.brc_model.specs.declared.state.State.{State}
-use Rattle.brc_model.specs.VarStates.{var_of, is_empty, lowest}
+use Rattle.brc_model.specs.SlotStates.{var_of, is_empty, lowest}
 use Rattle.brc_model.specs.Threads.{row_of}
 use Rattle.brc_model.proofs.Dispatch.Passing.{are_met}
 use Rattle.brc_table.specs.Hands.{TableState, IsOf}
@@ -40,7 +40,7 @@ stays g c base s fits passes fails =
     (c.try_lock.ensures.table.0
     ∙ ap (λ (w : TableState). w.table) (c.new.ensures ∙ c.self.view_is) ∙ sym c.requires.may.of.0)
     c.try_lock.ensures.carried (c.try_lock.ensures.locked ∙ ap (λ (b : Bool). cond b (Some row) None) fails)
-    (c.try_lock.ensures.slots ∙ ap (λ (b : Bool). cond b ((row, after.view.in_slot) ∷ hand.slots) hand.slots) fails)
+    (c.try_lock.ensures.fields ∙ ap (λ (b : Bool). cond b ((row, after.view.in_field) ∷ hand.fields) hand.fields) fails)
 
 pub row_in-row-requires : goal.row_in-row-requires
 row_in-row-requires g c =
@@ -75,8 +75,8 @@ returns-clause-done g c = λ wins base s fits passes.
     c.try_lock.ensures.carried c.args.object object (kept (is_empty slot) all.not_empty)
     c.row_in-row.ensures
     (c.try_lock.ensures.locked ∙ ap (λ (b : Bool). cond b (Some object) None) wins)
-    (c.try_lock.ensures.slots
-    ∙ ap (λ (b : Bool). cond b ((object, locked.view.in_slot) ∷ before.slots) before.slots) wins)
+    (c.try_lock.ensures.fields
+    ∙ ap (λ (b : Bool). cond b ((object, locked.view.in_field) ∷ before.fields) before.fields) wins)
     (λ word some seen. c.try_lock.ensures.kind word wins some seen)
 
 pub returns-clause-again : goal.returns-clause-again
@@ -95,13 +95,13 @@ returns-clause-nothing g c = λ fails base s fits passes.
 pub returns-clause-made : goal.returns-clause-made
 returns-clause-made g c = λ wins.
     let steps = c.try_lock.ensures.events in
-    makes_lock c.args.object c.row_in-row.result c.try_lock.new.hand.view.in_slot steps.0 c.args.rows.now
+    makes_lock c.args.object c.row_in-row.result c.try_lock.new.hand.view.in_field steps.0 c.args.rows.now
     c.args.hand.now.view c.try_lock.new.hand.view c.requires.may.fits.rests.agenda c.row_in-row.ensures steps.1
     (sym steps.2 ∙ wins)
 
 pub returns-clause-waited : goal.returns-clause-waited
 returns-clause-waited g c = λ fails.
     let loads = c.try_lock.ensures.events in
-    waits c.args.object c.row_in-row.result c.try_lock.new.hand.view.in_slot loads.0 c.args.rows.now
+    waits c.args.object c.row_in-row.result c.try_lock.new.hand.view.in_field loads.0 c.args.rows.now
     c.args.hand.now.view c.try_lock.new.hand.view c.requires.may.fits.rests.agenda c.row_in-row.ensures loads.1
     (sym loads.2 ∙ fails)

@@ -1,9 +1,9 @@
 use Rattle.std.proofs.Common.{ℕ, sym, ap, ◌∙◌, subst}
 use Rattle.brc_lang.specs.declared.module.Instr.TheVariants as instructions
-use Rattle.brc_model.specs.VarStates.{var_of, is_empty, names}
+use Rattle.brc_model.specs.SlotStates.{var_of, is_empty, names}
 use Rattle.brc_model.proofs.Basics.Lists.{some_is}
 use Rattle.brc_model.proofs.Dispatch.Passing.{are_met}
-use Rattle.brc_table.specs.Uses.{FirstSlot}
+use Rattle.brc_table.specs.Uses.{FirstField}
 use Rattle.brc_table.specs.Hands.{TableState}
 use Rattle.brc_work.specs.Fits.{LockFits}
 use Rattle.brc_work.proofs.Conditions.{kept, not_false, locked_is}
@@ -17,7 +17,7 @@ use Rattle.brc_work.proofs.worker.Worker.unlock.Goals as goal
 
 -- The variable is the one whose object the hand has locked.
 locks : (g : given.Over) (c : Start g) → let may = c.requires.may in
-    LockFits may.base.first.slots may.state c.args.rows.now c.args.hand.now c.args.object
+    LockFits may.base.first.fields may.state c.args.rows.now c.args.hand.now c.args.object
 locks g c =
     let may = c.requires.may in
     lock_of _ _ _ _ may.fits c.args.object (locked_is may.state.locked c.args.object
@@ -42,9 +42,9 @@ unlock-requires-clause-locked g c =
 pub unlock-requires-clause-returned : goal.unlock-requires-clause-returned
 unlock-requires-clause-returned g c =
     let lock = locks g (goal.at.unlock-requires-clause-returned g c).Start in
-    subst (λ (x : ℕ). FirstSlot c.args.hand.now.slots x c.args.hand.now.view.in_slot)
+    subst (λ (x : ℕ). FirstField c.args.hand.now.fields x c.args.hand.now.view.in_field)
     (some_is lock.object c.row_in-row.result (sym lock.names ∙ c.row_in-row.ensures))
-    (record { rest = c.requires.may.base.first.slots; is = lock.slots })
+    (record { rest = c.requires.may.base.first.fields; is = lock.fields })
 
 pub returns-clause-done : goal.returns-clause-done
 returns-clause-done g c = λ base s fits passes.
@@ -55,7 +55,7 @@ returns-clause-done g c = λ base s fits passes.
     (lock_of base s c.args.rows.now hand fits c.args.object is) c.unlock.ensures.keeps
     (c.unlock.ensures.table.0
     ∙ ap (λ (w : TableState). w.table) (c.new.ensures ∙ c.self.view_is) ∙ sym c.requires.may.of.0)
-    c.unlock.ensures.carried c.unlock.ensures.slots c.unlock.ensures.unlocked
+    c.unlock.ensures.carried c.unlock.ensures.fields c.unlock.ensures.unlocked
 
 pub returns-clause-made : goal.returns-clause-made
 returns-clause-made g c =

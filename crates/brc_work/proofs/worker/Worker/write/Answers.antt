@@ -8,7 +8,7 @@ use Rattle.brc_host.specs.HostCalls.{after_call}
 use Rattle.brc_lang.specs.declared.kind.Kind.TheVariants as kinds
 use Rattle.brc_lang.specs.declared.module.Instr.TheVariants as instructions
 use Rattle.brc_model.specs.declared.state.Exit.TheVariants.{Success, Fault}
-use Rattle.brc_model.specs.VarStates.{var_of, kind_of, is_empty, is_one_of, with_resource, names}
+use Rattle.brc_model.specs.SlotStates.{var_of, kind_of, is_empty, is_one_of, with_resource, names}
 use Rattle.brc_model.proofs.Basics.Lists.{first_false, second_false}
 use Rattle.brc_table.specs.declared.view.View.{View}
 use Rattle.brc_table.specs.Hands.{TableState, HandState}
@@ -39,7 +39,7 @@ asked g c =
     left_acts c.args.hand.now c.arg_of-value.new.hand c.row_in-object.result c.requires.may.fits.rests
     c.arg_of-value.ensures.left
     (c.arg_of-value.ensures.table.0 ∙ (ap (λ (w : TableState). w.table) c.self.view_is ∙ sym c.requires.may.of.0))
-    c.arg_of-value.ensures.carried c.arg_of-value.ensures.slots c.arg_of-value.ensures.head
+    c.arg_of-value.ensures.carried c.arg_of-value.ensures.fields c.arg_of-value.ensures.head
 
 -- The file is the one that the hand has locked.
 on : (g : given.Over) (c : After-row_in-row g) → ActsElsewhere c.args.hand.now c.arg_of-value.new.hand
@@ -65,7 +65,7 @@ back g c acts file =
     ∙ (ap (λ (w : TableState). w.table) (c.new-lists.ensures ∙ c.self.view_is)
     ∙ (sym c.requires.may.of.0 ∙ sym acts.acts.follows.table)))
     c.lend-resource.ensures.view c.give_back.ensures.view c.lend-resource.ensures.carried c.give_back.ensures.carried
-    c.lend-resource.ensures.slots c.give_back.ensures.slots
+    c.lend-resource.ensures.fields c.give_back.ensures.fields
 
 pub row_in-object-requires : goal.row_in-object-requires
 row_in-object-requires g c =
@@ -81,9 +81,9 @@ row_in-row-requires g c =
     names_object _ _ _ _ c.requires.may.fits c.args.file
     (first_false (is_empty (var_of c.requires.may.state c.args.file)) _ (none_broken c.requires.may).not_empty)
 
-pub lend-resource-requires-clause-slot : goal.lend-resource-requires-clause-slot
-lend-resource-requires-clause-slot g c =
-    let at = goal.at.lend-resource-requires-clause-slot g c in
+pub lend-resource-requires-clause-field : goal.lend-resource-requires-clause-field
+lend-resource-requires-clause-field g c =
+    let at = goal.at.lend-resource-requires-clause-field g c in
     inl (on g at.After-row_in-row (asked g at.After-arg_of-value)).locked
 
 pub lend-resource-requires-clause-there : goal.lend-resource-requires-clause-there
@@ -94,7 +94,7 @@ lend-resource-requires-clause-there g c =
 pub give_back-requires-clause-whole : goal.give_back-requires-clause-whole
 give_back-requires-clause-whole g c = λ locked.
     let at = goal.at.give_back-requires-clause-whole g c in
-    ap (λ (v : View). v.in_slot) c.lend-resource.ensures.view
+    ap (λ (v : View). v.in_field) c.lend-resource.ensures.view
     ∙ (on g at.After-row_in-row (asked g at.After-arg_of-value)).whole
 
 -- The bytes are the digits of the number that was loaded, and a line feed.
@@ -103,9 +103,9 @@ text : (g : given.Over) (c : After-line_of-text g)
 text g c =
     c.line_of-text.ensures ∙ ap (λ (n : ℕ). decimal n ++ 10 ∷ []) c.arg_of-value.ensures.sees.2
 
-pub give_back-requires-clause-slot : goal.give_back-requires-clause-slot
-give_back-requires-clause-slot g c =
-    let at = goal.at.give_back-requires-clause-slot g c in
+pub give_back-requires-clause-field : goal.give_back-requires-clause-field
+give_back-requires-clause-field g c =
+    let at = goal.at.give_back-requires-clause-field g c in
     inl (ap (λ (v : View). v.actor.locked) c.lend-resource.ensures.view
     ∙ (on g at.After-row_in-row (asked g at.After-arg_of-value)).locked)
 

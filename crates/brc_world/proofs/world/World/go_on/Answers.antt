@@ -6,7 +6,8 @@ use Rattle.brc_model.specs.Dispatch.{status_action}
 use Rattle.brc_world.specs.Actors.{actor_of, memory_by, actor_by, faults_by, waits}
 use Rattle.brc_machine.specs.Storage.{word_in}
 use Rattle.brc_world.specs.Worlds.{model_of, choice_of}
-use Rattle.brc_world.proofs.Outcomes.{contents, are_of, Turned, Outcome, outcome, answered, refusal, thread_at}
+use Rattle.brc_world.specs.Doing.{Turned}
+use Rattle.brc_world.proofs.Outcomes.{contents, are_of, Outcome, outcome, answered, refusal, thread_at}
 use Rattle.brc_world.proofs.Answering.{going_answers}
 use Rattle.brc_world.proofs.Waiting.{waits_locked, moves_unless_waiting}
 use Rattle.brc_model.specs.World.{World, step}
@@ -94,17 +95,7 @@ outcome_of c =
     let next = actor_by layout t (word_in words) (actor_of before) c.args.exit action in
     let faults = faults_by c.args.exit action f in
     let turned : Turned words c.act.new.memory (actor_of before) (actor_of after) f c.act.new.faults c.act.result memory
-    next faults = record {
-      words = rw (c.as_slice.ensures, c.module.ensures.value) at c.act.ensures.words;
-      actor = rw (c.as_slice.ensures, c.module.ensures.value) at c.act.ensures.actor;
-      faults_are = rw (c.as_slice.ensures, c.module.ensures.value) at c.act.ensures.faults;
-      same_words = c.act.ensures.same_words;
-      same_actor = c.act.ensures.same_actor;
-      same_faults = c.act.ensures.same_faults;
-      rows = c.act.ensures.as_many_rows;
-      threads = c.act.ensures.as_many_threads;
-      cells = c.act.ensures.as_many_cells;
-    } in
+    next faults = rw (c.as_slice.ensures, c.module.ensures.value) at c.act.ensures.turned in
     let within = rw (sym c.self.view_is) at c.requires in
     let here = thread_at p layout words threads t f before c.index_mut.ensures.value within in
     let is = going_on w t (actor_of before) c.args.exit here in

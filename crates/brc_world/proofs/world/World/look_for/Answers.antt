@@ -5,7 +5,8 @@ use Rattle.brc_model.specs.declared.thread.Choice.TheVariants.{Claim}
 use Rattle.brc_world.specs.Actors.{actor_of, finds_mark, memory_claimed, actor_claimed}
 use Rattle.brc_machine.specs.Storage.{word_in}
 use Rattle.brc_world.specs.Worlds.{model_of}
-use Rattle.brc_world.proofs.Outcomes.{contents, are_of, Turned, Outcome, outcome, on_ok, on_err, answered, refusal, thread_at}
+use Rattle.brc_world.specs.Doing.{Turned}
+use Rattle.brc_world.proofs.Outcomes.{contents, are_of, Outcome, outcome, on_ok, on_err, answered, refusal, thread_at}
 use Rattle.brc_world.proofs.Answering.{claim_answers}
 use Rattle.brc_world.proofs.Stepping.{can_claim, claim_is, claim_moves, claim_stays}
 use Rattle.brc_world.proofs.world.World.look_for.Goals.{After-index_mut}

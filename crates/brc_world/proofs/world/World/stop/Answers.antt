@@ -5,7 +5,8 @@ use Rattle.brc_model.specs.World.{World}
 use Rattle.brc_world.specs.Actors.{actor_of, action_stopped, silently}
 use Rattle.brc_machine.specs.Storage.{word_in}
 use Rattle.brc_world.specs.Worlds.{model_of}
-use Rattle.brc_world.proofs.Outcomes.{contents, Turned, Outcome, outcome, answered, thread_at}
+use Rattle.brc_world.specs.Doing.{Turned}
+use Rattle.brc_world.proofs.Outcomes.{contents, Outcome, outcome, answered, thread_at}
 use Rattle.brc_world.proofs.Answering.{stop_answers}
 use Rattle.brc_world.proofs.Stepping.{can_stop, stop_is}
 use Rattle.brc_world.proofs.world.World.stop.Goals.{After-index_mut}

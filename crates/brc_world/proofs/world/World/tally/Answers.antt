@@ -1,9 +1,11 @@
 use Rattle.std.proofs.Common.{refl, sym, ap, ◌∙◌, arith}
 use Rattle.std.proofs.lemmas.Grind.{common_steps}
 use Rattle.brc_world.specs.Worlds.{model_of}
-use Rattle.brc_world.specs.Tallies.{still_runs, tally_of}
+use Rattle.brc_machine.specs.MachineTallies.{still_runs}
+use Rattle.brc_world.specs.Tallies.{tally_of}
 use Rattle.brc_world.specs.Actors.{actor_of}
-use Rattle.brc_world.proofs.Tallying.{born_there, count_over, tally_as}
+use Rattle.brc_machine.proofs.MachineTallying.{count_over}
+use Rattle.brc_world.proofs.Tallying.{born_there, tally_as}
 use Rattle.brc_world.proofs.world.World.tally.Goals as goal
 
 pub left_of-requires : goal.left_of-requires

@@ -10,10 +10,13 @@ invariant-loop-task g l = record {
   room : into_iter_len l.initial.task-iterator ≤ vec_capacity l.threads;
   place : (k : ℕ) (t : _) → k < into_iter_len l.task-iterator → get_or (into_iter_items l.task-iterator) k t
       ≡ get_or (into_iter_items l.initial.task-iterator) (vec_len l.threads + k) t;
-  begun : (k : ℕ) (b : _) → k < vec_len l.threads → IfOk (get_or (vec_items l.threads) k b)
+  begun : (k : ℕ) (b : _) (t : _) → k < vec_len l.threads
+      → let task = get_or (into_iter_items l.initial.task-iterator) k t in IfOk (get_or (vec_items l.threads) k b)
       (λ s. let promise = s.promise in
       job promise.heap.value promise.checked.value.module promise.function promise.times promise.steps promise.thread
-      ≡ job l.heap l.checked.module l.function l.times l.steps (k + 1))
+      promise.host.value
+      ≡ job task.heap.now task.checked.now.module task.function task.times task.steps task.thread task.host.now)
       × IfErr (get_or (vec_items l.threads) k b) (λ done. Ends g.H.Host.answers g.H.Host.counts
-      (job l.heap l.checked.module l.function l.times l.steps (k + 1)) done.hand done.ran done.called);
+      (job task.heap.now task.checked.now.module task.function task.times task.steps task.thread task.host.now)
+      done.hand done.ran done.called);
 }

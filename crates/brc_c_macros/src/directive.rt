@@ -1,0 +1,57 @@
+use brc_c_text::{Keyword, Lexeme, LexemeKind, Punctuator, Words};
+
+/// What a line that begins with `#` does.
+#[derive(Clone, Copy, Debug, PartialEq, Eq)]
+pub(crate) enum Action {
+    If,
+    Ifdef,
+    Ifndef,
+    Elif,
+    Else,
+    Endif,
+    Define,
+    Undef,
+    Include,
+    /// Nothing that a reader of functions asks for.
+    Other,
+}
+
+/// A directive: what it does, and the lexemes behind its name.
+#[derive(Clone, Copy, Debug)]
+pub(crate) struct Directive<'a> {
+    pub(crate) action: Action,
+    pub(crate) rest: &'a [Lexeme],
+}
+
+/// Returns the directive that a line is.
+pub(crate) fn directive_of<'a>(words: &Words, line: &'a [Lexeme]) -> Option<Directive<'a>> {
+    match line {
+        [hash, name, rest @ ..] if hash.is(Punctuator::Hash) => Some(Directive {
+            action: action_of(words, name),
+            rest,
+        }),
+        [hash] if hash.is(Punctuator::Hash) => Some(Directive {
+            action: Action::Other,
+            rest: &[],
+        }),
+        _ => None,
+    }
+}
+
+fn action_of(words: &Words, name: &Lexeme) -> Action {
+    match name.kind {
+        LexemeKind::Keyword(Keyword::If) => Action::If,
+        LexemeKind::Keyword(Keyword::Else) => Action::Else,
+        LexemeKind::Name => match words.text(name.word) {
+            b"ifdef" => Action::Ifdef,
+            b"ifndef" => Action::Ifndef,
+            b"elif" => Action::Elif,
+            b"endif" => Action::Endif,
+            b"define" => Action::Define,
+            b"undef" => Action::Undef,
+            b"include" => Action::Include,
+            _ => Action::Other,
+        },
+        _ => Action::Other,
+    }
+}

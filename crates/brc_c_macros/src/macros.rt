@@ -1,0 +1,169 @@
+use crate::fault::MacroFault;
+use crate::spelling::{is_pythons, lexemes_in};
+use brc_c_text::{Lexeme, LexemeKind, Punctuator, Word, Words};
+use std::alloc::{AllocError, Global};
+use std::collections::{HashMap, HashSet};
+
+/// A macro.
+#[derive(Clone, Copy, Debug)]
+pub struct Macro {
+    /// How many parameters it has, or `None` if it has no parentheses.
+    pub parameters: Option<usize>,
+    /// Whether it has `...`. Such a macro isn't expanded.
+    pub is_variadic: bool,
+    /// Whether it casts to a pointer to a function. Its name is a function then, and isn't expanded.
+    pub is_cast: bool,
+    start: usize,
+    end: usize,
+}
+
+/// A lexeme of a macro's body, and the parameter that it is.
+#[derive(Clone, Copy, Debug)]
+pub(crate) struct Part {
+    pub(crate) lexeme: Lexeme,
+    pub(crate) parameter: Option<usize>,
+}
+
+/// The macros that are defined.
+#[derive(Drop)]
+pub struct Macros {
+    alloc: Global,
+    by_name: HashMap<Word, Macro>,
+    /// The bodies of all macros.
+    parts: Vec<Part>,
+    /// Names that are never expanded: those of functions that are known.
+    kept: HashSet<Word>,
+}
+
+const PREDEFINED: [(&[u8], &[u8]); 7] = [
+    (b"__linux__", b"1"),
+    (b"__unix__", b"1"),
+    (b"__unix", b"1"),
+    (b"PY_VERSION_HEX", b"0x030d00f0"),
+    (b"PY_MAJOR_VERSION", b"3"),
+    (b"PY_MINOR_VERSION", b"13"),
+    (b"PY_SSIZE_T_CLEAN", b"1"),
+];
+
+impl Macros {
+    /// Returns the macros of a compiler for Linux and Python 3.13, with a global lock or without one.
+    pub fn new(
+        alloc: Global,
+        words: &mut Words,
+        is_free_threaded: bool,
+    ) -> Result<Macros, MacroFault> {
+        let mut macros = Macros {
+            alloc,
+            by_name: HashMap::new(alloc),
+            parts: Vec::new(alloc),
+            kept: HashSet::new(alloc),
+        };
+        for (name, value) in PREDEFINED {
+            macros.define(words, name, value)?;
+        }
+        if is_free_threaded {
+            macros.define(words, b"Py_GIL_DISABLED", b"1")?;
+        }
+        Ok(macros)
+    }
+
+    /// Defines a macro without parameters, as `-D` does.
+    pub fn define(
+        &mut self,
+        words: &mut Words,
+        name: &[u8],
+        value: &[u8],
+    ) -> Result<(), MacroFault> {
+        let name = words.word(name)?;
+        let body = lexemes_in(self.alloc, words, value)?;
+        self.add(words, name, None, false, body.as_slice())
+    }
+
+    /// Keeps a name from being expanded.
+    pub fn keep(&mut self, name: Word) -> Result<(), AllocError> {
+        self.kept.insert(name)?;
+        Ok(())
+    }
+
+    /// Returns the macro of this name.
+    pub fn find(&self, name: Word) -> Option<Macro> {
+        self.by_name.get(&name).copied()
+    }
+
+    /// Returns the body of a macro.
+    pub fn body(&self, found: &Macro) -> Result<Vec<Lexeme>, AllocError> {
+        let mut body = Vec::new(self.alloc);
+        for part in self.parts_of(found) {
+            body.push(part.lexeme)?;
+        }
+        Ok(body)
+    }
+
+    pub(crate) fn parts_of(&self, found: &Macro) -> &[Part] {
+        self.parts.get(found.start..found.end).unwrap_or(&[])
+    }
+
+    /// Returns the macro that a name is expanded as.
+    pub(crate) fn expanded(&self, words: &Words, lexeme: &Lexeme) -> Option<Macro> {
+        if lexeme.kind != LexemeKind::Name {
+            return None;
+        }
+        let found = self.find(lexeme.word)?;
+        let is_kept = found.is_variadic
+            || found.is_cast
+            || self.kept.contains(&lexeme.word)
+            || is_pythons(words.text(lexeme.word));
+        if is_kept { None } else { Some(found) }
+    }
+
+    /// Defines a macro. The last definition of a name holds.
+    pub(crate) fn add(
+        &mut self,
+        words: &Words,
+        name: Word,
+        parameters: Option<&[Word]>,
+        is_variadic: bool,
+        body: &[Lexeme],
+    ) -> Result<(), MacroFault> {
+        let start = self.parts.len();
+        let names = parameters.unwrap_or(&[]);
+        for lexeme in body {
+            let parameter = names.iter().position(|name| *name == lexeme.word);
+            let is_name = lexeme.kind == LexemeKind::Name;
+            self.parts.push(Part {
+                lexeme: *lexeme,
+                parameter: if is_name { parameter } else { None },
+            })?;
+        }
+        let found = Macro {
+            parameters: parameters.map(|names| names.len()),
+            is_variadic,
+            is_cast: parameters.is_none() && casts(words, body),
+            start,
+            end: self.parts.len(),
+        };
+        self.by_name.insert(name, found)?;
+        Ok(())
+    }
+
+    pub(crate) fn remove(&mut self, name: Word) {
+        let _ = self.by_name.remove(&name);
+    }
+}
+
+/// Returns whether a body has `(*)`, or takes a slot of a table of functions.
+fn casts(words: &Words, body: &[Lexeme]) -> bool {
+    let has_star = body.windows(3).any(|three| {
+        three.len() == 3
+            && three[0].is(Punctuator::LeftParen)
+            && three[1].is(Punctuator::Star)
+            && three[2].is(Punctuator::RightParen)
+    });
+    has_star
+        || body.iter().any(|lexeme| lexeme.kind == LexemeKind::Name
+            && has_slot(words.text(lexeme.word)))
+}
+
+fn has_slot(name: &[u8]) -> bool {
+    name.windows(4).any(|part| part == b"SLOT".as_slice())
+}

@@ -1,0 +1,173 @@
+//! Heads of functions.
+
+use crate::cursor::Cursor;
+use crate::parsing::Parser;
+use crate::stop::Stop;
+use crate::type_names::TypeNames;
+use brc_c_text::{Keyword, Lexeme, LexemeKind, Punctuator, Words};
+use brc_c_tree::{Parameter, Tag, TypeName};
+use std::alloc::Global;
+
+#[derive(Clone, Copy, Debug)]
+/// A function's name, what stands before it, and what its parentheses enclose.
+pub(crate) struct Head<'a> {
+    pub(crate) name: Lexeme,
+    pub(crate) before: &'a [Lexeme],
+    pub(crate) inside: &'a [Lexeme],
+}
+
+/// Returns the parts of a head, or `None` if it isn't one.
+pub(crate) fn head_of<'a>(words: &Words, lexemes: &'a [Lexeme]) -> Option<Head<'a>> {
+    let mut end = lexemes.len();
+    // Attributes may stand behind the parameters.
+    for _turn in 0..lexemes.len() {
+        let open = opening(lexemes.get(..end)?)?;
+        let at = open.checked_sub(1)?;
+        let name = lexemes.get(at)?;
+        if name.kind != LexemeKind::Name {
+            return None;
+        }
+        if !is_attribute(words.text(name.word)) {
+            return Some(Head {
+                name: *name,
+                before: lexemes.get(..at)?,
+                inside: lexemes.get(open.checked_add(1)?..end.checked_sub(1)?)?,
+            });
+        }
+        end = at;
+    }
+    None
+}
+
+fn is_attribute(name: &[u8]) -> bool {
+    name.starts_with(b"__attribute")
+}
+
+/// Returns the place of the parenthesis that the last of these lexemes closes.
+fn opening(lexemes: &[Lexeme]) -> Option<usize> {
+    let mut depth: usize = 0;
+    for (at, lexeme) in lexemes.iter().enumerate().rev() {
+        if lexeme.is(Punctuator::RightParen) {
+            depth = depth.saturating_add(1);
+        } else if lexeme.is(Punctuator::LeftParen) {
+            depth = depth.saturating_sub(1);
+        }
+        if depth == 0 {
+            return if lexeme.is(Punctuator::LeftParen) {
+                Some(at)
+            } else {
+                None
+            };
+        }
+    }
+    None
+}
+
+/// Returns the type of a function's result: the last name before its own name, with the stars behind it.
+pub(crate) fn result_of(types: &TypeNames, before: &[Lexeme]) -> TypeName {
+    let mut found = TypeName {
+        word: types.int(),
+        tag: None,
+        stars: 0,
+        is_function: false,
+    };
+    let mut tag = None;
+    for lexeme in before {
+        match lexeme.kind {
+            LexemeKind::Name => {
+                found.word = lexeme.word;
+                found.tag = tag;
+                found.stars = 0;
+                tag = None;
+            }
+            LexemeKind::Keyword(keyword) => tag = tag_of(keyword).or(tag),
+            _ if lexeme.is(Punctuator::Star) => found = found.pointer(),
+            _ => {}
+        }
+    }
+    found
+}
+
+fn tag_of(keyword: Keyword) -> Option<Tag> {
+    match keyword {
+        Keyword::Struct => Some(Tag::Struct),
+        Keyword::Union => Some(Tag::Union),
+        Keyword::Enum => Some(Tag::Enum),
+        _ => None,
+    }
+}
+
+pub(crate) fn is_static(before: &[Lexeme]) -> bool {
+    before.iter().any(|lexeme| lexeme.kind == LexemeKind::Keyword(Keyword::Static))
+}
+
+/// Reads the parameters in a head's parentheses.
+pub(crate) fn parameters_of(
+    alloc: Global,
+    words: &Words,
+    types: &TypeNames,
+    head: &Head<'_>,
+) -> Result<Vec<Parameter>, Stop> {
+    let cursor = Cursor::new(head.inside, head.name.place);
+    let mut parser = Parser::new(alloc, cursor, words, types);
+    let mut found = Vec::new(alloc);
+    for _turn in 0..head.inside.len() {
+        if parser.cursor.left() == 0 {
+            break;
+        }
+        let parameter = parser.parameter()?;
+        let is_void = parameter.name.is_none()
+            && parameter.type_name.stars == 0
+            && words.text(parameter.type_name.word) == b"void".as_slice();
+        if !is_void {
+            found.push(parameter)?;
+        }
+        parser.skip_to_comma();
+    }
+    Ok(found)
+}
+
+impl<'a> Parser<'a> {
+    /// Reads a parameter as far as it is understood.
+    fn parameter(&mut self) -> Result<Parameter, Stop> {
+        let is_variadic = self.cursor.eat(Punctuator::Ellipsis);
+        let specifiers = self.specifiers()?;
+        let mut type_name = self.stars(specifiers.type_name);
+        let mut name = None;
+        if self.cursor.peek().is(Punctuator::LeftParen) {
+            type_name.is_function = true;
+            name = self.function_pointer()?;
+        } else if self.cursor.peek().kind == LexemeKind::Name {
+            let mut last = self.cursor.take();
+            if self.words.text(last.word) == b"Py_UNUSED".as_slice()
+                && self.cursor.eat(Punctuator::LeftParen)
+            {
+                last = self.cursor.take();
+                self.cursor.eat(Punctuator::RightParen);
+            }
+            name = Some(last);
+        }
+        let dimensions = self.dimensions()?;
+        type_name.stars = type_name.stars.saturating_add(dimensions);
+        Ok(Parameter {
+            name: name.map(|lexeme| lexeme.word),
+            type_name,
+            is_variadic,
+        })
+    }
+
+    /// Passes all up to the next comma outside parentheses, and the comma.
+    pub(crate) fn skip_to_comma(&mut self) {
+        let mut depth: usize = 0;
+        for _turn in 0..self.cursor.left() {
+            let next = self.cursor.take();
+            if next.is(Punctuator::LeftParen) {
+                depth = depth.saturating_add(1);
+            } else if next.is(Punctuator::RightParen) {
+                depth = depth.saturating_sub(1);
+            } else if depth == 0 && next.is(Punctuator::Comma) {
+                break;
+            }
+        }
+    }
+}

@@ -1,0 +1,123 @@
+//! The items of a source: where each declaration and each function begins and ends.
+
+use crate::braces::closing;
+use brc_c_text::{Keyword, Lexeme, LexemeKind, Punctuator};
+use std::alloc::{AllocError, Global};
+
+/// Where an item stands among lexemes.
+#[derive(Clone, Copy, Debug, PartialEq, Eq)]
+pub(crate) enum Item {
+    /// What ends with a semicolon, before which `end` is. Its first braces, if it has any, enclose what is between
+    /// `open` and `close`.
+    Declaration {
+        start: usize,
+        end: usize,
+        braces: Option<(usize, usize)>,
+    },
+    /// A head, and what stands from the first brace to the place behind the last one.
+    Function {
+        start: usize,
+        open: usize,
+        end: usize,
+    },
+}
+
+/// The items so far.
+#[derive(Drop)]
+struct Listing {
+    items: Vec<Item>,
+    /// Where the next one begins, and its first braces.
+    start: usize,
+    braces: Option<(usize, usize)>,
+}
+
+/// Returns the items in the order in which they stand.
+pub(crate) fn items_of(alloc: Global, lexemes: &[Lexeme]) -> Result<Vec<Item>, AllocError> {
+    let closing = closing(alloc, lexemes)?;
+    let mut listing = Listing {
+        items: Vec::new(alloc),
+        start: 0,
+        braces: None,
+    };
+    let mut skip_to = 0;
+    for (at, lexeme) in lexemes.iter().enumerate() {
+        if at < skip_to {
+            continue;
+        }
+        if lexeme.is(Punctuator::Semicolon) {
+            listing.end_declaration(at)?;
+        } else if lexeme.is(Punctuator::LeftBrace) {
+            let end = end_of(closing.as_slice(), at, lexemes.len());
+            skip_to = listing.pass_braces(lexemes, at, end)?;
+        } else if lexeme.is(Punctuator::RightBrace) {
+            listing.begin(at.saturating_add(1));
+        }
+    }
+    Ok(listing.items)
+}
+
+impl Listing {
+    fn begin(&mut self, start: usize) {
+        self.start = start;
+        self.braces = None;
+    }
+
+    fn end_declaration(&mut self, at: usize) -> Result<(), AllocError> {
+        self.items.push(Item::Declaration {
+            start: self.start,
+            end: at,
+            braces: self.braces,
+        })?;
+        self.begin(at.saturating_add(1));
+        Ok(())
+    }
+
+    /// Passes a brace and what it encloses, unless that is declarations. Returns the place to go on from.
+    fn pass_braces(
+        &mut self,
+        lexemes: &[Lexeme],
+        open: usize,
+        end: usize,
+    ) -> Result<usize, AllocError> {
+        let start = self.start;
+        let head = lexemes.get(start..open).unwrap_or(&[]);
+        if is_linkage(head) {
+            let inside = open.saturating_add(1);
+            self.begin(inside);
+            return Ok(inside);
+        }
+        if is_head(head) {
+            self.items.push(Item::Function { start, open, end })?;
+            self.begin(end);
+        } else if self.braces.is_none() {
+            // The first braces count: those of a struct stand before those of a value.
+            self.braces = Some((open, end));
+        }
+        Ok(end)
+    }
+}
+
+/// Returns the place behind what the brace at `open` encloses.
+fn end_of(closing: &[Option<usize>], open: usize, last: usize) -> usize {
+    match closing.get(open) {
+        Some(Some(close)) => close.saturating_add(1),
+        _ => last,
+    }
+}
+
+fn is_linkage(head: &[Lexeme]) -> bool {
+    match head {
+        [first, second] => {
+            first.kind == LexemeKind::Keyword(Keyword::Extern) && second.kind == LexemeKind::Text
+        }
+        _ => false,
+    }
+}
+
+/// Returns whether braces behind these lexemes are the body of a function.
+fn is_head(head: &[Lexeme]) -> bool {
+    let Some(last) = head.last() else {
+        return false;
+    };
+    last.is(Punctuator::RightParen) && !head.iter().any(|lexeme| lexeme.is(Punctuator::Equal))
+}

@@ -1,0 +1,8 @@
+//! The rows of `api.txt`. `docs/api_table.py --write` writes this file and its parts.
+
+mod part_1;
+mod part_2;
+mod part_3;
+
+/// The rows, in parts.
+pub const PARTS: [&str; 3] = [part_1::ROWS, part_2::ROWS, part_3::ROWS];

@@ -1,0 +1,194 @@
+use crate::reading::read;
+use crate::rendering::body_text;
+use brc_c_text::Words;
+use std::test::Fail;
+
+/// The body of a function with the parameters `a` and `b`, and the text of its tree.
+const ROWS: [(&str, &str); 39] = [
+    ("", "{ }"),
+    (";", "{ { } }"),
+    ("a = 1;", "{ (a = 1); }"),
+    (
+        "a = b = 1 + 2 * 3 - 4;",
+        "{ (a = (b = ((1 Add (2 Multiply 3)) Subtract 4))); }",
+    ),
+    (
+        "a += f(b, 1)(2)[3].x->y++;",
+        "{ (a Add= (f(b, 1)(2)[3].x->y++)); }",
+    ),
+    (
+        "a = !b && -1 < ~b || *a == &b;",
+        "{ (a = (((Not b) And ((Minus 1) Less (Complement b))) Or ((Dereference a) Equal (Address b)))); }",
+    ),
+    (
+        "a = b ? 1 : a ? 2 : 3, b = 4;",
+        "{ ((a = (b ? 1 : (a ? 2 : 3))), (b = 4)); }",
+    ),
+    ("a = b ? (1, 2) : 3;", "{ (a = (b ? (1, 2) : 3)); }"),
+    ("++a; b--;", "{ (++a); (b--); }"),
+    (
+        "a = sizeof(int) + sizeof b;",
+        "{ (a = (sizeof Add sizeof)); }",
+    ),
+    (
+        "a = (int)b + (PyObject *)b;",
+        "{ (a = ([int]b Add [PyObject*]b)); }",
+    ),
+    (
+        "a = (foo)b; a = (b)(1); a = (Unknown *)b;",
+        "{ (a = [foo]b); (a = b(1)); (a = [Unknown*]b); }",
+    ),
+    (
+        "a = (unsigned LONG)b; a = (int (*)(void))b;",
+        "{ (a = [LONG]b); (a = [int()]b); }",
+    ),
+    ("a = (struct s){1, 2};", "{ (a = [s]opaque); }"),
+    (
+        "a = PyObject_New(FooObject, b); f(va, int *);",
+        "{ (a = PyObject_New(opaque, b)); f(va, opaque); }",
+    ),
+    (
+        "int x = 1, *y, z[2][3];",
+        "{ let int x = 1;let int* y;let int** z; }",
+    ),
+    (
+        "static const char *s = \"a\" \"b\";",
+        "{ static char* s = \"ab\"; }",
+    ),
+    (
+        "unsigned long n; struct s *p; Foo *q; Foo r = 1;",
+        "{ let long n; let s* p; let Foo* q; let Foo r = 1; }",
+    ),
+    (
+        "PyObject *v[2] = {a, b}, *w[] = {{1}};",
+        "{ let PyObject** v = {a, b};let PyObject** w = opaque; }",
+    ),
+    (
+        "int (*f)(int) = b; PyObject *(*g)(void);",
+        "{ let int() f = b; let PyObject*() g; }",
+    ),
+    ("a * b; c * d;", "{ (a Multiply b); let c* d; }"),
+    ("int x __attribute__((unused)) = 1;", "{ let int x = 1; }"),
+    ("if (a) b = 1;", "{ if a (b = 1); }"),
+    (
+        "if (a) ; else if (b) ; else ;",
+        "{ if a { } else if b { } else { } }",
+    ),
+    ("if FAILED(a) return;", "{ if FAILED(a) return ; }"),
+    (
+        "while (a) { break; continue; }",
+        "{ while a { break; continue; } }",
+    ),
+    ("do a++; while (a < 3);", "{ do-while (a Less 3) (a++); }"),
+    ("for (;;) ;", "{ for ( ; ) { } }"),
+    (
+        "for (int i = 0; i < 3; i++) f(i);",
+        "{ for (let int i = 0; (i Less 3); (i++)) f(i); }",
+    ),
+    (
+        "for (a = 0, b = 1; a; ) ;",
+        "{ for (((a = 0), (b = 1)); a; ) { } }",
+    ),
+    (
+        "switch (a) { case 1: case 'x': b = 1; break; default: ; }",
+        "{ switch a { case 1; case 'x'; (b = 1); break; default; { } } }",
+    ),
+    (
+        "switch (a) { case 1 ... 5: ; }",
+        "{ switch a { case 1; { } } }",
+    ),
+    (
+        "goto done; done: return a;",
+        "{ goto done; done: return a; }",
+    ),
+    (
+        "Py_BEGIN_ALLOW_THREADS a = 1; Py_END_ALLOW_THREADS",
+        "{ BeginAllowThreads(); (a = 1); EndAllowThreads(); }",
+    ),
+    (
+        "Py_BEGIN_CRITICAL_SECTION(a); Py_RETURN_NONE;",
+        "{ BeginCriticalSection(a); ReturnNone(); }",
+    ),
+    (
+        "Py_VISIT(a->b);\nFOO(a)\nb = 1;",
+        "{ Visit(a->b); FOO(a); (b = 1); }",
+    ),
+    (
+        "typedef unsigned UINT T; T x = (T)(b); x * b;",
+        "{  let T x = [T]b; (x Multiply b); }",
+    ),
+    (
+        "unsigned UINT t; union { int i; float f; } u;",
+        "{ let UINT t; let int u; }",
+    ),
+    ("{ a; } { { b; } }", "{ { a; } { { b; } } }"),
+];
+
+#[test]
+fn bodies(rt: HostRuntime) -> Result<(), Fail> {
+    let alloc = rt.alloc();
+    for (body, wanted) in ROWS {
+        let mut words = Words::new(alloc)?;
+        let source = format!(in alloc; "static int f(PyObject *a, int b) {{ {body} }}")?;
+        let tree = read(alloc, &mut words, source.as_bytes())?;
+        assert_eq!(rt; tree.functions.len(), 1, "{body}");
+        let found = body_text(alloc, &words, &tree.functions[0])?;
+        assert_eq!(rt; found.as_str(), wanted, "{body}");
+    }
+    Ok(())
+}
+
+/// The body of a function that isn't read, from line 2 on, and where and why it isn't.
+const NOT_READ: [(&str, &str); 23] = [
+    ("a = ;", "2:5 `;` is read where an expression is expected"),
+    ("a = 1", "3:1 `}` is read where `;` is expected"),
+    ("f(1", "3:1 `}` is read where `)` is expected"),
+    ("a ? b;", "2:6 `;` is read where `:` is expected"),
+    ("a = (b;", "2:7 `;` is read where `)` is expected"),
+    ("a[1;", "2:4 `;` is read where `]` is expected"),
+    ("a = ({ 1; });", "2:5 statements in an expression"),
+    ("asm(\"nop\");", "2:1 assembler"),
+    ("...;", "2:1 `...` stands for code that isn't there"),
+    ("a = @;", "2:5 `@` is read, which begins nothing in C"),
+    ("a = 'x;", "2:5 `'` is read, which begins nothing in C"),
+    (
+        "int x __attribute__((cleanup(f))) = 1;",
+        "2:7 a variable whose end calls a function",
+    ),
+    (
+        "else b = 1;",
+        "2:1 `else` is read where an expression is expected",
+    ),
+    (
+        "do a = 1; b = 2;",
+        "2:11 `b` is read where `while` is expected",
+    ),
+    ("goto 1;", "2:6 `1` is read where a name is expected"),
+    ("a->1;", "2:4 `1` is read where a name is expected"),
+    ("int *;", "2:6 `;` is read where a name is expected"),
+    ("int (*)(int);", "2:13 `;` is read where a name is expected"),
+    ("case 1;", "2:7 `;` is read where `:` is expected"),
+    ("if a b", "3:1 `}` is read where `;` is expected"),
+    ("if (a) {", "1:14 a brace or a parenthesis isn't closed"),
+    ("foo(a)\nb = 1;", "3:1 `b` is read where `;` is expected"),
+    ("sizeof (a", "2:1 a brace or a parenthesis isn't closed"),
+];
+
+/// Each function behind one that isn't read is read.
+#[test]
+fn reasons(rt: HostRuntime) -> Result<(), Fail> {
+    let alloc = rt.alloc();
+    for (body, wanted) in NOT_READ {
+        let mut words = Words::new(alloc)?;
+        let source = format!(in alloc;
+            "int f(int a) {{\n{body}\n}}\nint g(void)\n{{\nreturn 1;\n}}\n"
+        )?;
+        let tree = read(alloc, &mut words, source.as_bytes())?;
+        assert_eq!(rt; tree.functions.len(), 2, "{body}");
+        let found = body_text(alloc, &words, &tree.functions[0])?;
+        assert_eq!(rt; found.as_str(), wanted, "{body}");
+        let found = body_text(alloc, &words, &tree.functions[1])?;
+        assert_eq!(rt; found.as_str(), "{ return 1; }", "{body}");
+    }
+    Ok(())
+}

@@ -1,0 +1,45 @@
+//! Sources as they are read from a text.
+
+use brc_c_macros::{Headers, Macros, Preprocessed, preprocess};
+use brc_c_read::{TypeNames, read_source};
+use brc_c_text::{Words, lexemes_of, scan};
+use brc_c_tree::SourceTree;
+use std::alloc::{AllocError, Global};
+use std::test::Fail;
+
+/// Two headers: `a.h`, and `self.h`, which includes itself.
+#[derive(Drop)]
+pub struct TwoHeaders;
+
+const HEADER: &[u8] = b"#define SIX 6\nheader;\n";
+
+impl Headers for TwoHeaders {
+    fn load(
+        &mut self,
+        name: &[u8],
+        _from: usize,
+        bytes: &mut Vec<u8>,
+    ) -> Result<Option<usize>, AllocError> {
+        match name {
+            b"a.h" => bytes.extend_from_slice(HEADER)?,
+            b"self.h" => bytes.extend_from_slice(b"y\n#include \"self.h\"\n")?,
+            _ => return Ok(None),
+        }
+        Ok(Some(1))
+    }
+}
+
+/// Preprocesses a text.
+pub fn preprocessed(alloc: Global, words: &mut Words, source: &[u8]) -> Result<Preprocessed, Fail> {
+    let scanned = scan(alloc, source)?;
+    let lexemes = lexemes_of(alloc, words, scanned.tokens.as_slice(), source, 0)?;
+    let macros = Macros::new(alloc, words, false)?;
+    Ok(preprocess(alloc, words, &mut TwoHeaders, macros, lexemes, 0)?)
+}
+
+/// Reads the functions of a text.
+pub fn read(alloc: Global, words: &mut Words, source: &[u8]) -> Result<SourceTree, Fail> {
+    let done = preprocessed(alloc, words, source)?;
+    let mut types = TypeNames::new(alloc, words)?;
+    Ok(read_source(alloc, words, &mut types, done.lexemes.as_slice())?)
+}

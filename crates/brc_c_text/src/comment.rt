@@ -1,0 +1,10 @@
+/// A comment, with what begins and ends it.
+#[derive(Clone, Copy, Debug, PartialEq, Eq)]
+pub struct Comment {
+    /// Where its first byte is, and the byte behind its last one.
+    pub start: usize,
+    pub end: usize,
+    /// The lines of its first and its last byte, from 1.
+    pub line: u32,
+    pub last_line: u32,
+}

@@ -1,7 +1,0 @@
-use Rattle.brc_model.specs.declared.state.VarState.TheVariants.{Empty}
-use Rattle.brc_model.specs.VarStates.{without_item}
-use Rattle.brc_check.proofs.Mapping.{mapped}
-use Rattle.brc_check.proofs.variables.vars_without_items.Goals as goal
-
-pub returns : goal.returns
-returns c = mapped _ _ _ _ 16 without_item Empty (λ p q x y called. search) (search) c.map.ensures.items

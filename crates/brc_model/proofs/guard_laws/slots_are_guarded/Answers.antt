@@ -1,5 +1,0 @@
-use Rattle.brc_model.proofs.Promises.Guarded as guarded
-use Rattle.brc_model.proofs.guard_laws.slots_are_guarded.Goals as goal
-
-pub returns : goal.returns
-returns c = guarded.slots_guarded

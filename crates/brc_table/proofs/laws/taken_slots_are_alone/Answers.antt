@@ -1,5 +1,0 @@
-use Rattle.brc_table.proofs.Guarding.{taken_alone}
-use Rattle.brc_table.proofs.laws.taken_slots_are_alone.Goals as goal
-
-pub returns : goal.returns
-returns g c = taken_alone
