@@ -1,5 +1,5 @@
-//! Tests of what no command shows: texts as values, and what is written of them; the tables of the checker; the words of
-//! objects; what a step answers, and all interleavings of two workers. What a command shows is in the cases of
+//! Tests of what no command shows: texts as values, and what is written of them; the tables of the checker; the words
+//! of objects; what a step answers, and all interleavings of two workers. What a command shows is in the cases of
 //! `brc_cases`.
 #![tactic(auto)]
 

@@ -99,9 +99,9 @@ fn with(owned: Owned, at: usize, value: u8) -> Owned
     made
 }
 
-/// The words of a line that makes, moves or gives up references, and what is owned behind it, or `None` where the number
-/// is of no such line or the line would be refused. A call lends the list to `show`, if nothing is owned, or `give` steals
-/// all that is; only what the call returns is owned behind it.
+/// The words of a line that makes, moves or gives up references, and what is owned behind it, or `None` where the
+/// number is of no such line or the line would be refused. A call lends the list to `show`, if nothing is owned, or
+/// `give` steals all that is; only what the call returns is owned behind it.
 fn words_of(
     number: u64,
     one: usize,

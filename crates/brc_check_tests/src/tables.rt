@@ -8,8 +8,8 @@ use brc_lang::{Kind, Module, Variable};
 use std::alloc::Global;
 use std::test::*;
 
-/// The states of v1 and v2 at a point, and the number of the locked variable, if one is; v0 is the caller's list, and the
-/// others are empty. `None` is a point that no path reaches, or one past the last.
+/// The states of v1 and v2 at a point, and the number of the locked variable, if one is; v0 is the caller's list, and
+/// the others are empty. `None` is a point that no path reaches, or one past the last.
 type Entry = Option<(Slot, Slot, Option<u8>)>;
 
 const EMPTY: Slot = Slot::Empty;

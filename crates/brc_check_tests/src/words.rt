@@ -16,8 +16,8 @@ fn shared(count: i64, phase: Phase) -> Shared
     Shared { count, phase }
 }
 
-/// The shared word: what it packs, what a retain, a release and a merge leave of it, and what it is asked. Then the local
-/// word.
+/// The shared word: what it packs, what a retain, a release and a merge leave of it, and what it is asked. Then the
+/// local word.
 #[test]
 fn counts(rt: HostRuntime) {
     let packed = [

@@ -84,7 +84,8 @@ impl Write for Narrow {
     }
 }
 
-/// Whether a writer that takes so many bytes gets the beginning of the smallest module, and no error only if it takes all.
+/// Whether a writer that takes so many bytes gets the beginning of the smallest module, and no error only if it takes
+/// all.
 fn is_begun(alloc: Global, stop: Stop, left: usize) -> Result<bool, Fail> {
     let module = read(alloc, SMALLEST).ok().ok_or("the text is a module")?;
     let mut writer = Narrow {

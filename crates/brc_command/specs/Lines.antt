@@ -1,11 +1,8 @@
 -- The line and the status for each reason why a command stops.
 use Rattle.std.specs.Prelude.{ℕ, List, [], ◌++◌, codes, decimal}
+use Rattle.brc_lang.specs.Codes.{fault_code, check_code}
 use Rattle.brc_lang.specs.Grammar.{line}
-use Rattle.brc_lang.specs.declared.fault.FaultCode.{FaultCode}
-use Rattle.brc_lang.specs.declared.fault.FaultCode.TheVariants as faults
 use Rattle.brc_lang.specs.declared.fault.ReadFault.{ReadFault}
-use Rattle.brc_lang.specs.declared.check_code.CheckCode.{CheckCode}
-use Rattle.brc_lang.specs.declared.check_code.CheckCode.TheVariants as checks
 use Rattle.brc_check.specs.declared.refused.Refused.{Refused as Refusal}
 use Rattle.brc_command.specs.declared.load.LoadError.{LoadError}
 use Rattle.brc_command.specs.declared.load.LoadError.TheVariants as loads
@@ -18,34 +15,6 @@ use Rattle.brc_run.specs.declared.error.RunFault.TheVariants as runs
 use Rattle.brc_trace.specs.declared.fault.TraceFault.{TraceFault}
 use Rattle.brc_trace.specs.declared.fault.TraceFault.TheVariants as traces
 use Rattle.brc_command.specs.declared.stop.Stop.TheVariants.{UnreadableFile, NoFunction as Unknown, NoThread, Fault}
-
--- ---- codes
-
-abbrev pub fault_code : FaultCode → List ℕ
-fault_code faults.FirstLine = codes "L1"
-fault_code faults.UnknownWord = codes "L2"
-fault_code faults.Number = codes "L3"
-fault_code faults.Target = codes "L4"
-fault_code faults.NameTwice = codes "L5"
-fault_code faults.OverLimit = codes "L6"
-fault_code faults.CutOff = codes "L7"
-fault_code faults.NoMemory = codes "L8"
-fault_code faults.Callee = codes "L9"
-fault_code faults.StaticList = codes "L10"
-
-abbrev pub check_code : CheckCode → List ℕ
-check_code checks.EmptyUsed = codes "C1"
-check_code checks.WrongKind = codes "C2"
-check_code checks.NotOwned = codes "C3"
-check_code checks.StillOwns = codes "C4"
-check_code checks.LeftOwned = codes "C5"
-check_code checks.LeftLocked = codes "C6"
-check_code checks.SecondLock = codes "C7"
-check_code checks.NotLocked = codes "C8"
-check_code checks.LockedChanged = codes "C9"
-check_code checks.StatesDiffer = codes "C10"
-check_code checks.RunsOff = codes "C11"
-check_code checks.NoMemory = codes "C12"
 
 -- ---- lines
 

@@ -14,7 +14,7 @@ use Rattle.brc_command.specs.declared.finding.Finding.TheVariants.{Accepted, Ref
 use Rattle.brc_command.specs.declared.step_fault.StepFault.{StepFault}
 use Rattle.brc_command.specs.declared.step_fault.StepFault.TheVariants as faults
 use Rattle.brc_command.specs.declared.stop.Stop.TheVariants.{UnreadableFile, NoFunction, NoThread, Fault}
-use Rattle.brc_command.specs.Lines.{fault_code, check_code}
+use Rattle.brc_lang.specs.Codes.{fault_code, check_code}
 
 -- ---- members
 

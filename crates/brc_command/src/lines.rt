@@ -3,13 +3,13 @@
 ghost use Rattle.std.specs.Prelude.{◌≡◌, OnOk, OnErr};
 ghost use Rattle.std.specs.Io.KnownBytes.{Appends};
 ghost use Rattle.brc_lang.specs.Written.{AppendsBeginning};
-ghost use Rattle.brc_command.specs.Lines.{fault_code, check_code, located_text, unreadable_text, refused_text};
+ghost use Rattle.brc_command.specs.Lines.{located_text, unreadable_text, refused_text};
 ghost use Rattle.brc_command.specs.Lines.{unknown_text, fault_text, stop_text, version_text};
 
 use crate::step_fault::StepFault;
 use crate::stop::Stop;
-use brc_check::{CheckCode, Refused};
-use brc_lang::{FaultCode, ReadFault, write_bytes, write_pieces};
+use brc_check::Refused;
+use brc_lang::{ReadFault, write_bytes, write_pieces};
 use itoa::Buffer;
 use std::io;
 use std::io::Write;
@@ -62,7 +62,7 @@ fn write_unreadable<W: Write>(file: &[u8], fault: &ReadFault, writer: &mut W) ->
 {
     let mut digits = Buffer::new();
     let number = digits.format(fault.line).as_bytes();
-    let code = fault_code(fault.code).as_bytes();
+    let code = fault.code.name().as_bytes();
     write_located(b"unreadable ", file, b"line ", number, code, writer)
 }
 
@@ -74,7 +74,7 @@ fn write_refused<W: Write>(refused: &Refused, writer: &mut W) -> io::Result<()>
     let mut digits = Buffer::new();
     let name = refused.function.as_bytes();
     let number = digits.format(refused.at as u64).as_bytes();
-    let code = check_code(refused.code).as_bytes();
+    let code = refused.code.name().as_bytes();
     write_located(b"refused ", name, b" @", number, code, writer)
 }
 
@@ -101,40 +101,4 @@ fn write_unknown<W: Write>(name: &[u8], writer: &mut W) -> io::Result<()>
         (unknown_text name.now)) }
 {
     write_pieces(&[b"no function ", name, b"\n"], writer)
-}
-
-pub fn fault_code(code: FaultCode) -> &'static str
-    ensures { result.now ≡ fault_code code }
-{
-    match code {
-        FaultCode::FirstLine => "L1",
-        FaultCode::UnknownWord => "L2",
-        FaultCode::Number => "L3",
-        FaultCode::Target => "L4",
-        FaultCode::NameTwice => "L5",
-        FaultCode::OverLimit => "L6",
-        FaultCode::CutOff => "L7",
-        FaultCode::NoMemory => "L8",
-        FaultCode::Callee => "L9",
-        FaultCode::StaticList => "L10",
-    }
-}
-
-pub fn check_code(code: CheckCode) -> &'static str
-    ensures { result.now ≡ check_code code }
-{
-    match code {
-        CheckCode::EmptyUsed => "C1",
-        CheckCode::WrongKind => "C2",
-        CheckCode::NotOwned => "C3",
-        CheckCode::StillOwns => "C4",
-        CheckCode::LeftOwned => "C5",
-        CheckCode::LeftLocked => "C6",
-        CheckCode::SecondLock => "C7",
-        CheckCode::NotLocked => "C8",
-        CheckCode::LockedChanged => "C9",
-        CheckCode::StatesDiffer => "C10",
-        CheckCode::RunsOff => "C11",
-        CheckCode::NoMemory => "C12",
-    }
 }

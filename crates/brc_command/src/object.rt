@@ -9,7 +9,6 @@ ghost use Rattle.brc_command.specs.Objects.{line_in, step_object, path_array, pa
 ghost use Rattle.brc_command.specs.Objects.{first_members, IsObjectLine};
 
 use crate::finding::{Finding, Located};
-use crate::lines::{check_code, fault_code};
 use crate::step_fault::StepFault;
 use crate::stop::Stop;
 use brc_explain::{StepRow, StepRows};
@@ -103,10 +102,10 @@ fn code_of(alloc: Global, finding: &Finding<'_>) -> Result<Value, AllocError>
 {
     match finding {
         Finding::Refused(located) => {
-            Value::try_from_str(alloc, check_code(located.refused.code))
+            Value::try_from_str(alloc, located.refused.code.name())
         }
         Finding::Stopped(Stop::Fault(StepFault::Text(fault))) => {
-            Value::try_from_str(alloc, fault_code(fault.code))
+            Value::try_from_str(alloc, fault.code.name())
         }
         _ => Ok(Value::Null),
     }

@@ -170,8 +170,8 @@ pub fn access_of(blocks: Blocks, duty: Duty, thread: u8, head: u32) -> Access
         // The kind is stored before the object is born, and no word of a row is set before its birth
         // (`birth_kind_skipped`). Rules `KindOfResource` and `KindOfOther`.
         Duty::BirthKind { word, .. } => Access::Store { word, before: 0 },
-        // The resource is put into its field before the object is born (`field_left_empty`), and back into it after each
-        // call of the host (`lent_field_left_empty`). Rules `FieldFilled` and `ResourceReturned`.
+        // The resource is put into its field before the object is born (`field_left_empty`), and back into it after
+        // each call of the host (`lent_field_left_empty`). Rules `FieldFilled` and `ResourceReturned`.
         Duty::BirthField { .. } | Duty::ReturnField { .. } => Access::Store {
             word: FULL,
             before: EMPTY,

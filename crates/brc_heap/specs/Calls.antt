@@ -136,8 +136,8 @@ IsBornWith cells kinds.File arg = arg ≡ 0
 IsBornWith cells kinds.Sock arg = arg ≡ 0
 IsBornWith cells _ arg = ⊥
 
--- the hand has stored the kind word of a new object, put its resource into its field if the kind has one, and stored its
--- first local word
+-- the hand has stored the kind word of a new object, put its resource into its field if the kind has one, and stored
+-- its first local word
 abbrev pub born : View → ℕ → View
 born v word = view_after (field_filled (view_after (bearing v word) 0)) 0
 

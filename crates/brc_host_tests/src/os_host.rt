@@ -62,8 +62,8 @@ fn file_used(rt: &HostRuntime, folder: &str) -> Option<([bool; 6], Counts)> {
     Some((uses, counts_of(&host)))
 }
 
-/// A mode that makes the file makes it empty; no mode empties one that is there; a write changes its own bytes alone; and
-/// a file that was made anew is written and read.
+/// A mode that makes the file makes it empty; no mode empties one that is there; a write changes its own bytes alone;
+/// and a file that was made anew is written and read.
 fn uses<H: Host>(rt: &HostRuntime, host: &mut H, file: &str) -> [bool; 6] {
     let made = made_empty(rt, host, file);
     let alike = left_alone(rt, host, file);

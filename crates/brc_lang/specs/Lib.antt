@@ -4,6 +4,7 @@ pub mod Padding
 pub mod Grammar
 pub mod InstructionWords
 pub mod Fault
+pub mod Codes
 pub mod EachText
 pub mod RoundTrips
 pub mod Progress

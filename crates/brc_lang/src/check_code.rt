@@ -1,3 +1,6 @@
+ghost use Rattle.std.specs.Prelude.{◌≡◌};
+ghost use Rattle.brc_lang.specs.Codes.{check_code};
+
 use std::fmt;
 
 /// Why the checker doesn't accept a function: the error that a path through it reports, or refused memory.
@@ -29,9 +32,12 @@ pub enum CheckCode {
     NoMemory,
 }
 
-impl fmt::Display for CheckCode {
-    fn fmt<W: fmt::Write>(&self, f: &mut fmt::Formatter<W>) -> fmt::Result {
-        let code = match self {
+impl CheckCode {
+    /// Returns the code's name, C1 to C12, as commands write it.
+    pub fn name(self) -> &'static str
+        ensures { result.now ≡ check_code self }
+    {
+        match self {
             CheckCode::EmptyUsed => "C1",
             CheckCode::WrongKind => "C2",
             CheckCode::NotOwned => "C3",
@@ -44,7 +50,12 @@ impl fmt::Display for CheckCode {
             CheckCode::StatesDiffer => "C10",
             CheckCode::RunsOff => "C11",
             CheckCode::NoMemory => "C12",
-        };
-        write!(f, "{code}")
+        }
+    }
+}
+
+impl fmt::Display for CheckCode {
+    fn fmt<W: fmt::Write>(&self, f: &mut fmt::Formatter<W>) -> fmt::Result {
+        write!(f, "{}", self.name())
     }
 }

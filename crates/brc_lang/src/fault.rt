@@ -1,4 +1,5 @@
 ghost use Rattle.std.specs.Prelude.{◌≡◌};
+ghost use Rattle.brc_lang.specs.Codes.{fault_code};
 ghost use Rattle.brc_lang.specs.declared.fault.FaultCode.TheVariants.{NoMemory};
 
 use std::alloc::AllocError;
@@ -30,9 +31,12 @@ pub enum FaultCode {
     StaticList,
 }
 
-impl fmt::Display for FaultCode {
-    fn fmt<W: fmt::Write>(&self, f: &mut fmt::Formatter<W>) -> fmt::Result {
-        let code = match self {
+impl FaultCode {
+    /// Returns the code's name, L1 to L10, as commands write it.
+    pub fn name(self) -> &'static str
+        ensures { result.now ≡ fault_code self }
+    {
+        match self {
             FaultCode::FirstLine => "L1",
             FaultCode::UnknownWord => "L2",
             FaultCode::Number => "L3",
@@ -43,8 +47,13 @@ impl fmt::Display for FaultCode {
             FaultCode::NoMemory => "L8",
             FaultCode::Callee => "L9",
             FaultCode::StaticList => "L10",
-        };
-        write!(f, "{code}")
+        }
+    }
+}
+
+impl fmt::Display for FaultCode {
+    fn fmt<W: fmt::Write>(&self, f: &mut fmt::Formatter<W>) -> fmt::Result {
+        write!(f, "{}", self.name())
     }
 }
 

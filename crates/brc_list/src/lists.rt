@@ -177,8 +177,8 @@ impl<'h, T: Drop> Lists<'h, T> {
         }
     }
 
-    /// Takes the resource of the file or socket that the hand has locked, or finalises just now, out of its field, for a
-    /// call of the host. While the resource is lent the hand can't unlock the object; from a dying object it is taken
+    /// Takes the resource of the file or socket that the hand has locked, or finalises just now, out of its field, for
+    /// a call of the host. While the resource is lent the hand can't unlock the object; from a dying object it is taken
     /// to be closed.
     pub fn lend(&self, hand: &mut Hand<T>, row: u32) -> T
         requires table { IsOf self.now hand.old }

@@ -12,8 +12,8 @@
 -- counts, births and kinds of its rows; the invariant; its ranges), `FirstHands` and `FirstMachine` that the first
 -- machines are such, and `Sound` what is true of a module's functions. `CodeInvariant` adds the second layer, about
 -- accepted code, `StepCases` splits an event by its action, `KindsHold` shows over it that variables keep their kinds,
--- `ItemsHold` that borrowed items stay in the locked list and `RoomsHold` that a thread that awaits a birth has room for
--- it, and `CodeEvents` carries both layers through every list of events.
+-- `ItemsHold` that borrowed items stay in the locked list and `RoomsHold` that a thread that awaits a birth has room
+-- for it, and `CodeEvents` carries both layers through every list of events.
 
 pub mod NotBad
 pub mod KeepsDuty

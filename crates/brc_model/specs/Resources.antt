@@ -1,5 +1,5 @@
--- The resources of the host. Each file or socket that was born has its resource in exactly one place: in its field, with
--- the thread that has it lent to a call of the host, with the thread that is about to close it, or closed.
+-- The resources of the host. Each file or socket that was born has its resource in exactly one place: in its field,
+-- with the thread that has it lent to a call of the host, with the thread that is about to close it, or closed.
 use Rattle.std.specs.Prelude.{◌≡◌, ℕ, ◌+◌, ◌<◌, ◌==◌, List, sum_by}
 use Rattle.brc_model.specs.declared.duty.Duty.{Duty}
 use Rattle.brc_model.specs.declared.duty.Duty.TheVariants.{CloseResource, SettleEnd}

@@ -1,6 +1,6 @@
--- Field states: what each instruction asks of the variables, and what it leaves in them. (Python/C API manual, Reference
--- Count Details; Extending manual, Ownership Rules: the owner of a reference gives it up once, by a decrement or by
--- passing it on; a borrower doesn't give it up; a call returns an owned reference.)
+-- Slot states: what each instruction asks of the variables, and what it leaves in them. (Python/C API manual,
+-- Reference Count Details; Extending manual, Ownership Rules: the owner of a reference gives it up once, by a decrement
+-- or by passing it on; a borrower doesn't give it up; a call returns an owned reference.)
 use Rattle.std.specs.Prelude.{ℕ, zero, suc, ◌+◌, Bool, true, false, not, ◌&&◌, ◌||◌, ◌==◌, List, [], ◌∷◌, Option, None, Some, is_some, find, slice_set, map, fold, filter, flat_map}
 use Rattle.std.specs.List.{list_any, slice_index_or}
 use Rattle.brc_lang.specs.declared.kind.Kind.{Kind}

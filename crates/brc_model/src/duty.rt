@@ -197,8 +197,8 @@ pub enum Duty {
         item: u32,
         holding: Holding,
     },
-    /// Takes the resource of the file or socket that the thread has locked out of its field: the thread has it lent, for
-    /// a call of the host.
+    /// Takes the resource of the file or socket that the thread has locked out of its field: the thread has it lent,
+    /// for a call of the host.
     LendField {
         row: u32,
     },

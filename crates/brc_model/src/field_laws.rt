@@ -2,8 +2,8 @@
 
 ghost use Rattle.brc_model.specs.FieldLaws.{GivenFieldsAreUnlocked, LockedFieldsAreFull, NeededFieldsAreUnlocked, FieldsAreFree, FieldsAreKnown, FieldsEnd};
 
-/// States that a thread takes a field only while no thread uses it: as it locks the field's row, begins the birth of the
-/// row's object, or begins to deallocate the object.
+/// States that a thread takes a field only while no thread uses it: as it locks the field's row, begins the birth of
+/// the row's object, or begins to deallocate the object.
 pub fn fields_are_free()
     ensures { FieldsAreFree }
 {}

@@ -85,8 +85,8 @@ pub fn steps_are_within()
 {}
 
 /// States that a reachable world has the functions of its module, states that are true at each point that a path
-/// reaches, main and 1 to 32 workers, 1 to 1024 rows for each worker, and so at most `total_limit` rows in all; and that
-/// each thread has at most eight calls open.
+/// reaches, main and 1 to 32 workers, 1 to 1024 rows for each worker, and so at most `total_limit` rows in all; and
+/// that each thread has at most eight calls open.
 pub fn worlds_are_small()
     ensures functions { (p : Module) (w : World) → IsReachable p w → w.functions ≡ p.functions }
     ensures states { (p : Module) (w : World) → IsReachable p w → AreTrueWhereReached p w.states }

@@ -43,8 +43,8 @@ fn everything_is_closed_whichever_calls_fail(rt: HostRuntime) {
     }
 }
 
-/// Lets each of two workers make a copy, over hosts of these plans. Returns the report, and whether each host has closed
-/// what it had opened.
+/// Lets each of two workers make a copy, over hosts of these plans. Returns the report, and whether each host has
+/// closed what it had opened.
 fn copied<R: AllocGlobal + Threads + Wait + Sync>(
     rt: &R,
     [one, other]: [&[u64]; 2],

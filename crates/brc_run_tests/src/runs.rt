@@ -30,8 +30,8 @@ pub const THREE_OPEN: &[u8] =
     drop v1\nfail\nend\n";
 
 /// Writes to a peer how many bytes it has read from a file, at most 4. The host's calls are 0 open, 1 connect, 2 read,
-/// 3 write, and if those of opening succeed, at the end the closes of the connection and of the file: 4 and 5 in a whole
-/// copy.
+/// 3 write, and if those of opening succeed, at the end the closes of the connection and of the file: 4 and 5 in a
+/// whole copy.
 pub const COPY: &[u8] =
     b"module 1\nfunc f\nopen v1 0 r else @13\nconnect v2 0 else @12\nlock v1\nread v3 v1 4 else @10\n\
     unlock v1\nlock v2\nwrite v2 v3 else @7\nunlock v2\ndrop v3\ngoto @11\nunlock v1\ndrop v2\ndrop v1\nfail\nend\n";

@@ -104,8 +104,9 @@ fn a_copy_is_stopped_at_each_bound(rt: HostRuntime) -> Result<(), Fail> {
     Ok(())
 }
 
-/// Makes a file in the folder, copies from it at each bound, and copies once more to a peer that closes at once. Returns
-/// whether the file was made empty, the bound whose report isn't the wanted one, and whether all was closed at the end.
+/// Makes a file in the folder, copies from it at each bound, and copies once more to a peer that closes at once.
+/// Returns whether the file was made empty, the bound whose report isn't the wanted one, and whether all was closed at
+/// the end.
 fn runs_in<R: AllocGlobal + System + Files>(
     rt: &R,
     folder: &str,

@@ -84,7 +84,8 @@ field_apart x _ AtField memory word y apart =
     ap (λ (b : Bool). cond b word (memory (Field y))) (ne_eqb x y (λ e. apart (sym e)))
 field_apart x _ AtResource memory word y apart = refl
 
--- The duty is about the row's field or resource, and another one takes its place. It changes nothing else of its thread.
+-- The duty is about the row's field or resource, and another one takes its place. It changes nothing else of its
+-- thread.
 record Silent (x : ℕ) (d next : Duty) : Type 0 where
   at : (layout : Layout) (t head : ℕ) → IsSilent x (address_of layout t head d)
   needs : needs_field x d ≡ true

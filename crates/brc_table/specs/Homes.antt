@@ -1,5 +1,5 @@
--- Where the field of each row is: at home in the table, with the resource of the row's object if it has one, or with the
--- one hand that has taken it.
+-- Where the field of each row is: at home in the table, with the resource of the row's object if it has one, or with
+-- the one hand that has taken it.
 use Rattle.std.specs.Prelude.{◌≡◌, ℕ, ◌<◌, ◌≤◌, ◌==◌, Option, None, Some, List, [], ◌∷◌, length, count_by}
 use mathlib.Core.Option as home
 use lib.ListN.{get_elem?}

@@ -39,8 +39,8 @@ abbrev pub first_use : List Duty → ℕ → FieldUse
 first_use [] found = Stays
 first_use (d ∷ rest) found = use_of d found
 
--- How many resources are in the field that the first duty takes: at a deallocation as many as the kind word says, and at
--- a birth none.
+-- How many resources are in the field that the first duty takes: at a deallocation as many as the kind word says, and
+-- at a birth none.
 abbrev pub first_due : List Duty → ℕ → ℕ
 first_due (SettleKind x ∷ rest) found = resources_of found
 first_due _ found = 0

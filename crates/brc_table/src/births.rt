@@ -53,8 +53,8 @@ impl<T: Drop> Words<T> {
         row
     }
 
-    /// Does the next duty: stores the new object's owner and its first reference, and gives its field back, which has to
-    /// hold a resource if the object's kind has one. The object is born.
+    /// Does the next duty: stores the new object's owner and its first reference, and gives its field back, which has
+    /// to hold a resource if the object's kind has one. The object is born.
     #[inline(always)]
     pub fn first_local_store(&self, hand: &mut Hand<T>, row: u32)
         requires table { IsOf self.now hand.old }

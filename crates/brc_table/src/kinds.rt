@@ -16,8 +16,8 @@ use std::marker::Brand;
 impl<T: Drop> Words<T> {
     /// Asks for the kind of an object that the hand holds, borrows from the list that it has locked, or is to finalise
     /// as the first of its dying chain: loads its kind word, which its birth stored. The word is the one that the hand
-    /// has seen there before, if it has. If the hand has locked the object, the kind says whether the object's field has
-    /// a resource. If the object was there from the start, the word is its first one.
+    /// has seen there before, if it has. If the hand has locked the object, the kind says whether the object's field
+    /// has a resource. If the object was there from the start, the word is its first one.
     #[inline(always)]
     pub fn kind_load(&self, hand: &mut Hand<T>, row: u32) -> u64
         requires table { IsOf self.now hand.old }

@@ -9,8 +9,8 @@ pub struct View {
     pub layout: Layout,
     /// The hand's thread: main's is 0, and the workers' are 1, 2 and so on.
     pub thread: u8,
-    /// The thread, as what it counts with. A hand lends no resource by a duty: it takes the resource out of a field that
-    /// nobody else can see, so the thread's `lent` stays `None`.
+    /// The thread, as what it counts with. A hand lends no resource by a duty: it takes the resource out of a field
+    /// that nobody else can see, so the thread's `lent` stays `None`.
     pub actor: Actor,
     /// The rows of the counted objects to which the hand holds references, each as often as it holds one.
     pub references: LinkedList<u32>,

@@ -203,9 +203,9 @@ fn run_of<R: Wait>(
     (ran.totals().created, gate.heard())
 }
 
-/// Each run counts its own births and calls. In rounds, a call begins 13 instructions, and makes four numbers. So a round
-/// of 100 instructions makes seven calls, and stops in the eighth one behind its third number. The third round has the
-/// call that is more than enough.
+/// Each run counts its own births and calls. In rounds, a call begins 13 instructions, and makes four numbers. So a
+/// round of 100 instructions makes seven calls, and stops in the eighth one behind its third number. The third round
+/// has the call that is more than enough.
 #[test]
 fn a_worker_runs_again(rt: HostRuntime) -> Result<(), Fail> {
     let runs = two_runs(&rt, rt.alloc(), FOUR_PASSES, 3, u64::MAX)?;

@@ -1,5 +1,5 @@
--- What one step of a thread asks of the words and the thread in the code, and what it leaves: the contracts that several
--- functions have.
+-- What one step of a thread asks of the words and the thread in the code, and what it leaves: the contracts that
+-- several functions have.
 use Rattle.std.specs.Prelude.{◌≡◌, ℕ, ◌+◌, ◌≤◌, length, Result, OnOk, OnErr, vec_len, vec_capacity}
 use Rattle.brc_model.specs.declared.address.Address.{Address}
 use Rattle.brc_model.specs.declared.duty.Duty.{Duty}

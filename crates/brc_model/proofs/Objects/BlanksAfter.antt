@@ -54,8 +54,8 @@ field_zero m t a (TakeField y) x apart was = zero_written (y == x) (m.memory (Fi
 field_zero m t a (LendField y) x apart was = zero_written (y == x) (m.memory (Field x)) was
 field_zero m t a _ x apart was = was
 
--- After the step on the kind word, the agenda says that the birth has stored it. After the step on the field, the agenda
--- says so of both.
+-- After the step on the kind word, the agenda says that the birth has stored it. After the step on the field, the
+-- agenda says so of both.
 kind_stored_after_kind : (b : Bool) (head y : ℕ) (h : Holding) (rest : List Duty) (x : ℕ)
     → kind_stored (ready head (cond b (BirthField y h ∷ []) (BirthLocal y h ∷ []) ++ rest)) x ≡ (y == x)
 kind_stored_after_kind true zero y h rest x = refl
@@ -114,7 +114,8 @@ module _ {p : Accounts} {n : ℕ} {m : Machine} {t : ℕ} {a : Actor} {rest : Li
       record {
         kinds = λ x block past none. old.kinds x block past (sym (kind_stored_after_field a.head y h rest x) ∙ none);
         fields = λ x block past none.
-            field_zero m t a d x (sym (field_stored_after_field a.head y h rest x) ∙ none) (old.fields x block past refl);
+            field_zero m t a d x
+              (sym (field_stored_after_field a.head y h rest x) ∙ none) (old.fields x block past refl);
       }
   own_blanks (BirthLocal y h) here =
       let old = blanks_here here in

@@ -1,7 +1,7 @@
--- What a field holds: nothing before its row is born, the object's resource at the end of the birth and where the thread
--- begins to deallocate the object, and nothing at the end of that. While a thread has locked the object, the resource
--- is there too, unless the thread has lent it. At the end of all threads each field holds its row's resource, unless the
--- row is closed.
+-- What a field holds: nothing before its row is born, the object's resource at the end of the birth and where the
+-- thread begins to deallocate the object, and nothing at the end of that. While a thread has locked the object, the
+-- resource is there too, unless the thread has lent it. At the end of all threads each field holds its row's resource,
+-- unless the row is closed.
 use Rattle.std.proofs.Common.{◌≡◌, ◌≢◌, ℕ, Bool, cond, List, inl, inr, None, Some, refl, sym, ap, ◌∙◌, subst, arith}
 use Rattle.std.specs.Prelude.{◌==◌, slice_get}
 use Rattle.std.proofs.lemmas.Bool.{eq-eqb}

@@ -62,7 +62,8 @@ fills true program q x holding u =
     record {
       events = [];
       trace = sym (append-nil u.trace);
-      makes = Continues 0 [] [] q (thread_with u (BirthField x holding ∷ [])) (BirthField x holding) [] 0 Refl refl refl;
+      makes = Continues 0 [] [] q (thread_with u (BirthField x holding ∷ []))
+        (BirthField x holding) [] 0 Refl refl refl;
       layout = refl;
       thread = refl;
     } in

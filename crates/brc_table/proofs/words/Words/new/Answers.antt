@@ -22,7 +22,8 @@ vacant-requires g c =
     (subst (λ (ls : List (List ℕ)). AreFirst ls layout c.in_ok-words.words.items) c.as_slice.ensures
     c.in_ok-words.ensures) in
     let open_now =
-    fields_open c.hands_begin.ensures (record { layout = layout; lines = lines }) c.requires.plain c.requires.lines words
+    fields_open c.hands_begin.ensures (record { layout = layout; lines = lines })
+      c.requires.plain c.requires.lines words
     first in
     subst (λ (ls : List (List ℕ)). TableStands (record { layout = layout; lines = ls }) words
     (map some (replicate c.row_count-fields.result None)) (main_view layout ∷ [])) (sym c.of.ensures)

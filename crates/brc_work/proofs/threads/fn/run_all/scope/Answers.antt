@@ -20,7 +20,8 @@ loop-task-preserved g c =
     let same : (t : _) → let it = get_or first left t in
     job task.heap.now task.checked.now.module task.function task.times task.steps task.thread task.host.now
     ≡ job it.heap.now it.checked.now.module it.function it.times it.steps it.thread it.host.now =
-    λ t. ap (λ it. job it.heap.now it.checked.now.module it.function it.times it.steps it.thread it.host.now) (here t) in
+    λ t. ap (λ it. job it.heap.now it.checked.now.module it.function it.times
+      it.steps it.thread it.host.now) (here t) in
     record {
       passed = omega (arith, was.passed, grown, step.1);
       room = search (rules, was.room);
