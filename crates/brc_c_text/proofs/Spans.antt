@@ -10,7 +10,7 @@ follow_to from (t ∷ ts) to later h f = (f.0, f.1, follow_to t.end ts to later 
 
 -- A token may be put behind them.
 pub follow_more : (from : ℕ) (ts : List Token) (t : Token) (to later : ℕ) → to ≤ t.start
-  → t.start ≤ t.end → t.end ≤ later
+    → t.start ≤ t.end → t.end ≤ later
     → Follow from ts to → Follow from (ts ++ t ∷ []) later
 follow_more from [] t to later a b c f = (omega arith, b, c)
 follow_more from (u ∷ ts) t to later a b c f = (f.0, f.1, follow_more u.end ts t to later a b c f.2)

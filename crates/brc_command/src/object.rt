@@ -101,9 +101,7 @@ fn code_of(alloc: Global, finding: &Finding<'_>) -> Result<Value, AllocError>
     ensures { IfOk result (λ v. view v ≡ code_of finding.now) }
 {
     match finding {
-        Finding::Refused(located) => {
-            Value::try_from_str(alloc, located.refused.code.name())
-        }
+        Finding::Refused(located) => { Value::try_from_str(alloc, located.refused.code.name()) }
         Finding::Stopped(Stop::Fault(StepFault::Text(fault))) => {
             Value::try_from_str(alloc, fault.code.name())
         }

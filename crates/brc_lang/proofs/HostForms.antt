@@ -24,7 +24,7 @@ abbrev pub AreOpening : ℕ × ℕ × Mode × ℕ → Type 0
 AreOpening v = (v.0 < variable_count) × (v.1 < path_count) × IsMode v.2 × (v.3 < target_count)
 
 pub open_spelled : (ws : List (List ℕ)) (v : ℕ × ℕ × Mode × ℕ) → open_in ws ≡ Ok v
-  → IsSpelled open_words AreOpening ws v
+    → IsSpelled open_words AreOpening ws v
 open_spelled [] v e = absurd cc
 open_spelled (a ∷ []) v e = absurd cc
 open_spelled (a ∷ b ∷ []) v e = absurd cc

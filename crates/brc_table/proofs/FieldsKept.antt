@@ -28,7 +28,7 @@ pub record KeepsFields (v w : View) : Type 0 where
 
 module _ {T : Type 0} (m n : Machine) (homes : List (home.Option (Option T))) (views : List View) (id : ℕ) (v w : View)
     (old : FieldsStand m homes views) (here : get_elem? views id ≡ home.some v)
-      (layout_same : n.layout ≡ m.layout) where
+    (layout_same : n.layout ≡ m.layout) where
   -- what is said of a hand of the new list: it is the changed one, or was in the old list
   data Whose (other : ℕ) (z : View) : Type 0 where
     Changed : other ≡ id → w ≡ z → Whose other z
@@ -241,7 +241,7 @@ module _ {T : Type 0} (m n : Machine) (homes : List (home.Option (Option T))) (v
       (keeps : (y : ℕ) → y ≢ x → UsesField v.actor y → UsesField w.actor y)
       (same : (y : ℕ) → (times_in y v.taken ≡ 0) ⊎ (v.actor.locked ≡ Some y) → n.memory (Field y) ≡ m.memory (Field y))
       (locks : (y : ℕ) → w.actor.locked ≡ Some y → (y ≢ x) × (v.actor.locked ≡ Some y)
-        × (w.in_field ≡ v.in_field)) where
+      × (w.in_field ≡ v.in_field)) where
     times_less : (y : ℕ) → times_taken y v ≡ one_if (x == y) + times_taken y w
     times_less y =
         ap (times_in y) taken_is ∙ omega (arith, count_more x y rows, ap (times_in y) left)

@@ -162,7 +162,7 @@ module _ (laws : ModelLaws) (plan : Plan) (v u : View) (d : Duty)
           (lock : (y : ℕ) → u.actor.locked ≡ Some y → locked_by u.actor.locked d found ≡ Some y)
           (locks : (y : ℕ) → locked_by u.actor.locked d found ≡ Some y
           → ((y ≡ x) × (m.memory (Field x) ≡ u.in_field)) ⊎ ((v.actor.locked ≡ Some y)
-            × (u.in_field ≡ v.in_field))) where
+          × (u.in_field ≡ v.in_field))) where
         -- The rule holds after the step.
         pub stands_now : TableStands plan (set s.words index (f (slice_index s.words index)))
             (set s.homes x home.none)

@@ -409,7 +409,7 @@ splits law plan id v t may = λ s holds here.
       stands = now;
       fields =
           fields_longer old.machine now.machine s.homes (set s.views id (giving v t))
-            (worker_view v.layout t) mains refl
+          (worker_view v.layout t) mains refl
           refl (now.layout_is ∙ sym old.layout_is) (same_fields law plan s.words s.views id v t may old here);
       first = λ only.
           let none : t ∷ v.given ≡ [] =

@@ -106,7 +106,7 @@ module _ {heap : TableState} (base : Base) (s : State) (rows : List (Option ℕ)
 
   -- The hand knows what the locked object's field has, since it has just asked for the kind.
   locked_kind : (i : ℕ) (lock : LockFits base.first.fields s rows after i)
-    → LockFits base.first.fields next rows after i
+      → LockFits base.first.fields next rows after i
   locked_kind i lock = elim (eqb_tells i from) [
     | inl this ↦
         let slot_is : var_of next i ≡ with_kind (var_of s from) kind = ap (var_of next) this.1 ∙ low in_slots in

@@ -53,7 +53,7 @@ same_hand hand after table view carried fields =
 pub lent_back : (hand lent after : HandState) (row : ℕ) → OnFile hand row → after.table ≡ hand.table
     → lent.view ≡ hand.view → after.view ≡ lent.view → lent.carried ≡ hand.carried → after.carried ≡ lent.carried
     → lent.fields ≡ (row, 0) ∷ behind_field hand.fields
-      → after.fields ≡ (row, 1) ∷ behind_field lent.fields → after ≡ hand
+    → after.fields ≡ (row, 1) ∷ behind_field lent.fields → after ≡ hand
 lent_back hand lent after row on table view back carried carried_back fields fields_back =
     same_hand hand after table (back ∙ view) (carried_back ∙ carried)
     (fields_back

@@ -268,5 +268,5 @@ pub sized_fits : (base : Base) (s : State) (rows : List (Option ℕ)) (hand afte
     → Fits base s rows after
 sized_fits base s rows hand after x word fits kept table carried fields locked view =
     same_fits base s rows hand after fits
-      (sized_acts hand after x word fits.rests kept table carried fields locked view)
+    (sized_acts hand after x word fits.rests kept table carried fields locked view)
     kept.references

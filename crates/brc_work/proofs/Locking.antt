@@ -74,7 +74,7 @@ module _ (base : Base) (s : State) (rows : List (Option ℕ)) (hand after : Hand
       used = omega (arith, kept.used);
     });
     rests = kept_rests (with_field hand after.view.in_field) after
-      (field_rests hand after.view.in_field fits.rests) kept;
+        (field_rests hand after.view.in_field fits.rests) kept;
     some_slots = ap (λ (l : List Slot). length l) same ∙ fits.some_slots;
     some_rows = fits.some_rows;
     each = λ i.
@@ -116,7 +116,7 @@ module _ (base : Base) (s : State) (rows : List (Option ℕ)) (hand after : Hand
         used = used;
         locked = locked;
         fields = fields ∙ ap (λ (l : List (ℕ × ℕ)). (x, after.view.in_field) ∷ l)
-          (no_lock base s rows hand fits none).1;
+            (no_lock base s rows hand fits none).1;
         resource = λ has.
             let sees = sees_resource hand.view (kind_of (var_of s i)) x knows has in
             kinds sees.word sees.some sees.seen ∙ sees.has;

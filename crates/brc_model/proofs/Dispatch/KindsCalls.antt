@@ -64,7 +64,7 @@ left_true words s rows arguments o low to_low all known =
     (left_keeps (HaveTrueKinds words)
     (λ state variables x sixteen less holds.
     true_put words state variables x Empty None (omega (arith, less, sixteen.slots))
-      (omega (arith, less, sixteen.named))
+    (omega (arith, less, sixteen.named))
     (empty_true words None) holds)
     s rows arguments o low to_low all known).1
 

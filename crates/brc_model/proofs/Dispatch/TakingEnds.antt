@@ -170,8 +170,12 @@ ret_by program g left from row (o ∷ outer) s rows ends in_slots owned is none 
     fewer) in
     let free : is_owned (var_of state o.to) ≡ false =
     ap is_owned (var_of-put_same (without_stolen waits.state waits.arguments) o.to Empty
-    (omega (arith, waits.low, waits.slots,
-      length-set (without_stolen waits.state waits.arguments).slots o.to Empty))) in
+    (omega (
+      arith,
+      waits.low,
+      waits.slots,
+      length-set (without_stolen waits.state waits.arguments).slots o.to Empty,
+    ))) in
     let holds : Holds (reference_of g.thread to row ∷ without r g.bag) g.thread
     (of_variables call (put state o.to var) variables) = record {
       each = gained_holds (without r g.bag) g.thread to row _

@@ -115,7 +115,7 @@ module _ {p : Accounts} {n : ℕ} {m : Machine} {t : ℕ} {a : Actor} {rest : Li
         kinds = λ x block past none. old.kinds x block past (sym (kind_stored_after_field a.head y h rest x) ∙ none);
         fields = λ x block past none.
             field_zero m t a d x
-              (sym (field_stored_after_field a.head y h rest x) ∙ none) (old.fields x block past refl);
+            (sym (field_stored_after_field a.head y h rest x) ∙ none) (old.fields x block past refl);
       }
   own_blanks (BirthLocal y h) here =
       let old = blanks_here here in

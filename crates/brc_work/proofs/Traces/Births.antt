@@ -63,7 +63,7 @@ fills true program q x holding u =
       events = [];
       trace = sym (append-nil u.trace);
       makes = Continues 0 [] [] q (thread_with u (BirthField x holding ∷ []))
-        (BirthField x holding) [] 0 Refl refl refl;
+          (BirthField x holding) [] 0 Refl refl refl;
       layout = refl;
       thread = refl;
     } in

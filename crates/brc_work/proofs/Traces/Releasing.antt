@@ -75,7 +75,7 @@ module _ {n : ℕ} (program : Program) (p : Place) (ds : List Duty) (w : View) (
             loaded refl)
             ∙ ap (λ (b : Bool). cond b (view_after loaded word) loaded) (sym counts))
             (subst (λ (cs : List HostCall). WorksOn later n cs program p ds w q
-              (view_after (field_emptied loaded) word))
+            (view_after (field_emptied loaded) word))
             (no_close_after_load (is_immortal_word word) (counts_here v word) v.actor.head x word loaded refl)
             (works_on program p ds w q [] loaded _ (view_after (field_emptied loaded) word) (loads word)
             (Next [] loaded word false Unchanged)))

@@ -194,7 +194,7 @@ takes_field : (program : Program) (q : Place) (u : View) (x : ℕ) (failed : Boo
     → Traces 0 (Close failed ∷ []) program q (TakeField x ∷ rest) u q (SettleEnd x ∷ rest) u
 takes_field program q u x failed rest =
     let taken : Traces 0 [] program q (TakeField x ∷ rest) u q
-      (ready u.actor.head (CloseResource x ∷ rest)) u = record {
+    (ready u.actor.head (CloseResource x ∷ rest)) u = record {
       events = [];
       trace = sym (append-nil u.trace);
       makes = Continues 0 [] [] q (thread_with u (TakeField x ∷ rest)) (TakeField x) rest 1 Refl refl refl;
@@ -252,7 +252,7 @@ module _ {later : Bool} {n : ℕ} (program : Program) (p : Place) (ds : List Dut
   continues_on : {cs : List HostCall} (u : View) (d : Duty) (tail : List Duty) (found : ℕ)
       → is_off_fields d ≡ true
       → takes_out d ≡ false → are_off_fields tail ≡ true
-        → Traces n cs program p ds v q (d ∷ (tail ++ settle_if later)) u
+      → Traces n cs program p ds v q (d ∷ (tail ++ settle_if later)) u
       → WorksOn later n cs program p ds v q (view_by u (d ∷ tail) found)
   continues_on u d tail found off other behind one =
       let rest = tail ++ settle_if later in

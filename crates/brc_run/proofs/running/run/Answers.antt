@@ -78,7 +78,7 @@ returns-clause-tally g c = elim c.match-ran.branch [
               HasJoined u.view (record { thread = hand.view.thread; used = hand.view.actor.used })) (sym w.main-is)
               (each i v (omega (arith, below, len))))
               (λ i v below. (w.in-Ok.ensures.gone i v c.args.main_host.now
-                (omega (arith, below, len))).hand_is.thread_is)
+              (omega (arith, below, len))).hand_is.thread_is)
               (λ i v below. (w.in-Ok.ensures.gone i v c.args.main_host.now (omega (arith, below, len))).created) k d
               (omega (arith, low, len, as_many))) no_totals;
         };

@@ -46,7 +46,7 @@ loop-begun-preserved g c =
           let facts =
           subst (λ b. IfOk b (λ s. let promise = s.promise in
           job promise.heap.value promise.checked.value.module
-            promise.function promise.times promise.steps promise.thread
+          promise.function promise.times promise.steps promise.thread
           promise.host.value
           ≡ job it.heap.now it.checked.now.module it.function it.times it.steps it.thread it.host.now)
           × IfErr b (λ done. Ends g.H.Host.answers g.H.Host.counts

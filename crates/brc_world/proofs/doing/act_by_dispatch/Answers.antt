@@ -193,7 +193,7 @@ returns-in-Asking c =
         words = duty.word.words ∙ step.memory_is;
         actor = c.answer.ensures
             ∙ goes_on start c.args.exit c.do_duty-found.result before c.do_duty-found.new.thread
-              done duty.actor duty.mode
+            done duty.actor duty.mode
             duty.calls duty.turns duty.outer duty.point duty.variables
             ∙ ap (λ (found : ℕ). at_place done (place_after start c.args.exit found before)) duty.found
             ∙ step.actor;

@@ -41,7 +41,7 @@ loop-word-preserved g c =
         NextWord c.loop-word.word before.0 one.work.0 u w before.1 one.work.1,
         c.saturating_add-failed.ensures
             ∙ (sums_both c.loop-word.failed c.claim_word.result (close_faults before.0)
-              (close_faults one.work.0) before.2
+            (close_faults one.work.0) before.2
             one.work.2
             ∙ ap (λ (n : ℕ). raised n 0) (sym (close_faults_then before.0 one.work.0))),
         answered_then before.3 one.work.3,

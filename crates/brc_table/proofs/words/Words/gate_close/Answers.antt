@@ -11,7 +11,7 @@ pub step_from-requires-clause-begins : goal.step_from-requires-clause-begins
 step_from-requires-clause-begins g c =
     let v = c.args.hand.now.view in
     emptied_becomes c.duties_are_kept.ensures c.needed_fields_are_unlocked.ensures
-      (plan_of c.args.self.now) c.args.row v
+    (plan_of c.args.self.now) c.args.row v
     v.actor.agenda refl c.requires.duty c.requires.alive
     (taken_once c.args.hand.now c.args.row 0 c.fields_are_taken.ensures c.requires.field)
 

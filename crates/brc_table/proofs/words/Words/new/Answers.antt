@@ -23,7 +23,7 @@ vacant-requires g c =
     c.in_ok-words.ensures) in
     let open_now =
     fields_open c.hands_begin.ensures (record { layout = layout; lines = lines })
-      c.requires.plain c.requires.lines words
+    c.requires.plain c.requires.lines words
     first in
     subst (λ (ls : List (List ℕ)). TableStands (record { layout = layout; lines = ls }) words
     (map some (replicate c.row_count-fields.result None)) (main_view layout ∷ [])) (sym c.of.ensures)

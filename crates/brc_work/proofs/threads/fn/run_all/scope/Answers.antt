@@ -21,7 +21,7 @@ loop-task-preserved g c =
     job task.heap.now task.checked.now.module task.function task.times task.steps task.thread task.host.now
     ≡ job it.heap.now it.checked.now.module it.function it.times it.steps it.thread it.host.now =
     λ t. ap (λ it. job it.heap.now it.checked.now.module it.function it.times
-      it.steps it.thread it.host.now) (here t) in
+    it.steps it.thread it.host.now) (here t) in
     record {
       passed = omega (arith, was.passed, grown, step.1);
       room = search (rules, was.room);
