@@ -2,10 +2,10 @@
 
 use crate::macros::Macros;
 use crate::spelling::is_reserved;
-use brc_c_text::{Lexeme, LexemeKind, Punctuator, Word, Words};
+use brc_c_text::{Lexeme, LexemeKind, Punctuator, Symbol, Symbols};
 use std::alloc::{AllocError, Global};
 
-/// What stands before a lexeme of the condition.
+/// What comes before a lexeme of the condition.
 #[derive(Clone, Copy, Debug, PartialEq, Eq)]
 enum Before {
     Other,
@@ -20,18 +20,18 @@ enum Before {
 /// Returns the condition with 1 or 0 where it asks whether a name is defined.
 pub(crate) fn answered(
     alloc: Global,
-    words: &mut Words,
+    symbols: &mut Symbols,
     macros: &Macros,
     condition: &[Lexeme],
 ) -> Result<Vec<Lexeme>, AllocError> {
-    let defined = words.word(b"defined")?;
-    let zero = words.word(b"0")?;
-    let one = words.word(b"1")?;
+    let defined = symbols.symbol(b"defined")?;
+    let zero = symbols.symbol(b"0")?;
+    let one = symbols.symbol(b"1")?;
     let mut all = Vec::new(alloc);
     let mut before = Before::Other;
     for lexeme in condition {
         before = match before {
-            Before::Other if lexeme.word == defined => Before::Asked,
+            Before::Other if lexeme.symbol == defined => Before::Asked,
             Before::Asked if lexeme.is(Punctuator::LeftParen) => Before::Opened,
             Before::Named if lexeme.is(Punctuator::RightParen) => Before::Other,
             Before::Other | Before::Named => {
@@ -39,10 +39,10 @@ pub(crate) fn answered(
                 Before::Other
             }
             Before::Asked | Before::Opened => {
-                let is_defined = macros.find(lexeme.word).is_some();
+                let is_defined = macros.find(lexeme.symbol).is_some();
                 all.push(Lexeme {
                     kind: LexemeKind::Number,
-                    word: if is_defined { one } else { zero },
+                    symbol: if is_defined { one } else { zero },
                     ..*lexeme
                 })?;
                 if before == Before::Opened {
@@ -57,10 +57,14 @@ pub(crate) fn answered(
 }
 
 /// Returns the first name of the condition that nothing defines.
-pub(crate) fn first_missing(words: &Words, macros: &Macros, condition: &[Lexeme]) -> Option<Word> {
+pub(crate) fn first_missing(
+    symbols: &Symbols,
+    macros: &Macros,
+    condition: &[Lexeme],
+) -> Option<Symbol> {
     for lexeme in condition {
-        if lexeme.kind == LexemeKind::Name && words.text(lexeme.word) != b"defined".as_slice() {
-            if let Some(name) = missing(words, macros, lexeme) {
+        if lexeme.kind == LexemeKind::Name && symbols.text(lexeme.symbol) != b"defined".as_slice() {
+            if let Some(name) = missing(symbols, macros, lexeme) {
                 return Some(name);
             }
         }
@@ -69,10 +73,10 @@ pub(crate) fn first_missing(words: &Words, macros: &Macros, condition: &[Lexeme]
 }
 
 /// Returns the name if nothing defines it and it is an option of a build.
-pub(crate) fn missing(words: &Words, macros: &Macros, name: &Lexeme) -> Option<Word> {
-    if macros.find(name.word).is_some() || is_reserved(words.text(name.word)) {
+pub(crate) fn missing(symbols: &Symbols, macros: &Macros, name: &Lexeme) -> Option<Symbol> {
+    if macros.find(name.symbol).is_some() || is_reserved(symbols.text(name.symbol)) {
         None
     } else {
-        Some(name.word)
+        Some(name.symbol)
     }
 }

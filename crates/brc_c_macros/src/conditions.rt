@@ -1,11 +1,11 @@
-use brc_c_text::{Place, Word};
+use brc_c_text::{Place, Symbol};
 use std::alloc::{AllocError, Global};
 
 /// Lines that are left out because nothing defines a name that `#if` asks for.
 #[derive(Clone, Copy, Debug, PartialEq, Eq)]
 pub struct Lost {
-    pub name: Word,
-    /// The number of the source, and the lines of the directives before and behind those lines.
+    pub name: Symbol,
+    /// The number of the source, and the lines of the directives before and after those lines.
     pub source: usize,
     pub first: u32,
     pub last: u32,
@@ -21,7 +21,7 @@ struct Open {
     /// Whether the lines of its present branch are read.
     is_read: bool,
     /// The name without a definition that keeps its present branch from being read.
-    missing: Option<Word>,
+    missing: Option<Symbol>,
     /// Where its present branch begins.
     place: Place,
 }
@@ -31,7 +31,7 @@ struct Open {
 pub(crate) struct Verdict {
     pub(crate) holds: bool,
     /// The name without a definition on which that rests.
-    pub(crate) missing: Option<Word>,
+    pub(crate) missing: Option<Symbol>,
 }
 
 /// The conditions that are open, and what was left out for want of a name.
@@ -95,7 +95,7 @@ impl Conditions {
         };
         self.end_branch(&open, place)?;
         let is_read = open.is_outer_read && !open.was_read && verdict.holds;
-        // The branch behind an `#ifndef` that holds is left out for want of its name.
+        // The branch after an `#ifndef` that holds is left out for want of its name.
         let missing = if open.was_read {
             open.missing
         } else {

@@ -1,4 +1,4 @@
-use brc_c_text::{Keyword, Lexeme, LexemeKind, Punctuator, Words};
+use brc_c_text::{Keyword, Lexeme, LexemeKind, Punctuator, Symbols};
 
 /// What a line that begins with `#` does.
 #[derive(Clone, Copy, Debug, PartialEq, Eq)]
@@ -16,7 +16,7 @@ pub(crate) enum Action {
     Other,
 }
 
-/// A directive: what it does, and the lexemes behind its name.
+/// A directive: what it does, and the lexemes after its name.
 #[derive(Clone, Copy, Debug)]
 pub(crate) struct Directive<'a> {
     pub(crate) action: Action,
@@ -24,10 +24,10 @@ pub(crate) struct Directive<'a> {
 }
 
 /// Returns the directive that a line is.
-pub(crate) fn directive_of<'a>(words: &Words, line: &'a [Lexeme]) -> Option<Directive<'a>> {
+pub(crate) fn directive_of<'a>(symbols: &Symbols, line: &'a [Lexeme]) -> Option<Directive<'a>> {
     match line {
         [hash, name, rest @ ..] if hash.is(Punctuator::Hash) => Some(Directive {
-            action: action_of(words, name),
+            action: action_of(symbols, name),
             rest,
         }),
         [hash] if hash.is(Punctuator::Hash) => Some(Directive {
@@ -38,11 +38,11 @@ pub(crate) fn directive_of<'a>(words: &Words, line: &'a [Lexeme]) -> Option<Dire
     }
 }
 
-fn action_of(words: &Words, name: &Lexeme) -> Action {
+fn action_of(symbols: &Symbols, name: &Lexeme) -> Action {
     match name.kind {
         LexemeKind::Keyword(Keyword::If) => Action::If,
         LexemeKind::Keyword(Keyword::Else) => Action::Else,
-        LexemeKind::Name => match words.text(name.word) {
+        LexemeKind::Name => match symbols.text(name.symbol) {
             b"ifdef" => Action::Ifdef,
             b"ifndef" => Action::Ifndef,
             b"elif" => Action::Elif,

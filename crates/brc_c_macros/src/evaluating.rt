@@ -1,7 +1,7 @@
 //! Constant expressions of `#if`.
 
 use crate::constant::{character, integer};
-use brc_c_text::{Lexeme, LexemeKind, Punctuator, Words};
+use brc_c_text::{Lexeme, LexemeKind, Punctuator, Symbols};
 use std::alloc::{AllocError, Global};
 
 /// What waits for its right operand.
@@ -40,7 +40,7 @@ struct Evaluation {
 /// nothing defines. A name that is left counts as 0.
 pub(crate) fn value_of(
     alloc: Global,
-    words: &Words,
+    symbols: &Symbols,
     lexemes: &[Lexeme],
 ) -> Result<Option<i64>, AllocError> {
     let mut evaluation = Evaluation {
@@ -50,7 +50,7 @@ pub(crate) fn value_of(
     };
     for lexeme in lexemes {
         let is_known = if evaluation.wants_operand {
-            evaluation.add_operand(words, lexeme)?
+            evaluation.add_operand(symbols, lexeme)?
         } else {
             evaluation.add_operator(lexeme)?
         };
@@ -65,14 +65,14 @@ pub(crate) fn value_of(
 }
 
 impl Evaluation {
-    /// Takes a lexeme where an operand is wanted. Returns whether it may stand there.
-    fn add_operand(&mut self, words: &Words, lexeme: &Lexeme) -> Result<bool, AllocError> {
+    /// Takes a lexeme where an operand is wanted. Returns whether it may be there.
+    fn add_operand(&mut self, symbols: &Symbols, lexeme: &Lexeme) -> Result<bool, AllocError> {
         let value = match lexeme.kind {
-            LexemeKind::Number => match integer(words.text(lexeme.word)) {
+            LexemeKind::Number => match integer(symbols.text(lexeme.symbol)) {
                 Some(value) => value,
                 None => return Ok(false),
             },
-            LexemeKind::Character => character(words.text(lexeme.word)),
+            LexemeKind::Character => character(symbols.text(lexeme.symbol)),
             LexemeKind::Name | LexemeKind::Keyword(_) => 0,
             LexemeKind::Punctuator(Punctuator::LeftParen) => {
                 self.waiting.push(Waiting::Open)?;
@@ -94,7 +94,7 @@ impl Evaluation {
         Ok(true)
     }
 
-    /// Takes a lexeme behind an operand. Returns whether it may stand there.
+    /// Takes a lexeme after an operand. Returns whether it may be there.
     fn add_operator(&mut self, lexeme: &Lexeme) -> Result<bool, AllocError> {
         let LexemeKind::Punctuator(punctuator) = lexeme.kind else {
             return Ok(false);

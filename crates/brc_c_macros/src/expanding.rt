@@ -3,7 +3,7 @@
 use crate::arguments::Arguments;
 use crate::macros::{Macro, Macros};
 use crate::substituting::substituted;
-use brc_c_text::{Lexeme, LexemeKind, Punctuator, Word, Words};
+use brc_c_text::{Lexeme, LexemeKind, Punctuator, Symbol, Symbols};
 use std::alloc::{AllocError, Global};
 
 /// How many lexemes are read for one use of a macro, with all that its body uses.
@@ -12,7 +12,7 @@ pub const USE_LIMIT: usize = 65536;
 /// How many macros may be expanded inside one another.
 const NESTING_LIMIT: usize = 64;
 
-/// A lexeme that is read, and the macros in whose bodies it stands.
+/// A lexeme that is read, and the macros in whose bodies it is.
 #[derive(Clone, Copy, Debug)]
 pub(crate) struct Reading {
     pub(crate) lexeme: Lexeme,
@@ -29,13 +29,13 @@ pub(crate) struct Expander<'a> {
     /// What is read before the rest of the run, the next one last.
     before: Vec<Reading>,
     /// The uses that were expanded: the macro's name, and the use around it.
-    uses: Vec<(Word, usize)>,
+    uses: Vec<(Symbol, usize)>,
 }
 
 /// Appends a run of lexemes with its macros expanded.
 pub(crate) fn expand(
     alloc: Global,
-    words: &mut Words,
+    symbols: &mut Symbols,
     macros: &Macros,
     run: &[Lexeme],
     into: &mut Vec<Lexeme>,
@@ -61,9 +61,9 @@ pub(crate) fn expand(
             into.push(endless(&next.lexeme))?;
             continue;
         }
-        match macros.expanded(words, &next.lexeme) {
+        match macros.expanded(symbols, &next.lexeme) {
             Some(found) if !expander.is_inside(next) => {
-                expander.apply(words, macros, &found, next, into)?;
+                expander.apply(symbols, macros, &found, next, into)?;
             }
             _ => into.push(next.lexeme)?,
         }
@@ -121,7 +121,7 @@ impl<'a> Expander<'a> {
         Ok(())
     }
 
-    /// Returns whether a name stands in what its own macro is expanded to.
+    /// Returns whether a name is in what its own macro is expanded to.
     fn is_inside(&self, reading: Reading) -> bool {
         let mut inside = reading.inside;
         for _turn in 0..NESTING_LIMIT {
@@ -131,7 +131,7 @@ impl<'a> Expander<'a> {
             let Some((name, outer)) = self.uses.get(at).copied() else {
                 return false;
             };
-            if name == reading.lexeme.word {
+            if name == reading.lexeme.symbol {
                 return true;
             }
             inside = outer;
@@ -142,7 +142,7 @@ impl<'a> Expander<'a> {
     /// Expands a use, or appends its name if it has no arguments.
     fn apply(
         &mut self,
-        words: &mut Words,
+        symbols: &mut Symbols,
         macros: &Macros,
         found: &Macro,
         name: Reading,
@@ -157,12 +157,18 @@ impl<'a> Expander<'a> {
             into.push(name.lexeme)?;
             return Ok(());
         };
-        self.uses.push((name.lexeme.word, name.inside))?;
+        self.uses.push((name.lexeme.symbol, name.inside))?;
         let place = Reading {
             lexeme: name.lexeme,
             inside: self.uses.len(),
         };
-        let made = substituted(self.alloc, words, macros.parts_of(found), place, &arguments)?;
+        let made = substituted(
+            self.alloc,
+            symbols,
+            macros.parts_of(found),
+            place,
+            &arguments,
+        )?;
         for reading in made.iter().rev() {
             self.before.push(*reading)?;
         }

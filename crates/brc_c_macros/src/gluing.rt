@@ -1,13 +1,13 @@
-//! Strings that stand side by side, which are one.
+//! Adjacent strings, which are one.
 
-use brc_c_text::{Lexeme, LexemeKind, Punctuator, Word, Words};
+use brc_c_text::{Lexeme, LexemeKind, Punctuator, Symbol, Symbols};
 use std::alloc::{AllocError, Global};
 
-/// Returns the lexemes with neighbouring strings joined to one. A name between them, or behind the last one, is a
+/// Returns the lexemes with neighbouring strings joined to one. A name between them, or after the last one, is a
 /// macro of a system's header that stands for a string: it adds nothing.
 pub(crate) fn glued(
     alloc: Global,
-    words: &mut Words,
+    symbols: &mut Symbols,
     lexemes: &[Lexeme],
 ) -> Result<Vec<Lexeme>, AllocError> {
     let mut all: Vec<Lexeme> = Vec::with_capacity(alloc, lexemes.len())?;
@@ -21,9 +21,9 @@ pub(crate) fn glued(
             }
         };
         if lexeme.kind == LexemeKind::Text {
-            let word = joined(alloc, words, last.word, lexeme.word)?;
+            let symbol = joined(alloc, symbols, last.symbol, lexeme.symbol)?;
             let _ = all.pop();
-            all.push(Lexeme { word, ..last })?;
+            all.push(Lexeme { symbol, ..last })?;
         } else if lexeme.kind != LexemeKind::Name || !ends_text(lexemes, at) {
             all.push(*lexeme)?;
         }
@@ -31,7 +31,7 @@ pub(crate) fn glued(
     Ok(all)
 }
 
-/// Returns whether behind this lexeme a string goes on, or the operand that it is part of ends.
+/// Returns whether after this lexeme a string goes on, or the operand that it is part of ends.
 fn ends_text(lexemes: &[Lexeme], at: usize) -> bool {
     match lexemes.get(at.saturating_add(1)) {
         Some(next) => {
@@ -43,14 +43,19 @@ fn ends_text(lexemes: &[Lexeme], at: usize) -> bool {
     }
 }
 
-fn joined(alloc: Global, words: &mut Words, left: Word, right: Word) -> Result<Word, AllocError> {
-    let mut text = Vec::from_slice(alloc, words.text(left))?;
+fn joined(
+    alloc: Global,
+    symbols: &mut Symbols,
+    left: Symbol,
+    right: Symbol,
+) -> Result<Symbol, AllocError> {
+    let mut text = Vec::from_slice(alloc, symbols.text(left))?;
     let _ = text.pop();
-    text.extend_from_slice(behind_quote(words.text(right)))?;
-    words.word(text.as_slice())
+    text.extend_from_slice(behind_quote(symbols.text(right)))?;
+    symbols.symbol(text.as_slice())
 }
 
-/// Returns what stands behind the first quote of a string.
+/// Returns what comes after the first quote of a string.
 fn behind_quote(text: &[u8]) -> &[u8] {
     match text.iter().position(|byte| *byte == b'"') {
         Some(quote) => text.get(quote.saturating_add(1)..).unwrap_or(b""),

@@ -1,5 +1,4 @@
-//! The preprocessor of C, as far as a reader of functions needs it: directives, macros, and strings that stand side by
-//! side.
+//! The preprocessor of C, as far as a reader of functions needs it: directives, macros, and adjacent strings.
 #![tactic(auto)]
 
 mod arguments;

@@ -1,6 +1,6 @@
 use crate::fault::MacroFault;
 use crate::spelling::{is_pythons, lexemes_in};
-use brc_c_text::{Lexeme, LexemeKind, Punctuator, Word, Words};
+use brc_c_text::{Lexeme, LexemeKind, Punctuator, Symbol, Symbols};
 use std::alloc::{AllocError, Global};
 use std::collections::{HashMap, HashSet};
 
@@ -28,11 +28,11 @@ pub(crate) struct Part {
 #[derive(Drop)]
 pub struct Macros {
     alloc: Global,
-    by_name: HashMap<Word, Macro>,
+    by_name: HashMap<Symbol, Macro>,
     /// The bodies of all macros.
     parts: Vec<Part>,
     /// Names that are never expanded: those of functions that are known.
-    kept: HashSet<Word>,
+    kept: HashSet<Symbol>,
 }
 
 const PREDEFINED: [(&[u8], &[u8]); 7] = [
@@ -49,7 +49,7 @@ impl Macros {
     /// Returns the macros of a compiler for Linux and Python 3.13, with a global lock or without one.
     pub fn new(
         alloc: Global,
-        words: &mut Words,
+        symbols: &mut Symbols,
         is_free_threaded: bool,
     ) -> Result<Macros, MacroFault> {
         let mut macros = Macros {
@@ -59,10 +59,10 @@ impl Macros {
             kept: HashSet::new(alloc),
         };
         for (name, value) in PREDEFINED {
-            macros.define(words, name, value)?;
+            macros.define(symbols, name, value)?;
         }
         if is_free_threaded {
-            macros.define(words, b"Py_GIL_DISABLED", b"1")?;
+            macros.define(symbols, b"Py_GIL_DISABLED", b"1")?;
         }
         Ok(macros)
     }
@@ -70,23 +70,23 @@ impl Macros {
     /// Defines a macro without parameters, as `-D` does.
     pub fn define(
         &mut self,
-        words: &mut Words,
+        symbols: &mut Symbols,
         name: &[u8],
         value: &[u8],
     ) -> Result<(), MacroFault> {
-        let name = words.word(name)?;
-        let body = lexemes_in(self.alloc, words, value)?;
-        self.add(words, name, None, false, body.as_slice())
+        let name = symbols.symbol(name)?;
+        let body = lexemes_in(self.alloc, symbols, value)?;
+        self.add(symbols, name, None, false, body.as_slice())
     }
 
     /// Keeps a name from being expanded.
-    pub fn keep(&mut self, name: Word) -> Result<(), AllocError> {
+    pub fn keep(&mut self, name: Symbol) -> Result<(), AllocError> {
         self.kept.insert(name)?;
         Ok(())
     }
 
     /// Returns the macro of this name.
-    pub fn find(&self, name: Word) -> Option<Macro> {
+    pub fn find(&self, name: Symbol) -> Option<Macro> {
         self.by_name.get(&name).copied()
     }
 
@@ -104,31 +104,31 @@ impl Macros {
     }
 
     /// Returns the macro that a name is expanded as.
-    pub(crate) fn expanded(&self, words: &Words, lexeme: &Lexeme) -> Option<Macro> {
+    pub(crate) fn expanded(&self, symbols: &Symbols, lexeme: &Lexeme) -> Option<Macro> {
         if lexeme.kind != LexemeKind::Name {
             return None;
         }
-        let found = self.find(lexeme.word)?;
+        let found = self.find(lexeme.symbol)?;
         let is_kept = found.is_variadic
             || found.is_cast
-            || self.kept.contains(&lexeme.word)
-            || is_pythons(words.text(lexeme.word));
+            || self.kept.contains(&lexeme.symbol)
+            || is_pythons(symbols.text(lexeme.symbol));
         if is_kept { None } else { Some(found) }
     }
 
     /// Defines a macro. The last definition of a name holds.
     pub(crate) fn add(
         &mut self,
-        words: &Words,
-        name: Word,
-        parameters: Option<&[Word]>,
+        symbols: &Symbols,
+        name: Symbol,
+        parameters: Option<&[Symbol]>,
         is_variadic: bool,
         body: &[Lexeme],
     ) -> Result<(), MacroFault> {
         let start = self.parts.len();
         let names = parameters.unwrap_or(&[]);
         for lexeme in body {
-            let parameter = names.iter().position(|name| *name == lexeme.word);
+            let parameter = names.iter().position(|name| *name == lexeme.symbol);
             let is_name = lexeme.kind == LexemeKind::Name;
             self.parts.push(Part {
                 lexeme: *lexeme,
@@ -138,7 +138,7 @@ impl Macros {
         let found = Macro {
             parameters: parameters.map(|names| names.len()),
             is_variadic,
-            is_cast: parameters.is_none() && casts(words, body),
+            is_cast: parameters.is_none() && casts(symbols, body),
             start,
             end: self.parts.len(),
         };
@@ -146,13 +146,13 @@ impl Macros {
         Ok(())
     }
 
-    pub(crate) fn remove(&mut self, name: Word) {
+    pub(crate) fn remove(&mut self, name: Symbol) {
         let _ = self.by_name.remove(&name);
     }
 }
 
 /// Returns whether a body has `(*)`, or takes a slot of a table of functions.
-fn casts(words: &Words, body: &[Lexeme]) -> bool {
+fn casts(symbols: &Symbols, body: &[Lexeme]) -> bool {
     let has_star = body.windows(3).any(|three| {
         three.len() == 3
             && three[0].is(Punctuator::LeftParen)
@@ -161,7 +161,7 @@ fn casts(words: &Words, body: &[Lexeme]) -> bool {
     });
     has_star
         || body.iter().any(|lexeme| lexeme.kind == LexemeKind::Name
-            && has_slot(words.text(lexeme.word)))
+            && has_slot(symbols.text(lexeme.symbol)))
 }
 
 fn has_slot(name: &[u8]) -> bool {

@@ -8,7 +8,7 @@ use crate::gluing::glued;
 use crate::headers::Headers;
 use crate::macros::Macros;
 use crate::sources::{Next, Sources};
-use brc_c_text::{Lexeme, LexemeKind, Place, Punctuator, TextFault, Words, lexemes_of, scan};
+use brc_c_text::{Lexeme, LexemeKind, Place, Punctuator, Symbols, TextFault, lexemes_of, scan};
 use std::alloc::{AllocError, Global};
 
 /// The greatest number of lexemes that are read or made for a source, with its headers.
@@ -17,7 +17,7 @@ pub const LEXEME_LIMIT: usize = 4194304;
 /// What is left of a source.
 #[derive(Drop)]
 pub struct Preprocessed {
-    /// What stands in the source and in its headers, without directives, with macros expanded.
+    /// What is in the source and in its headers, without directives, with macros expanded.
     pub lexemes: Vec<Lexeme>,
     /// What is left out for want of a name.
     pub lost: Vec<Lost>,
@@ -47,7 +47,7 @@ struct Preprocessor {
 /// effect, and a header that `headers` doesn't have is empty.
 pub fn preprocess<H: Headers>(
     alloc: Global,
-    words: &mut Words,
+    symbols: &mut Symbols,
     headers: &mut H,
     macros: Macros,
     lexemes: Vec<Lexeme>,
@@ -62,28 +62,28 @@ pub fn preprocess<H: Headers>(
         out: Vec::new(alloc),
         count: 0,
     };
-    this.read_all(words, headers)?;
-    this.finish(words)
+    this.read_all(symbols, headers)?;
+    this.finish(symbols)
 }
 
 impl Preprocessor {
     fn read_all<H: Headers>(
         &mut self,
-        words: &mut Words,
+        symbols: &mut Symbols,
         headers: &mut H,
     ) -> Result<(), MacroFault> {
         // Each turn reads a line, or ends a source.
         for _turn in 0..LEXEME_LIMIT {
             match self.sources.next() {
                 None => return Ok(()),
-                Some(Next::Line(start, end)) => self.read_line(words, headers, start, end)?,
-                Some(Next::End(depth)) => self.end_source(words, depth)?,
+                Some(Next::Line(start, end)) => self.read_line(symbols, headers, start, end)?,
+                Some(Next::End(depth)) => self.end_source(symbols, depth)?,
             }
         }
         Err(MacroFault::TooLong)
     }
 
-    fn finish(self, words: &mut Words) -> Result<Preprocessed, MacroFault> {
+    fn finish(self, symbols: &mut Symbols) -> Result<Preprocessed, MacroFault> {
         let Preprocessor {
             alloc,
             macros,
@@ -93,7 +93,7 @@ impl Preprocessor {
             out,
             count: _,
         } = self;
-        let lexemes = glued(alloc, words, out.as_slice())?;
+        let lexemes = glued(alloc, symbols, out.as_slice())?;
         Ok(Preprocessed {
             lexemes,
             lost: conditions.into_lost(),
@@ -101,8 +101,8 @@ impl Preprocessor {
         })
     }
 
-    fn end_source(&mut self, words: &mut Words, depth: usize) -> Result<(), MacroFault> {
-        self.flush(words)?;
+    fn end_source(&mut self, symbols: &mut Symbols, depth: usize) -> Result<(), MacroFault> {
+        self.flush(symbols)?;
         let place = match self.out.last() {
             Some(last) => last.place,
             None => BEGINNING,
@@ -113,7 +113,7 @@ impl Preprocessor {
 
     fn read_line<H: Headers>(
         &mut self,
-        words: &mut Words,
+        symbols: &mut Symbols,
         headers: &mut H,
         start: usize,
         end: usize,
@@ -123,22 +123,22 @@ impl Preprocessor {
         if self.count > LEXEME_LIMIT {
             return Err(MacroFault::TooLong);
         }
-        if directive_of(words, line).is_none() {
+        if directive_of(symbols, line).is_none() {
             if self.conditions.is_read() {
                 self.run.extend_from_slice(line)?;
             }
             return Ok(());
         }
         let line = Vec::from_slice(self.alloc, line)?;
-        let Some(directive) = directive_of(words, line.as_slice()) else {
+        let Some(directive) = directive_of(symbols, line.as_slice()) else {
             return Ok(());
         };
-        self.direct(words, headers, &directive, line.as_slice())
+        self.direct(symbols, headers, &directive, line.as_slice())
     }
 
     fn direct<H: Headers>(
         &mut self,
-        words: &mut Words,
+        symbols: &mut Symbols,
         headers: &mut H,
         directive: &Directive<'_>,
         line: &[Lexeme],
@@ -150,39 +150,39 @@ impl Preprocessor {
         let rest = directive.rest;
         match directive.action {
             Action::If | Action::Ifdef | Action::Ifndef => {
-                let verdict = self.verdict(words, directive)?;
+                let verdict = self.verdict(symbols, directive)?;
                 self.conditions.begin(verdict, place)?;
             }
             Action::Elif if self.conditions.asks_next() => {
-                let verdict = self.verdict(words, directive)?;
+                let verdict = self.verdict(symbols, directive)?;
                 self.conditions.next(verdict, place)?;
             }
             Action::Elif | Action::Else => self.conditions.next(ALWAYS, place)?,
             Action::Endif => self.conditions.end(place)?,
             Action::Define if self.conditions.is_read() => {
-                self.flush(words)?;
-                define(self.alloc, words, &mut self.macros, rest)?;
+                self.flush(symbols)?;
+                define(self.alloc, symbols, &mut self.macros, rest)?;
             }
             Action::Undef if self.conditions.is_read() => {
-                self.flush(words)?;
+                self.flush(symbols)?;
                 if let Some(name) = rest.first() {
-                    self.macros.remove(name.word);
+                    self.macros.remove(name.symbol);
                 }
             }
-            Action::Include if self.conditions.is_read() => self.include(words, headers, rest)?,
+            Action::Include if self.conditions.is_read() => self.include(symbols, headers, rest)?,
             _ => {}
         }
         Ok(())
     }
 
     /// Expands what was read since the last change of macros.
-    fn flush(&mut self, words: &mut Words) -> Result<(), MacroFault> {
+    fn flush(&mut self, symbols: &mut Symbols) -> Result<(), MacroFault> {
         if self.run.is_empty() {
             return Ok(());
         }
         expand(
             self.alloc,
-            words,
+            symbols,
             &self.macros,
             self.run.as_slice(),
             &mut self.out,
@@ -197,7 +197,7 @@ impl Preprocessor {
     /// Begins the header that a directive names in quotes.
     fn include<H: Headers>(
         &mut self,
-        words: &mut Words,
+        symbols: &mut Symbols,
         headers: &mut H,
         rest: &[Lexeme],
     ) -> Result<(), MacroFault> {
@@ -207,9 +207,9 @@ impl Preprocessor {
         if first.kind != LexemeKind::Text || !self.sources.has_room() {
             return Ok(());
         }
-        self.flush(words)?;
+        self.flush(symbols)?;
         let mut bytes = Vec::new(self.alloc);
-        let text = words.text(first.word);
+        let text = symbols.text(first.symbol);
         let name = match text {
             [b'"', name @ .., b'"'] => name,
             _ => return Ok(()),
@@ -224,7 +224,7 @@ impl Preprocessor {
             Ok(scanned) => {
                 let lexemes = lexemes_of(
                     self.alloc,
-                    words,
+                    symbols,
                     scanned.tokens.as_slice(),
                     bytes.as_slice(),
                     number,
@@ -237,45 +237,49 @@ impl Preprocessor {
     }
 
     /// Decides a condition. Where lines aren't read anyway, nothing is asked.
-    fn verdict(&self, words: &mut Words, directive: &Directive<'_>) -> Result<Verdict, AllocError> {
+    fn verdict(
+        &self,
+        symbols: &mut Symbols,
+        directive: &Directive<'_>,
+    ) -> Result<Verdict, AllocError> {
         if directive.action != Action::Elif && !self.conditions.is_read() {
             return Ok(ALWAYS);
         }
         if directive.action == Action::If || directive.action == Action::Elif {
-            return self.decided(words, directive.rest);
+            return self.decided(symbols, directive.rest);
         }
         let Some(name) = directive.rest.first() else {
             return Ok(ALWAYS);
         };
-        let is_defined = self.macros.find(name.word).is_some();
+        let is_defined = self.macros.find(name.symbol).is_some();
         Ok(Verdict {
             holds: is_defined == (directive.action == Action::Ifdef),
             missing: if is_defined {
                 None
             } else {
-                missing(words, &self.macros, name)
+                missing(symbols, &self.macros, name)
             },
         })
     }
 
-    fn decided(&self, words: &mut Words, condition: &[Lexeme]) -> Result<Verdict, AllocError> {
-        let asked = answered(self.alloc, words, &self.macros, condition)?;
+    fn decided(&self, symbols: &mut Symbols, condition: &[Lexeme]) -> Result<Verdict, AllocError> {
+        let asked = answered(self.alloc, symbols, &self.macros, condition)?;
         let mut expanded = Vec::new(self.alloc);
         expand(
             self.alloc,
-            words,
+            symbols,
             &self.macros,
             asked.as_slice(),
             &mut expanded,
         )?;
-        let value = value_of(self.alloc, words, expanded.as_slice())?;
+        let value = value_of(self.alloc, symbols, expanded.as_slice())?;
         let holds = value.unwrap_or(0) != 0;
         Ok(Verdict {
             holds,
             missing: if holds {
                 None
             } else {
-                first_missing(words, &self.macros, condition)
+                first_missing(symbols, &self.macros, condition)
             },
         })
     }
@@ -296,7 +300,7 @@ const BEGINNING: Place = Place {
 /// Defines the macro of a directive.
 fn define(
     alloc: Global,
-    words: &Words,
+    symbols: &Symbols,
     macros: &mut Macros,
     rest: &[Lexeme],
 ) -> Result<(), MacroFault> {
@@ -306,10 +310,10 @@ fn define(
     if name.kind != LexemeKind::Name {
         return Ok(());
     }
-    // Parentheses right behind the name enclose parameters.
+    // Parentheses right after the name enclose parameters.
     match behind.first() {
         Some(open) if open.is(Punctuator::LeftParen) && !open.is_apart => {}
-        _ => return macros.add(words, name.word, None, false, behind),
+        _ => return macros.add(symbols, name.symbol, None, false, behind),
     }
     let mut parameters = Vec::new(alloc);
     let mut is_variadic = false;
@@ -317,10 +321,10 @@ fn define(
         if lexeme.is(Punctuator::RightParen) {
             let body = behind.get(at.saturating_add(1)..).unwrap_or(&[]);
             let parameters = Some(parameters.as_slice());
-            return macros.add(words, name.word, parameters, is_variadic, body);
+            return macros.add(symbols, name.symbol, parameters, is_variadic, body);
         }
         if lexeme.kind == LexemeKind::Name {
-            parameters.push(lexeme.word)?;
+            parameters.push(lexeme.symbol)?;
         }
         is_variadic |= lexeme.is(Punctuator::Ellipsis);
     }

@@ -32,7 +32,7 @@ pub(crate) struct Sources {
 /// What comes next.
 #[derive(Clone, Copy, Debug)]
 pub(crate) enum Next {
-    /// A line, by its first lexeme and the one behind its last.
+    /// A line, by its first lexeme and the one after its last.
     Line(usize, usize),
     /// The end of a source, in which this many conditions were open at its beginning.
     End(usize),

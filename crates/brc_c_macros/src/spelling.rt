@@ -1,16 +1,16 @@
-//! Words and lexemes of texts that no source has.
+//! Symbols and lexemes of texts that no source has.
 
-use brc_c_text::{Lexeme, TextFault, Words, lexemes_of, scan};
+use brc_c_text::{Lexeme, Symbols, TextFault, lexemes_of, scan};
 use std::alloc::{AllocError, Global};
 
 /// Returns the lexemes of a text. One that is too long has none.
 pub(crate) fn lexemes_in(
     alloc: Global,
-    words: &mut Words,
+    symbols: &mut Symbols,
     text: &[u8],
 ) -> Result<Vec<Lexeme>, AllocError> {
     match scan(alloc, text) {
-        Ok(scanned) => lexemes_of(alloc, words, scanned.tokens.as_slice(), text, 0),
+        Ok(scanned) => lexemes_of(alloc, symbols, scanned.tokens.as_slice(), text, 0),
         Err(TextFault::TooLong) => Ok(Vec::new(alloc)),
         Err(TextFault::NoMemory) => Err(AllocError),
     }

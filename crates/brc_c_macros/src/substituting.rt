@@ -4,7 +4,7 @@ use crate::arguments::Arguments;
 use crate::expanding::Reading;
 use crate::macros::Part;
 use crate::spelling::lexemes_in;
-use brc_c_text::{Lexeme, LexemeKind, Punctuator, Word, Words};
+use brc_c_text::{Lexeme, LexemeKind, Punctuator, Symbol, Symbols};
 use std::alloc::{AllocError, Global};
 
 /// What is made of a body so far.
@@ -12,16 +12,16 @@ use std::alloc::{AllocError, Global};
 struct Made {
     alloc: Global,
     all: Vec<Reading>,
-    /// Whether `##` stands before what comes next.
+    /// Whether `##` comes before what comes next.
     pastes: bool,
     /// Whether the last part of the body gave anything.
     has_left: bool,
 }
 
-/// Returns what the body of a macro is at a use, which stands at `place`.
+/// Returns what the body of a macro is at a use, which is at `place`.
 pub(crate) fn substituted(
     alloc: Global,
-    words: &mut Words,
+    symbols: &mut Symbols,
     body: &[Part],
     place: Reading,
     arguments: &Arguments,
@@ -37,8 +37,8 @@ pub(crate) fn substituted(
         if spells {
             spells = false;
             if let Some(index) = part.parameter {
-                let word = spelled(alloc, words, arguments.get(index))?;
-                made.add(words, text(place, word))?;
+                let symbol = spelled(alloc, symbols, arguments.get(index))?;
+                made.add(symbols, text(place, symbol))?;
                 continue;
             }
         }
@@ -47,9 +47,9 @@ pub(crate) fn substituted(
         } else if part.lexeme.is(Punctuator::Hash) {
             spells = true;
         } else if let Some(index) = part.parameter {
-            made.add_all(words, arguments.get(index))?;
+            made.add_all(symbols, arguments.get(index))?;
         } else {
-            made.add(words, at_place(&part.lexeme, place))?;
+            made.add(symbols, at_place(&part.lexeme, place))?;
         }
     }
     Ok(made.all)
@@ -66,11 +66,11 @@ fn at_place(lexeme: &Lexeme, place: Reading) -> Reading {
     }
 }
 
-fn text(place: Reading, word: Word) -> Reading {
+fn text(place: Reading, symbol: Symbol) -> Reading {
     Reading {
         lexeme: Lexeme {
             kind: LexemeKind::Text,
-            word,
+            symbol,
             ..place.lexeme
         },
         inside: place.inside,
@@ -78,7 +78,11 @@ fn text(place: Reading, word: Word) -> Reading {
 }
 
 /// Returns the string that spells an argument.
-fn spelled(alloc: Global, words: &mut Words, argument: &[Reading]) -> Result<Word, AllocError> {
+fn spelled(
+    alloc: Global,
+    symbols: &mut Symbols,
+    argument: &[Reading],
+) -> Result<Symbol, AllocError> {
     let mut spelling = Vec::new(alloc);
     spelling.push(b'"')?;
     for reading in argument {
@@ -87,7 +91,7 @@ fn spelled(alloc: Global, words: &mut Words, argument: &[Reading]) -> Result<Wor
             spelling.push(b' ')?;
         }
         let escapes = lexeme.kind == LexemeKind::Text || lexeme.kind == LexemeKind::Character;
-        for byte in lexeme.text(words) {
+        for byte in lexeme.text(symbols) {
             if escapes && (*byte == b'"' || *byte == b'\\') {
                 spelling.push(b'\\')?;
             }
@@ -95,15 +99,15 @@ fn spelled(alloc: Global, words: &mut Words, argument: &[Reading]) -> Result<Wor
         }
     }
     spelling.push(b'"')?;
-    words.word(spelling.as_slice())
+    symbols.symbol(spelling.as_slice())
 }
 
 impl Made {
-    fn add(&mut self, words: &mut Words, reading: Reading) -> Result<(), AllocError> {
+    fn add(&mut self, symbols: &mut Symbols, reading: Reading) -> Result<(), AllocError> {
         if self.pastes {
             self.pastes = false;
             if let Some(left) = self.all.pop() {
-                return self.paste(words, left, reading);
+                return self.paste(symbols, left, reading);
             }
         }
         self.has_left = true;
@@ -111,26 +115,26 @@ impl Made {
         Ok(())
     }
 
-    fn add_all(&mut self, words: &mut Words, argument: &[Reading]) -> Result<(), AllocError> {
+    fn add_all(&mut self, symbols: &mut Symbols, argument: &[Reading]) -> Result<(), AllocError> {
         for reading in argument {
-            self.add(words, *reading)?;
+            self.add(symbols, *reading)?;
         }
         self.has_left = !argument.is_empty() || self.pastes;
         self.pastes = false;
         Ok(())
     }
 
-    /// Joins two lexemes to one, or leaves them side by side if they don't make one.
+    /// Joins two lexemes to one, or leaves them as they are if they don't make one.
     fn paste(
         &mut self,
-        words: &mut Words,
+        symbols: &mut Symbols,
         left: Reading,
         right: Reading,
     ) -> Result<(), AllocError> {
         self.has_left = true;
-        let mut joined = Vec::from_slice(self.alloc, left.lexeme.text(words))?;
-        joined.extend_from_slice(right.lexeme.text(words))?;
-        let lexemes = lexemes_in(self.alloc, words, joined.as_slice())?;
+        let mut joined = Vec::from_slice(self.alloc, left.lexeme.text(symbols))?;
+        joined.extend_from_slice(right.lexeme.text(symbols))?;
+        let lexemes = lexemes_in(self.alloc, symbols, joined.as_slice())?;
         match lexemes.as_slice() {
             [only] => self.all.push(Reading {
                 lexeme: Lexeme {

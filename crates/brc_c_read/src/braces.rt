@@ -9,7 +9,7 @@ pub(crate) fn closing(alloc: Global, lexemes: &[Lexeme]) -> Result<Vec<Option<us
     if is_balanced {
         return Ok(found);
     }
-    // Half a statement may hide in a macro or behind an `#if`: a brace that begins a line then ends a function.
+    // Half a statement may hide in a macro or after an `#if`: a brace that begins a line then ends a function.
     let (found, _) = matched(alloc, lexemes, true)?;
     Ok(found)
 }

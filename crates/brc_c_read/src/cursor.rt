@@ -1,5 +1,5 @@
 use crate::stop::{Stop, not_read};
-use brc_c_text::{Keyword, Lexeme, LexemeKind, Place, Punctuator, Word};
+use brc_c_text::{Keyword, Lexeme, LexemeKind, Place, Punctuator, Symbol};
 use brc_c_tree::{Expected, Reason};
 
 /// A place among lexemes.
@@ -7,7 +7,7 @@ use brc_c_tree::{Expected, Reason};
 pub(crate) struct Cursor<'a> {
     lexemes: &'a [Lexeme],
     at: usize,
-    /// What is read behind the last lexeme.
+    /// What is read after the last lexeme.
     end: Lexeme,
 }
 
@@ -21,7 +21,7 @@ impl<'a> Cursor<'a> {
                 kind: LexemeKind::End,
                 begins_line: true,
                 is_apart: true,
-                word: Word::EMPTY,
+                symbol: Symbol::EMPTY,
                 place: end,
             },
         }
@@ -32,7 +32,7 @@ impl<'a> Cursor<'a> {
         self.lexemes.len().saturating_sub(self.at)
     }
 
-    /// Returns the lexeme this far behind the next one.
+    /// Returns the lexeme this far after the next one.
     pub(crate) fn ahead(&self, by: usize) -> Lexeme {
         match self.lexemes.get(self.at.saturating_add(by)) {
             Some(lexeme) => *lexeme,
@@ -85,23 +85,23 @@ impl<'a> Cursor<'a> {
         Err(self.instead(Expected::Name))
     }
 
-    /// Returns that the next lexeme stands where something else is expected.
+    /// Returns that the next lexeme is where something else is expected.
     pub(crate) fn instead(&self, expected: Expected) -> Stop {
         let found = self.peek();
         let reason = match found.kind {
-            LexemeKind::Unknown => Reason::Unknown(found.word),
-            LexemeKind::Endless => Reason::Endless(found.word),
+            LexemeKind::Unknown => Reason::Unknown(found.symbol),
+            LexemeKind::Endless => Reason::Endless(found.symbol),
             LexemeKind::Punctuator(Punctuator::Ellipsis) => Reason::MissingCode,
             kind => Reason::Instead {
                 found: kind,
-                word: found.word,
+                symbol: found.symbol,
                 expected,
             },
         };
         not_read(found.place, reason)
     }
 
-    /// Passes what stands between two brackets, the first of which is next. Returns whether there were both.
+    /// Passes what is between two brackets, the first of which is next. Returns whether there were both.
     pub(crate) fn skip_nested(&mut self, open: Punctuator, close: Punctuator) -> bool {
         let mut depth: usize = 0;
         for _turn in 0..self.left() {

@@ -5,24 +5,24 @@ use crate::fields::record_of;
 use crate::parsing::Parser;
 use crate::stop::Stop;
 use crate::type_names::TypeNames;
-use brc_c_text::{Keyword, Lexeme, LexemeKind, Place, Punctuator, Word, Words};
+use brc_c_text::{Keyword, Lexeme, LexemeKind, Place, Punctuator, Symbol, Symbols};
 use brc_c_tree::{Alias, Prototype, RecordName, SourceTree, TypeName, Variable};
 use std::alloc::Global;
 
 /// A name that is declared outside functions.
 #[derive(Clone, Copy, Debug, PartialEq, Eq)]
 struct Declared {
-    name: Word,
+    name: Symbol,
     type_name: TypeName,
     place: Place,
-    /// Whether parentheses stand behind it.
+    /// Whether parentheses come after it.
     is_prototype: bool,
 }
 
 /// Adds what a declaration declares, as far as it is understood. `inside` is what its first braces enclose.
 pub(crate) fn declare(
     alloc: Global,
-    words: &Words,
+    symbols: &Symbols,
     types: &mut TypeNames,
     tree: &mut SourceTree,
     whole: &[Lexeme],
@@ -40,14 +40,14 @@ pub(crate) fn declare(
     let record = match inside {
         Some(inside) if has_record(rest) => {
             let record = tree.records.len();
-            let read = record_of(alloc, words, types, inside, first.place)?;
+            let read = record_of(alloc, symbols, types, inside, first.place)?;
             tree.records.push(read)?;
             add_tag(tree, rest, record)?;
             Some(record)
         }
         _ => None,
     };
-    let declared = declared_by(alloc, words, types, rest)?;
+    let declared = declared_by(alloc, symbols, types, rest)?;
     for one in &declared {
         if is_typedef {
             types.add(one.name)?;
@@ -68,7 +68,7 @@ fn add_tag(tree: &mut SourceTree, whole: &[Lexeme], record: usize) -> Result<(),
         }
         if follows_keyword && lexeme.kind == LexemeKind::Name {
             tree.record_names.push(RecordName {
-                name: lexeme.word,
+                name: lexeme.symbol,
                 stars: 0,
                 record,
             })?;
@@ -137,7 +137,7 @@ fn has_record(whole: &[Lexeme]) -> bool {
 /// Reads the names that a declaration declares, up to the first that isn't understood.
 fn declared_by(
     alloc: Global,
-    words: &Words,
+    symbols: &Symbols,
     types: &TypeNames,
     whole: &[Lexeme],
 ) -> Result<Vec<Declared>, Stop> {
@@ -145,7 +145,7 @@ fn declared_by(
     let Some(last) = whole.last() else {
         return Ok(found);
     };
-    let mut parser = Parser::new(alloc, Cursor::new(whole, last.place), words, types);
+    let mut parser = Parser::new(alloc, Cursor::new(whole, last.place), symbols, types);
     let Ok(specifiers) = parser.specifiers() else {
         return Ok(found);
     };
@@ -164,7 +164,7 @@ fn declared_by(
 }
 
 impl<'a> Parser<'a> {
-    /// Reads a name with its stars, its dimensions and the parentheses behind it.
+    /// Reads a name with its stars, its dimensions and the parentheses after it.
     fn declared(&mut self, base: TypeName) -> Result<Declared, Stop> {
         let mut type_name = self.stars(base);
         let is_pointer = self.cursor.peek().is(Punctuator::LeftParen)
@@ -187,14 +187,14 @@ impl<'a> Parser<'a> {
         type_name.stars = type_name.stars.saturating_add(dimensions);
         self.attributes()?;
         Ok(Declared {
-            name: name.word,
+            name: name.symbol,
             type_name,
             place: name.place,
             is_prototype,
         })
     }
 
-    /// Passes `=` and the value behind it.
+    /// Passes `=` and the value after it.
     fn skip_value(&mut self) {
         if !self.cursor.eat(Punctuator::Equal) {
             return;

@@ -57,7 +57,7 @@ impl<'a> Parser<'a> {
             None
         };
         Ok(Declaration {
-            name: name.word,
+            name: name.symbol,
             type_name,
             dimensions,
             is_static: specifiers.is_static,

@@ -4,20 +4,20 @@ use crate::cursor::Cursor;
 use crate::parsing::Parser;
 use crate::stop::Stop;
 use crate::type_names::TypeNames;
-use brc_c_text::{Lexeme, LexemeKind, Place, Punctuator, Words};
+use brc_c_text::{Lexeme, LexemeKind, Place, Punctuator, Symbols};
 use brc_c_tree::{Field, Record, TypeName};
 use std::alloc::Global;
 
-/// Reads the fields that stand between the braces of a struct or a union. Those of one inside it are fields too, and
+/// Reads the fields between the braces of a struct or a union. Those of one inside it are fields too, and
 /// what isn't understood is passed over.
 pub(crate) fn record_of(
     alloc: Global,
-    words: &Words,
+    symbols: &Symbols,
     types: &TypeNames,
     inside: &[Lexeme],
     end: Place,
 ) -> Result<Record, Stop> {
-    let mut parser = Parser::new(alloc, Cursor::new(inside, end), words, types);
+    let mut parser = Parser::new(alloc, Cursor::new(inside, end), symbols, types);
     let mut record = Record {
         is_object: false,
         fields: Vec::new(alloc),
@@ -27,7 +27,7 @@ pub(crate) fn record_of(
             break;
         }
         let next = parser.cursor.peek();
-        if next.kind == LexemeKind::Name && is_head(words.text(next.word)) {
+        if next.kind == LexemeKind::Name && is_head(symbols.text(next.symbol)) {
             record.is_object = true;
             parser.cursor.take();
             continue;
@@ -53,7 +53,7 @@ impl<'a> Parser<'a> {
         let type_name = self.field_type()?;
         for _turn in 0..self.cursor.left() {
             let field = self.field(type_name)?;
-            if self.words.text(field.name) == b"ob_base".as_slice() {
+            if self.symbols.text(field.name) == b"ob_base".as_slice() {
                 record.is_object = true;
             }
             record.fields.push(field)?;
@@ -94,7 +94,7 @@ impl<'a> Parser<'a> {
         };
         type_name.stars = type_name.stars.saturating_add(self.dimensions()?);
         Ok(Field {
-            name: name.word,
+            name: name.symbol,
             type_name,
         })
     }
@@ -104,7 +104,7 @@ impl<'a> Parser<'a> {
         for _turn in 0..self.cursor.left() {
             let next = self.cursor.take();
             if next.is(Punctuator::RightBrace) {
-                // The names of a struct inside stand behind it.
+                // The names of a struct inside come after it.
                 continue;
             }
             if next.is(Punctuator::Semicolon) || next.is(Punctuator::LeftBrace) {

@@ -4,12 +4,12 @@ use crate::cursor::Cursor;
 use crate::parsing::Parser;
 use crate::stop::Stop;
 use crate::type_names::TypeNames;
-use brc_c_text::{Keyword, Lexeme, LexemeKind, Punctuator, Words};
+use brc_c_text::{Keyword, Lexeme, LexemeKind, Punctuator, Symbols};
 use brc_c_tree::{Parameter, Tag, TypeName};
 use std::alloc::Global;
 
 #[derive(Clone, Copy, Debug)]
-/// A function's name, what stands before it, and what its parentheses enclose.
+/// A function's name, what comes before it, and what its parentheses enclose.
 pub(crate) struct Head<'a> {
     pub(crate) name: Lexeme,
     pub(crate) before: &'a [Lexeme],
@@ -17,9 +17,9 @@ pub(crate) struct Head<'a> {
 }
 
 /// Returns the parts of a head, or `None` if it isn't one.
-pub(crate) fn head_of<'a>(words: &Words, lexemes: &'a [Lexeme]) -> Option<Head<'a>> {
+pub(crate) fn head_of<'a>(symbols: &Symbols, lexemes: &'a [Lexeme]) -> Option<Head<'a>> {
     let mut end = lexemes.len();
-    // Attributes may stand behind the parameters.
+    // Attributes may follow the parameters.
     for _turn in 0..lexemes.len() {
         let open = opening(lexemes.get(..end)?)?;
         let at = open.checked_sub(1)?;
@@ -27,7 +27,7 @@ pub(crate) fn head_of<'a>(words: &Words, lexemes: &'a [Lexeme]) -> Option<Head<'
         if name.kind != LexemeKind::Name {
             return None;
         }
-        if !is_attribute(words.text(name.word)) {
+        if !is_attribute(symbols.text(name.symbol)) {
             return Some(Head {
                 name: *name,
                 before: lexemes.get(..at)?,
@@ -63,10 +63,10 @@ fn opening(lexemes: &[Lexeme]) -> Option<usize> {
     None
 }
 
-/// Returns the type of a function's result: the last name before its own name, with the stars behind it.
+/// Returns the type of a function's result: the last name before its own name, with the stars after it.
 pub(crate) fn result_of(types: &TypeNames, before: &[Lexeme]) -> TypeName {
     let mut found = TypeName {
-        word: types.int(),
+        symbol: types.int(),
         tag: None,
         stars: 0,
         is_function: false,
@@ -75,7 +75,7 @@ pub(crate) fn result_of(types: &TypeNames, before: &[Lexeme]) -> TypeName {
     for lexeme in before {
         match lexeme.kind {
             LexemeKind::Name => {
-                found.word = lexeme.word;
+                found.symbol = lexeme.symbol;
                 found.tag = tag;
                 found.stars = 0;
                 tag = None;
@@ -104,12 +104,12 @@ pub(crate) fn is_static(before: &[Lexeme]) -> bool {
 /// Reads the parameters in a head's parentheses.
 pub(crate) fn parameters_of(
     alloc: Global,
-    words: &Words,
+    symbols: &Symbols,
     types: &TypeNames,
     head: &Head<'_>,
 ) -> Result<Vec<Parameter>, Stop> {
     let cursor = Cursor::new(head.inside, head.name.place);
-    let mut parser = Parser::new(alloc, cursor, words, types);
+    let mut parser = Parser::new(alloc, cursor, symbols, types);
     let mut found = Vec::new(alloc);
     for _turn in 0..head.inside.len() {
         if parser.cursor.left() == 0 {
@@ -118,7 +118,7 @@ pub(crate) fn parameters_of(
         let parameter = parser.parameter()?;
         let is_void = parameter.name.is_none()
             && parameter.type_name.stars == 0
-            && words.text(parameter.type_name.word) == b"void".as_slice();
+            && symbols.text(parameter.type_name.symbol) == b"void".as_slice();
         if !is_void {
             found.push(parameter)?;
         }
@@ -139,7 +139,7 @@ impl<'a> Parser<'a> {
             name = self.function_pointer()?;
         } else if self.cursor.peek().kind == LexemeKind::Name {
             let mut last = self.cursor.take();
-            if self.words.text(last.word) == b"Py_UNUSED".as_slice()
+            if self.symbols.text(last.symbol) == b"Py_UNUSED".as_slice()
                 && self.cursor.eat(Punctuator::LeftParen)
             {
                 last = self.cursor.take();
@@ -150,7 +150,7 @@ impl<'a> Parser<'a> {
         let dimensions = self.dimensions()?;
         type_name.stars = type_name.stars.saturating_add(dimensions);
         Ok(Parameter {
-            name: name.map(|lexeme| lexeme.word),
+            name: name.map(|lexeme| lexeme.symbol),
             type_name,
             is_variadic,
         })

@@ -1,4 +1,4 @@
-//! What stands behind an operand, and how tightly it binds.
+//! What comes after an operand, and how tightly it binds.
 
 use brc_c_text::{LexemeKind, Punctuator};
 use brc_c_tree::Binary;

@@ -5,7 +5,7 @@ use crate::listing::{Item, items_of};
 use crate::parsing::Parser;
 use crate::stop::Stop;
 use crate::type_names::TypeNames;
-use brc_c_text::{Lexeme, Words};
+use brc_c_text::{Lexeme, Symbols};
 use brc_c_tree::{
     Body, FUNCTION_LIMIT, Function, NESTING_LIMIT, NotRead, Reason, SourceTree, StatementId,
     TOKEN_LIMIT, Tree,
@@ -20,7 +20,7 @@ use std::alloc::{AllocError, Global};
 /// Only if memory is refused: a function that isn't understood has its reason.
 pub fn read_source(
     alloc: Global,
-    words: &Words,
+    symbols: &Symbols,
     types: &mut TypeNames,
     lexemes: &[Lexeme],
 ) -> Result<SourceTree, AllocError> {
@@ -34,7 +34,7 @@ pub fn read_source(
                 Some((open, close)) => inside_of(lexemes, *open, *close),
                 None => None,
             };
-            if let Err(Stop::NoMemory) = declare(alloc, words, types, &mut tree, whole, inside) {
+            if let Err(Stop::NoMemory) = declare(alloc, symbols, types, &mut tree, whole, inside) {
                 return Err(AllocError);
             }
         }
@@ -44,8 +44,8 @@ pub fn read_source(
             let head = lexemes.get(*start..*open).unwrap_or(&[]);
             let body = lexemes.get(*open..*end).unwrap_or(&[]);
             let is_over = tree.functions.len() >= FUNCTION_LIMIT;
-            if let Some(head) = head_of(words, head) {
-                let function = function_of(alloc, words, types, &head, body, is_over)?;
+            if let Some(head) = head_of(symbols, head) {
+                let function = function_of(alloc, symbols, types, &head, body, is_over)?;
                 tree.functions.push(function)?;
             }
         }
@@ -53,7 +53,7 @@ pub fn read_source(
     Ok(tree)
 }
 
-/// Returns what stands between two braces, of which `end` is the place behind the last.
+/// Returns what is between two braces, of which `end` is the place after the last.
 fn inside_of(lexemes: &[Lexeme], open: usize, end: usize) -> Option<&[Lexeme]> {
     lexemes.get(open.checked_add(1)?..end.checked_sub(1)?)
 }
@@ -61,7 +61,7 @@ fn inside_of(lexemes: &[Lexeme], open: usize, end: usize) -> Option<&[Lexeme]> {
 /// Reads a function, or says why it isn't read.
 fn function_of(
     alloc: Global,
-    words: &Words,
+    symbols: &Symbols,
     types: &TypeNames,
     head: &Head<'_>,
     body: &[Lexeme],
@@ -73,7 +73,7 @@ fn function_of(
         None => place,
     };
     let mut function = Function {
-        name: head.name.word,
+        name: head.name.symbol,
         place,
         end,
         is_static: is_static(head.before),
@@ -87,10 +87,10 @@ fn function_of(
     if is_over {
         return Ok(function);
     }
-    match parameters_of(alloc, words, types, head) {
+    match parameters_of(alloc, symbols, types, head) {
         Ok(parameters) => {
             function.parameters = parameters;
-            function.body = body_of(alloc, words, types, &function, body)?;
+            function.body = body_of(alloc, symbols, types, &function, body)?;
         }
         Err(Stop::NotRead(why)) => function.body = Body::NotRead(why),
         Err(Stop::NoMemory) => return Err(AllocError),
@@ -100,7 +100,7 @@ fn function_of(
 
 fn body_of(
     alloc: Global,
-    words: &Words,
+    symbols: &Symbols,
     types: &TypeNames,
     function: &Function,
     body: &[Lexeme],
@@ -111,7 +111,7 @@ fn body_of(
             reason: Reason::TooLong,
         }));
     }
-    match read_body(alloc, words, types, function, body) {
+    match read_body(alloc, symbols, types, function, body) {
         Ok((tree, whole)) => Ok(Body::Read(tree, whole)),
         Err(Stop::NotRead(why)) => Ok(Body::NotRead(why)),
         Err(Stop::NoMemory) => Err(AllocError),
@@ -120,12 +120,12 @@ fn body_of(
 
 fn read_body(
     alloc: Global,
-    words: &Words,
+    symbols: &Symbols,
     types: &TypeNames,
     function: &Function,
     body: &[Lexeme],
 ) -> Result<(Tree, StatementId), Stop> {
-    let mut parser = Parser::new(alloc, Cursor::new(body, function.end), words, types);
+    let mut parser = Parser::new(alloc, Cursor::new(body, function.end), symbols, types);
     for parameter in &function.parameters {
         if let Some(name) = parameter.name {
             parser.declare(name)?;

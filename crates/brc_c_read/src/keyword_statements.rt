@@ -22,7 +22,7 @@ impl<'a> Parser<'a> {
         Ok(value)
     }
 
-    /// Reads `if`, with all the `else if` behind it: these aren't nested.
+    /// Reads `if`, with all the `else if` after it: these aren't nested.
     #[cycle(statement)]
     pub(crate) fn if_statement(&mut self, depth: usize) -> Result<StatementId, Stop> {
         let mut arms = Vec::new(self.alloc);
@@ -114,7 +114,7 @@ impl<'a> Parser<'a> {
         }
     }
 
-    /// Reads an expression, if there is one, and the punctuator behind it.
+    /// Reads an expression, if there is one, and the punctuator after it.
     fn expression_before(
         &mut self,
         end: Punctuator,
@@ -160,7 +160,7 @@ impl<'a> Parser<'a> {
         self.statement_at(statement, place)
     }
 
-    /// Reads what stands behind the keyword of such a statement, and returns what ends it.
+    /// Reads what comes after the keyword of such a statement, and returns what ends it.
     fn leaf(&mut self, keyword: Keyword, depth: usize) -> Result<(Statement, Punctuator), Stop> {
         match keyword {
             Keyword::Return if self.cursor.peek().is(Punctuator::Semicolon) => {
@@ -171,7 +171,7 @@ impl<'a> Parser<'a> {
                 Ok((Statement::Return(Some(value)), Punctuator::Semicolon))
             }
             Keyword::Goto => {
-                let label = self.cursor.name()?.word;
+                let label = self.cursor.name()?.symbol;
                 Ok((Statement::Goto(label), Punctuator::Semicolon))
             }
             Keyword::Break => Ok((Statement::Break, Punctuator::Semicolon)),

@@ -4,7 +4,7 @@ use crate::braces::closing;
 use brc_c_text::{Keyword, Lexeme, LexemeKind, Punctuator};
 use std::alloc::{AllocError, Global};
 
-/// Where an item stands among lexemes.
+/// Where an item is among the lexemes.
 #[derive(Clone, Copy, Debug, PartialEq, Eq)]
 pub(crate) enum Item {
     /// What ends with a semicolon, before which `end` is. Its first braces, if it has any, enclose what is between
@@ -14,7 +14,7 @@ pub(crate) enum Item {
         end: usize,
         braces: Option<(usize, usize)>,
     },
-    /// A head, and what stands from the first brace to the place behind the last one.
+    /// A head, and what is there from the first brace to the place after the last one.
     Function {
         start: usize,
         open: usize,
@@ -31,7 +31,7 @@ struct Listing {
     braces: Option<(usize, usize)>,
 }
 
-/// Returns the items in the order in which they stand.
+/// Returns the items in their order.
 pub(crate) fn items_of(alloc: Global, lexemes: &[Lexeme]) -> Result<Vec<Item>, AllocError> {
     let closing = closing(alloc, lexemes)?;
     let mut listing = Listing {
@@ -90,14 +90,14 @@ impl Listing {
             self.items.push(Item::Function { start, open, end })?;
             self.begin(end);
         } else if self.braces.is_none() {
-            // The first braces count: those of a struct stand before those of a value.
+            // The first braces count: those of a struct come before those of a value.
             self.braces = Some((open, end));
         }
         Ok(end)
     }
 }
 
-/// Returns the place behind what the brace at `open` encloses.
+/// Returns the place after what the brace at `open` encloses.
 fn end_of(closing: &[Option<usize>], open: usize, last: usize) -> usize {
     match closing.get(open) {
         Some(Some(close)) => close.saturating_add(1),
@@ -114,7 +114,7 @@ fn is_linkage(head: &[Lexeme]) -> bool {
     }
 }
 
-/// Returns whether braces behind these lexemes are the body of a function.
+/// Returns whether braces after these lexemes are the body of a function.
 fn is_head(head: &[Lexeme]) -> bool {
     let Some(last) = head.last() else {
         return false;

@@ -29,7 +29,7 @@ impl<'a> Parser<'a> {
         Err(self.instead(Expected::Expression))
     }
 
-    /// Reads an operand with what stands behind it: calls, indices, fields, `++` and `--`.
+    /// Reads an operand with what comes after it: calls, indices, fields, `++` and `--`.
     #[cycle(expression)]
     pub(crate) fn operand(&mut self, depth: usize) -> Result<ExpressionId, Stop> {
         let first = self.cursor.peek();
@@ -125,14 +125,14 @@ impl<'a> Parser<'a> {
         self.expression_at(Expression::Index { array, index }, open.place)
     }
 
-    /// Reads a field, `++` or `--` behind an operand.
+    /// Reads a field, `++` or `--` after an operand.
     fn suffix(&mut self, operand: ExpressionId, next: Lexeme) -> Result<ExpressionId, Stop> {
         self.cursor.take();
         let is_field = next.is(Punctuator::Dot) || next.is(Punctuator::Arrow);
         let expression = if is_field {
             Expression::Field {
                 object: operand,
-                name: self.cursor.name()?.word,
+                name: self.cursor.name()?.symbol,
                 is_arrow: next.is(Punctuator::Arrow),
             }
         } else {
@@ -149,10 +149,10 @@ impl<'a> Parser<'a> {
     fn simple_operand(&mut self) -> Result<ExpressionId, Stop> {
         let first = self.cursor.peek();
         let expression = match first.kind {
-            LexemeKind::Name => Expression::Name(first.word),
-            LexemeKind::Number => Expression::Number(first.word),
-            LexemeKind::Character => Expression::Character(first.word),
-            LexemeKind::Text => Expression::Text(first.word),
+            LexemeKind::Name => Expression::Name(first.symbol),
+            LexemeKind::Number => Expression::Number(first.symbol),
+            LexemeKind::Character => Expression::Character(first.symbol),
+            LexemeKind::Text => Expression::Text(first.symbol),
             LexemeKind::Keyword(Keyword::Sizeof) => return self.size_of(),
             LexemeKind::Punctuator(Punctuator::LeftBrace) if self.follows_cast() => {
                 return self.opaque_braces();
@@ -227,7 +227,7 @@ impl<'a> Parser<'a> {
         if goes_on { Some(infix) } else { None }
     }
 
-    /// Takes the operator that comes next, behind an operand.
+    /// Takes the operator that comes next, after an operand.
     fn push_infix(&mut self, operand: ExpressionId, base: usize) -> Result<(), Stop> {
         let next = self.cursor.take();
         let place = next.place;

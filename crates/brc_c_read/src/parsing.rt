@@ -2,7 +2,7 @@ use crate::cursor::Cursor;
 use crate::pending::Pending;
 use crate::stop::{Stop, not_read};
 use crate::type_names::TypeNames;
-use brc_c_text::{Lexeme, LexemeKind, Place, Word, Words};
+use brc_c_text::{Lexeme, LexemeKind, Place, Symbol, Symbols};
 use brc_c_tree::{
     Expected, Expression, ExpressionId, List, Reason, Statement, StatementId, Tree, names_objects,
 };
@@ -14,12 +14,12 @@ use std::collections::HashSet;
 pub(crate) struct Parser<'a> {
     pub(crate) alloc: Global,
     pub(crate) cursor: Cursor<'a>,
-    pub(crate) words: &'a Words,
+    pub(crate) symbols: &'a Symbols,
     pub(crate) types: &'a TypeNames,
     /// The variables and parameters that are declared so far.
-    pub(crate) variables: HashSet<Word>,
+    pub(crate) variables: HashSet<Symbol>,
     /// The types that the function itself declares.
-    own_types: HashSet<Word>,
+    own_types: HashSet<Symbol>,
     pub(crate) tree: Tree,
     /// The operators of all expressions that are being read, the innermost's last.
     pub(crate) pending: Vec<Pending>,
@@ -29,13 +29,13 @@ impl<'a> Parser<'a> {
     pub(crate) fn new(
         alloc: Global,
         cursor: Cursor<'a>,
-        words: &'a Words,
+        symbols: &'a Symbols,
         types: &'a TypeNames,
     ) -> Parser<'a> {
         Parser {
             alloc,
             cursor,
-            words,
+            symbols,
             types,
             variables: HashSet::new(alloc),
             own_types: HashSet::new(alloc),
@@ -44,19 +44,19 @@ impl<'a> Parser<'a> {
         }
     }
 
-    pub(crate) fn declare(&mut self, name: Word) -> Result<(), AllocError> {
+    pub(crate) fn declare(&mut self, name: Symbol) -> Result<(), AllocError> {
         self.variables.insert(name)?;
         Ok(())
     }
 
-    pub(crate) fn declare_type(&mut self, name: Word) -> Result<(), AllocError> {
+    pub(crate) fn declare_type(&mut self, name: Symbol) -> Result<(), AllocError> {
         self.own_types.insert(name)?;
         Ok(())
     }
 
-    /// Returns whether a declaration or C itself makes the word a type.
-    pub(crate) fn is_declared_type(&self, word: Word) -> bool {
-        self.types.is_declared(word) || self.own_types.contains(&word)
+    /// Returns whether a declaration or C itself makes the symbol a type.
+    pub(crate) fn is_declared_type(&self, symbol: Symbol) -> bool {
+        self.types.is_declared(symbol) || self.own_types.contains(&symbol)
     }
 
     /// Returns whether the lexeme begins a type's name, as far as is known.
@@ -64,15 +64,16 @@ impl<'a> Parser<'a> {
         match lexeme.kind {
             LexemeKind::Keyword(keyword) => keyword.is_qualifier() || keyword.has_tag(),
             LexemeKind::Name => {
-                self.is_declared_type(lexeme.word)
-                    || (names_objects(self.words.text(lexeme.word)) && !self.is_variable(lexeme))
+                self.is_declared_type(lexeme.symbol)
+                    || (names_objects(self.symbols.text(lexeme.symbol))
+                        && !self.is_variable(lexeme))
             }
             _ => false,
         }
     }
 
     pub(crate) fn is_variable(&self, lexeme: &Lexeme) -> bool {
-        self.variables.contains(&lexeme.word)
+        self.variables.contains(&lexeme.symbol)
     }
 
     pub(crate) fn expression_at(

@@ -4,7 +4,7 @@ use crate::infix::{ASSIGNMENT, COMMA, CONDITIONAL, Infix, Level, OPEN, PREFIX};
 use brc_c_text::Place;
 use brc_c_tree::{Binary, Expression, ExpressionId, TypeName, Unary};
 
-/// An operator, with the operands that stand before it.
+/// An operator, with the operands that come before it.
 #[derive(Clone, Copy, Debug, PartialEq, Eq)]
 pub(crate) enum Operator {
     Unary(Unary),
@@ -16,7 +16,7 @@ pub(crate) enum Operator {
     Comma(ExpressionId),
     /// `?`, whose `:` hasn't come yet.
     Question(ExpressionId),
-    /// `:`, behind a condition and the value where it holds.
+    /// `:`, after a condition and the value where it holds.
     Colon(ExpressionId, ExpressionId),
 }
 

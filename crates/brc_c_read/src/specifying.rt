@@ -1,4 +1,4 @@
-//! Names of types, and where one stands.
+//! Names of types, and where one is.
 
 use crate::parsing::Parser;
 use crate::stop::{Stop, not_read};
@@ -17,7 +17,7 @@ impl<'a> Parser<'a> {
     pub(crate) fn specifiers(&mut self) -> Result<Specifiers, Stop> {
         let mut found = Specifiers {
             type_name: TypeName {
-                word: self.types.int(),
+                symbol: self.types.int(),
                 tag: None,
                 stars: 0,
                 is_function: false,
@@ -39,7 +39,7 @@ impl<'a> Parser<'a> {
                 LexemeKind::Name if self.is_attribute(&next) => self.attribute()?,
                 LexemeKind::Name if !has_word || self.is_more_of_type(&next) => {
                     self.cursor.take();
-                    found.type_name.word = next.word;
+                    found.type_name.symbol = next.symbol;
                     has_word = true;
                 }
                 _ => break,
@@ -48,10 +48,10 @@ impl<'a> Parser<'a> {
         Ok(found)
     }
 
-    /// Returns whether a name behind a type's first word is a word of the type too: a name follows it.
+    /// Returns whether a name after a type's first symbol is a symbol of the type too: a name follows it.
     fn is_more_of_type(&self, next: &Lexeme) -> bool {
         let behind = self.cursor.ahead(1);
-        self.types.is_basic(next.word)
+        self.types.is_basic(next.symbol)
             || (behind.kind == LexemeKind::Name && !self.is_attribute(&behind))
     }
 
@@ -59,7 +59,7 @@ impl<'a> Parser<'a> {
     fn tagged(&mut self, keyword: Keyword) -> Result<TypeName, Stop> {
         let place = self.cursor.take().place;
         let mut type_name = TypeName {
-            word: self.types.int(),
+            symbol: self.types.int(),
             tag: Some(match keyword {
                 Keyword::Union => Tag::Union,
                 Keyword::Enum => Tag::Enum,
@@ -69,7 +69,7 @@ impl<'a> Parser<'a> {
             is_function: false,
         };
         if self.cursor.peek().kind == LexemeKind::Name {
-            type_name.word = self.cursor.take().word;
+            type_name.symbol = self.cursor.take().symbol;
         }
         if self.cursor.peek().is(Punctuator::LeftBrace)
             && !self
@@ -83,7 +83,7 @@ impl<'a> Parser<'a> {
 
     pub(crate) fn is_attribute(&self, lexeme: &Lexeme) -> bool {
         matches!(
-            self.words.text(lexeme.word),
+            self.symbols.text(lexeme.symbol),
             b"__attribute__" | b"__attribute" | b"__declspec" | b"__extension__"
         )
     }
@@ -94,8 +94,8 @@ impl<'a> Parser<'a> {
         if !self.cursor.peek().is(Punctuator::LeftParen) {
             return Ok(());
         }
-        let name = self.cursor.ahead(2).word;
-        if matches!(self.words.text(name), b"cleanup" | b"__cleanup__") {
+        let name = self.cursor.ahead(2).symbol;
+        if matches!(self.symbols.text(name), b"cleanup" | b"__cleanup__") {
             return Err(not_read(place, Reason::Cleanup));
         }
         if !self
@@ -139,7 +139,7 @@ impl<'a> Parser<'a> {
         let mut base = self.specifiers()?.type_name;
         // No name is declared here, so each one is part of the type.
         if self.cursor.peek().kind == LexemeKind::Name {
-            base.word = self.cursor.take().word;
+            base.symbol = self.cursor.take().symbol;
         }
         let mut type_name = self.stars(base);
         if self.cursor.peek().is(Punctuator::LeftParen) {
@@ -199,15 +199,15 @@ impl<'a> Parser<'a> {
         match first.kind {
             LexemeKind::Keyword(keyword) => keyword.is_qualifier() || keyword.has_tag(),
             LexemeKind::Name => {
-                self.is_declared_type(first.word)
+                self.is_declared_type(first.symbol)
                     || (!self.is_variable(&first) && self.is_unknown_cast(&first))
             }
             _ => false,
         }
     }
 
-    /// Returns whether the name, of which nothing is known, is the type of a cast: it has stars behind it, or the
-    /// parenthesis behind it doesn't end an operand.
+    /// Returns whether the name, of which nothing is known, is the type of a cast: it has stars after it, or the
+    /// parenthesis after it doesn't end an operand.
     fn is_unknown_cast(&self, first: &Lexeme) -> bool {
         let behind = self.behind_stars(2);
         if !self.cursor.ahead(behind).is(Punctuator::RightParen) {
@@ -221,7 +221,7 @@ impl<'a> Parser<'a> {
             LexemeKind::Name | LexemeKind::Number | LexemeKind::Text => true,
             LexemeKind::Keyword(keyword) => keyword == Keyword::Sizeof,
             LexemeKind::Punctuator(Punctuator::LeftParen | Punctuator::And) => {
-                sounds_like_type(self.words.text(first.word))
+                sounds_like_type(self.symbols.text(first.symbol))
             }
             _ => false,
         }
@@ -252,8 +252,8 @@ impl<'a> Parser<'a> {
         let next = self.cursor.ahead(behind);
         let ends = next.is(Punctuator::Comma) || next.is(Punctuator::RightParen);
         let is_sure = behind > 1
-            || self.is_declared_type(first.word)
-            || takes_type(self.words.text(function.word));
+            || self.is_declared_type(first.symbol)
+            || takes_type(self.symbols.text(function.symbol));
         ends && is_sure
     }
 

@@ -75,9 +75,9 @@ impl<'a> Parser<'a> {
             if behind.is(Punctuator::Colon) && !self.cursor.ahead(2).is(Punctuator::Colon) {
                 self.cursor.take();
                 self.cursor.take();
-                return self.statement_at(Statement::Label(first.word), place);
+                return self.statement_at(Statement::Label(first.symbol), place);
             }
-            if let Some(known) = Known::of(self.words.text(first.word)) {
+            if let Some(known) = Known::of(self.symbols.text(first.symbol)) {
                 return self.known_statement(known, depth);
             }
         }
@@ -108,7 +108,7 @@ impl<'a> Parser<'a> {
         self.statement_at(Statement::Known { known, arguments }, place)
     }
 
-    /// Reads an expression and its semicolon, which may be missing behind a macro at a line's end.
+    /// Reads an expression and its semicolon, which may be missing after a macro at a line's end.
     fn expression_statement(&mut self, depth: usize) -> Result<StatementId, Stop> {
         let first = self.cursor.peek();
         let value = self.expression(depth, COMMA)?;
@@ -132,7 +132,7 @@ impl<'a> Parser<'a> {
             }
             _ => false,
         };
-        let name = self.words.text(first.word);
+        let name = self.symbols.text(first.symbol);
         is_plain && first.kind == LexemeKind::Name && (is_capital(name) || is_pythons(name))
     }
 }

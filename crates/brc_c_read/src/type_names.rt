@@ -1,4 +1,4 @@
-use brc_c_text::{Word, Words};
+use brc_c_text::{Symbol, Symbols};
 use std::alloc::{AllocError, Global};
 use std::collections::HashSet;
 
@@ -58,43 +58,43 @@ const BASIC: [&[u8]; 49] = [
 /// The names that are types.
 #[derive(Drop)]
 pub struct TypeNames {
-    basic: HashSet<Word>,
-    declared: HashSet<Word>,
-    /// `int`, which a type without a word is.
-    int: Word,
+    basic: HashSet<Symbol>,
+    declared: HashSet<Symbol>,
+    /// `int`, which a type without a symbol is.
+    int: Symbol,
 }
 
 impl TypeNames {
     /// Returns the types of C and Python.
-    pub fn new(alloc: Global, words: &mut Words) -> Result<TypeNames, AllocError> {
+    pub fn new(alloc: Global, symbols: &mut Symbols) -> Result<TypeNames, AllocError> {
         let mut basic = HashSet::new(alloc);
         for name in BASIC {
-            basic.insert(words.word(name)?)?;
+            basic.insert(symbols.symbol(name)?)?;
         }
         Ok(TypeNames {
             basic,
             declared: HashSet::new(alloc),
-            int: words.word(b"int")?,
+            int: symbols.symbol(b"int")?,
         })
     }
 
-    pub fn add(&mut self, name: Word) -> Result<(), AllocError> {
+    pub fn add(&mut self, name: Symbol) -> Result<(), AllocError> {
         self.declared.insert(name)?;
         Ok(())
     }
 
-    /// Returns the word of a type that has none.
-    pub fn int(&self) -> Word {
+    /// Returns the symbol of a type that has none.
+    pub fn int(&self) -> Symbol {
         self.int
     }
 
-    /// Returns whether the word is one of a basic type, of which a type may have several.
-    pub fn is_basic(&self, word: Word) -> bool {
-        self.basic.contains(&word)
+    /// Returns whether the symbol is one of a basic type, of which a type may have several.
+    pub fn is_basic(&self, symbol: Symbol) -> bool {
+        self.basic.contains(&symbol)
     }
 
-    /// Returns whether a declaration or C itself makes the word a type.
-    pub fn is_declared(&self, word: Word) -> bool {
-        self.is_basic(word) || self.declared.contains(&word)
+    /// Returns whether a declaration or C itself makes the symbol a type.
+    pub fn is_declared(&self, symbol: Symbol) -> bool {
+        self.is_basic(symbol) || self.declared.contains(&symbol)
     }
 }

@@ -1,4 +1,4 @@
--- The first word of a text, and the words behind it.
+-- The first word of a text, and the words after it.
 use Rattle.std.proofs.Common.{◌≡◌, ℕ, ◌+◌, ◌-◌, ◌<◌, ◌≤◌, Bool, false, ltb, List, [], ◌∷◌, length, take, drop}
 use Rattle.std.proofs.Common.{Some, None, refl, sym, ap, subst, ◌∙◌, arith, inl, inr}
 use Rattle.std.specs.List.{position, position_or_len, before_first, after_first, filter, slice_split}
@@ -31,7 +31,7 @@ found_none p xs e =
 drop_one_more : (x : ℕ) (xs : List ℕ) (n : ℕ) → drop n xs ≡ drop (1 + n) (x ∷ xs)
 drop_one_more x xs n = drop-drop n 1 (x ∷ xs)
 
--- the words are those behind the blanks at the beginning
+-- the words are those after the blanks at the beginning
 behind_blanks : (xs : List ℕ) → words xs ≡ words (drop (position_or_len is_written_byte xs) xs)
 behind_blanks [] = refl
 behind_blanks (x ∷ xs) =

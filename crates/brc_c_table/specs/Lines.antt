@@ -34,7 +34,7 @@ word_in (w ∷ ws) = Ok (w, ws)
 abbrev pub checked_name : Bool → List ℕ → Result (Bool × List ℕ) RowFault
 checked_name is_field name = if is_name name then Ok (is_field, name) else Err faults.Name
 
--- whether it is a field's, behind `->`, and the name
+-- whether it is a field's, after `->`, and the name
 abbrev pub name_in : List ℕ → Result (Bool × List ℕ) RowFault
 name_in word =
     if starts_with nat_eq word (codes "->") then checked_name true (drop 2 word)
@@ -86,7 +86,7 @@ abbrev pub are_names : List Takes → Bool
 are_names (takes.NoObject ∷ takes.RestNoObjects ∷ []) = true
 are_names _ = false
 
--- nothing is behind it, or it is a format, and an array of names is before the rest
+-- nothing is after it, or it is a format, and an array of names is before the rest
 abbrev pub may_follow : Takes → List Takes → Bool
 may_follow t ts = (length ts == 0) || (is_format t && are_names ts)
 
@@ -95,7 +95,7 @@ abbrev pub rest_is_last : List Takes → Bool
 rest_is_last [] = true
 rest_is_last (t ∷ ts) = if is_about_the_rest t then may_follow t ts else rest_is_last ts
 
--- what the letters say, behind what those before them say
+-- what the letters say, after what those before them say
 abbrev pub letters_in : List Takes → List ℕ → Result (List Takes) RowFault
 letters_in before [] = Ok before
 letters_in before (c ∷ cs) = or_fault faults.Letter (takes_of c) >>= λ t. letters_in (before ++ t ∷ []) cs

@@ -62,7 +62,7 @@ gives_of w =
     else if bytes_eq w (codes "free") then Some gives.Free
     else None
 
--- a word that has a number behind it, and the index of the argument, from 0
+-- a word that has a number after it, and the index of the argument, from 0
 abbrev pub gives_by : List ℕ → ℕ → Option Gives
 gives_by w argument =
     if bytes_eq w (codes "item") then Some (gives.Item argument)

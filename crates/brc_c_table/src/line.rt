@@ -58,7 +58,7 @@ fn read_row(alloc: Global, name: &[u8], rest: &[u8]) -> Result<Row, RowFault>
     })
 }
 
-/// Returns the next word and what is behind it, or `WordCount`.
+/// Returns the next word and what is after it, or `WordCount`.
 fn read_word(text: &[u8]) -> Result<(&[u8], &[u8]), RowFault>
     ensures { MatchResult result (λ w. words text.now ≡ w.0.now ∷ words w.1.now)
         (λ e. (words text.now ≡ []) × (e ≡ WordCount)) }
@@ -82,7 +82,7 @@ fn read_name(word: &[u8]) -> Result<(bool, &[u8]), RowFault>
     }
 }
 
-/// Reads RESULT, of one word or two, and returns what is behind it. Returns `Result`, `WordCount` or `ArgumentNumber`.
+/// Reads RESULT, of one word or two, and returns what is after it. Returns `Result`, `WordCount` or `ArgumentNumber`.
 fn read_gives(text: &[u8]) -> Result<(Gives, &[u8]), RowFault>
     ensures { MatchResult result (λ g. gives_in (words text.now) ≡ Ok (g.0, words g.1.now))
         (λ e. gives_in (words text.now) ≡ Err e) }
@@ -146,7 +146,7 @@ fn read_letters(alloc: Global, word: &[u8]) -> Result<Sequence<Takes>, RowFault>
     Ok(takes)
 }
 
-/// Returns whether nothing follows what is about all arguments from there on, but an array of names behind a format of
+/// Returns whether nothing follows what is about all arguments from there on, but an array of names after a format of
 /// `PyArg_ParseTupleAndKeywords`.
 fn rest_is_last(takes: &[Takes]) -> bool
     ensures { result ≡ rest_is_last takes.now }

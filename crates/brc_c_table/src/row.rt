@@ -92,7 +92,7 @@ pub enum Takes {
     RestFormatted,
     /// `&`: an array of objects, which are borrowed.
     Array,
-    /// `u`: this and all the rest where references are stored that are borrowed from the first argument; those behind
+    /// `u`: this and all the rest where references are stored that are borrowed from the first argument; those after
     /// as many as the third argument says may be left as they are, as by `PyArg_UnpackTuple`.
     RestOut,
 }

@@ -8,7 +8,7 @@ ghost use Rattle.brc_c_table.specs.Words.{is_written_byte, is_name, gives_of, gi
 use crate::row::{Fails, Gives, Takes};
 use brc_lang::is_word;
 
-/// Returns the first word and what is behind it, or `None` if only blanks are left.
+/// Returns the first word and what is after it, or `None` if only blanks are left.
 pub fn next_word(text: &[u8]) -> Option<(&[u8], &[u8])>
     ensures { MatchOption result (words text.now ≡ []) (λ w. words text.now ≡ w.0.now ∷ words w.1.now) }
 {
@@ -83,7 +83,7 @@ fn begins_name(byte: u8) -> bool
     byte.is_ascii_alphabetic() || byte == b'_'
 }
 
-/// Returns what a word of RESULT says that has no number behind it, or `None` for another word.
+/// Returns what a word of RESULT says that has no number after it, or `None` for another word.
 pub fn gives_of(word: &[u8]) -> Option<Gives>
     ensures { result ≡ gives_of word.now }
 {
@@ -106,7 +106,7 @@ pub fn gives_of(word: &[u8]) -> Option<Gives>
     }
 }
 
-/// Returns what a word of RESULT says that has a number behind it, or `None` for another word. `argument` is an index.
+/// Returns what a word of RESULT says that has a number after it, or `None` for another word. `argument` is an index.
 pub fn gives_by(word: &[u8], argument: u8) -> Option<Gives>
     ensures { result ≡ gives_by word.now argument }
 {

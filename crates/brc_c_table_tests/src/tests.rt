@@ -1,7 +1,7 @@
 use brc_c_table::{Fails, Gives, RowFault, Table, Tables, Takes};
 use std::test::Fail;
 
-/// The words behind the name in a row of each sort, and what they say.
+/// The words after the name in a row of each sort, and what they say.
 const ROWS: [(&[u8], Gives, &[Takes], Fails, bool); 20] = [
     (b"new . null pure", Gives::New, &[], Fails::Null, false),
     (

@@ -1,6 +1,6 @@
 use crate::reading::read;
 use crate::rendering::body_text;
-use brc_c_text::Words;
+use brc_c_text::Symbols;
 use std::test::Fail;
 
 /// The body of a function with the parameters `a` and `b`, and the text of its tree.
@@ -128,11 +128,11 @@ const ROWS: [(&str, &str); 39] = [
 fn bodies(rt: HostRuntime) -> Result<(), Fail> {
     let alloc = rt.alloc();
     for (body, wanted) in ROWS {
-        let mut words = Words::new(alloc)?;
+        let mut symbols = Symbols::new(alloc)?;
         let source = format!(in alloc; "static int f(PyObject *a, int b) {{ {body} }}")?;
-        let tree = read(alloc, &mut words, source.as_bytes())?;
+        let tree = read(alloc, &mut symbols, source.as_bytes())?;
         assert_eq!(rt; tree.functions.len(), 1, "{body}");
-        let found = body_text(alloc, &words, &tree.functions[0])?;
+        let found = body_text(alloc, &symbols, &tree.functions[0])?;
         assert_eq!(rt; found.as_str(), wanted, "{body}");
     }
     Ok(())
@@ -174,20 +174,20 @@ const NOT_READ: [(&str, &str); 23] = [
     ("sizeof (a", "2:1 a brace or a parenthesis isn't closed"),
 ];
 
-/// Each function behind one that isn't read is read.
+/// Each function after one that isn't read is read.
 #[test]
 fn reasons(rt: HostRuntime) -> Result<(), Fail> {
     let alloc = rt.alloc();
     for (body, wanted) in NOT_READ {
-        let mut words = Words::new(alloc)?;
+        let mut symbols = Symbols::new(alloc)?;
         let source = format!(in alloc;
             "int f(int a) {{\n{body}\n}}\nint g(void)\n{{\nreturn 1;\n}}\n"
         )?;
-        let tree = read(alloc, &mut words, source.as_bytes())?;
+        let tree = read(alloc, &mut symbols, source.as_bytes())?;
         assert_eq!(rt; tree.functions.len(), 2, "{body}");
-        let found = body_text(alloc, &words, &tree.functions[0])?;
+        let found = body_text(alloc, &symbols, &tree.functions[0])?;
         assert_eq!(rt; found.as_str(), wanted, "{body}");
-        let found = body_text(alloc, &words, &tree.functions[1])?;
+        let found = body_text(alloc, &symbols, &tree.functions[1])?;
         assert_eq!(rt; found.as_str(), "{ return 1; }", "{body}");
     }
     Ok(())

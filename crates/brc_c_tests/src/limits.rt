@@ -1,6 +1,6 @@
 use crate::reading::{preprocessed, read};
 use crate::rendering::body_text;
-use brc_c_text::Words;
+use brc_c_text::Symbols;
 use brc_c_tree::{Body, FUNCTION_LIMIT};
 use std::alloc::{AllocError, Global};
 use std::test::Fail;
@@ -41,11 +41,11 @@ fn sizes(rt: HostRuntime) -> Result<(), Fail> {
     let alloc = rt.alloc();
     for (before, middle, behind, times, why) in ROWS {
         for over in 0..2 {
-            let mut words = Words::new(alloc)?;
+            let mut symbols = Symbols::new(alloc)?;
             let source = nested(alloc, before, middle, behind, times.saturating_add(over))?;
-            let tree = read(alloc, &mut words, source.as_bytes())?;
+            let tree = read(alloc, &mut symbols, source.as_bytes())?;
             assert_eq!(rt; tree.functions.len(), 1, "{before}");
-            let found = body_text(alloc, &words, &tree.functions[0])?;
+            let found = body_text(alloc, &symbols, &tree.functions[0])?;
             let is_read = matches!(tree.functions[0].body, Body::Read(_, _));
             assert_eq!(rt; is_read, over == 0, "{before} {times}");
             if over == 1 {
@@ -62,11 +62,11 @@ fn parentheses(rt: HostRuntime) -> Result<(), Fail> {
     let alloc = rt.alloc();
     for (before, middle, behind) in [("(", "a", ")"), ("f(", "a", ")"), ("a[", "1", "]")] {
         for (times, is_read) in [(63, true), (64, false)] {
-            let mut words = Words::new(alloc)?;
+            let mut symbols = Symbols::new(alloc)?;
             let source = nested(alloc, before, middle, behind, times)?;
-            let tree = read(alloc, &mut words, source.as_bytes())?;
+            let tree = read(alloc, &mut symbols, source.as_bytes())?;
             assert_eq!(rt; tree.functions.len(), 1);
-            let found = body_text(alloc, &words, &tree.functions[0])?;
+            let found = body_text(alloc, &symbols, &tree.functions[0])?;
             assert_eq!(rt;
                 !found.as_str().ends_with("64 deep"),
                 is_read,
@@ -87,11 +87,11 @@ fn many(rt: HostRuntime) -> Result<(), Fail> {
     repeat(&mut source, "!a && a ? a : ", 300)?;
     source.push_str("a; }\n")?;
     repeat(&mut source, "int g(void) { }\n", FUNCTION_LIMIT)?;
-    let mut words = Words::new(alloc)?;
-    let tree = read(alloc, &mut words, source.as_bytes())?;
+    let mut symbols = Symbols::new(alloc)?;
+    let tree = read(alloc, &mut symbols, source.as_bytes())?;
     assert_eq!(rt; tree.functions.len(), FUNCTION_LIMIT + 1);
     for (at, function) in tree.functions.iter().enumerate() {
-        let found = body_text(alloc, &words, function)?;
+        let found = body_text(alloc, &symbols, function)?;
         let is_over = found
             .as_str()
             .ends_with("more than 512 functions in a file");
@@ -109,28 +109,28 @@ fn macros(rt: HostRuntime) -> Result<(), Fail> {
         #define C B + B + B + B + B + B + B + B\n#define D C + C + C + C + C + C + C + C\n\
         #define E D + D + D + D + D + D + D + D\n#define F E + E + E + E + E + E + E + E\n\
         int f(int x) { return F; }\nint g(void) { return 1; }\n";
-    let mut words = Words::new(alloc)?;
-    let tree = read(alloc, &mut words, source.as_bytes())?;
+    let mut symbols = Symbols::new(alloc)?;
+    let tree = read(alloc, &mut symbols, source.as_bytes())?;
     assert_eq!(rt; tree.functions.len(), 2);
-    let found = body_text(alloc, &words, &tree.functions[0])?;
+    let found = body_text(alloc, &symbols, &tree.functions[0])?;
     assert!(rt;
         found.as_str().ends_with("more than 32768 tokens"),
         "{found}"
     );
-    let found = body_text(alloc, &words, &tree.functions[1])?;
+    let found = body_text(alloc, &symbols, &tree.functions[1])?;
     assert_eq!(rt; found.as_str(), "{ return 1; }");
     // The same with nothing at its end makes no tokens, and takes as long.
     let empty =
         "#define A\n#define B A A A A A A A A\n#define C B B B B B B B B\n#define D C C C C C C C C\n\
         #define E D D D D D D D D\n#define F E E E E E E E E\n#define G F F F F F F F F\n\
         int f(int x) { G return 1; }\nint g(void) { E return 1; }\n";
-    let tree = read(alloc, &mut words, empty.as_bytes())?;
+    let tree = read(alloc, &mut symbols, empty.as_bytes())?;
     assert_eq!(rt; tree.functions.len(), 2);
-    let found = body_text(alloc, &words, &tree.functions[0])?;
+    let found = body_text(alloc, &symbols, &tree.functions[0])?;
     assert_eq!(rt; found.as_str(), "8:16 a macro makes too much before `A`");
-    let found = body_text(alloc, &words, &tree.functions[1])?;
+    let found = body_text(alloc, &symbols, &tree.functions[1])?;
     assert_eq!(rt; found.as_str(), "{ return 1; }");
-    let done = preprocessed(alloc, &mut words, b"#include \"self.h\"\nx")?;
+    let done = preprocessed(alloc, &mut symbols, b"#include \"self.h\"\nx")?;
     assert_eq!(rt; done.lexemes.len(), 64);
     Ok(())
 }

@@ -1,20 +1,20 @@
 use crate::reading::preprocessed;
-use brc_c_text::Words;
+use brc_c_text::Symbols;
 use std::alloc::Global;
 use std::test::Fail;
 
-/// Returns the lexemes that are left of a source, with a blank behind each.
+/// Returns the lexemes that are left of a source, with a blank after each.
 fn left_of(alloc: Global, source: &str) -> Result<Vec<u8>, Fail> {
-    let mut words = Words::new(alloc)?;
-    let done = preprocessed(alloc, &mut words, source.as_bytes())?;
+    let mut symbols = Symbols::new(alloc)?;
+    let done = preprocessed(alloc, &mut symbols, source.as_bytes())?;
     let mut all = Vec::new(alloc);
     for lexeme in &done.lexemes {
-        all.extend_from_slice(lexeme.text(&words))?;
+        all.extend_from_slice(lexeme.text(&symbols))?;
         all.push(b' ')?;
     }
     for lost in &done.lost {
         all.extend_from_slice(b"LOST ")?;
-        all.extend_from_slice(words.text(lost.name))?;
+        all.extend_from_slice(symbols.text(lost.name))?;
         all.push(b' ')?;
     }
     Ok(all)

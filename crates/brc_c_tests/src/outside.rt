@@ -1,23 +1,23 @@
 use crate::reading::read;
 use crate::rendering::type_text;
-use brc_c_text::{Word, Words};
+use brc_c_text::{Symbol, Symbols};
 use brc_c_tree::{SourceTree, TypeName};
 use std::alloc::Global;
 use std::test::Fail;
 
 /// Returns what a source declares outside functions, and the heads of its functions.
-fn declared(alloc: Global, words: &Words, tree: &SourceTree) -> Result<String, Fail> {
+fn declared(alloc: Global, symbols: &Symbols, tree: &SourceTree) -> Result<String, Fail> {
     let mut text = String::new(alloc);
     for named in &tree.record_names {
-        let name = spelled(words, named.name);
+        let name = spelled(symbols, named.name);
         let stars = named.stars;
         write!(text, "record {name}/{stars}")?;
         if let Some(record) = tree.records.get(named.record) {
             let object = if record.is_object { " object" } else { "" };
             write!(text, "{object}")?;
             for field in &record.fields {
-                let name = spelled(words, field.name);
-                let of = type_text(alloc, words, field.type_name)?;
+                let name = spelled(symbols, field.name);
+                let of = type_text(alloc, symbols, field.type_name)?;
                 write!(text, " {name}:{of}")?;
             }
         }
@@ -26,7 +26,7 @@ fn declared(alloc: Global, words: &Words, tree: &SourceTree) -> Result<String, F
     for alias in &tree.aliases {
         add(
             alloc,
-            words,
+            symbols,
             &mut text,
             "alias",
             alias.name,
@@ -36,7 +36,7 @@ fn declared(alloc: Global, words: &Words, tree: &SourceTree) -> Result<String, F
     for prototype in &tree.prototypes {
         add(
             alloc,
-            words,
+            symbols,
             &mut text,
             "prototype",
             prototype.name,
@@ -46,7 +46,7 @@ fn declared(alloc: Global, words: &Words, tree: &SourceTree) -> Result<String, F
     for variable in &tree.variables {
         add(
             alloc,
-            words,
+            symbols,
             &mut text,
             "variable",
             variable.name,
@@ -54,22 +54,22 @@ fn declared(alloc: Global, words: &Words, tree: &SourceTree) -> Result<String, F
         )?;
     }
     for function in &tree.functions {
-        let word = if function.is_static {
+        let symbol = if function.is_static {
             "static"
         } else {
             "function"
         };
         add(
             alloc,
-            words,
+            symbols,
             &mut text,
-            word,
+            symbol,
             function.name,
             function.result,
         )?;
         for parameter in &function.parameters {
-            let name = parameter.name.map_or("-", |name| spelled(words, name));
-            let of = type_text(alloc, words, parameter.type_name)?;
+            let name = parameter.name.map_or("-", |name| spelled(symbols, name));
+            let of = type_text(alloc, symbols, parameter.type_name)?;
             let more = if parameter.is_variadic { "..." } else { "" };
             write!(text, "({name}:{of}{more}) ")?;
         }
@@ -79,20 +79,20 @@ fn declared(alloc: Global, words: &Words, tree: &SourceTree) -> Result<String, F
 
 fn add(
     alloc: Global,
-    words: &Words,
+    symbols: &Symbols,
     text: &mut String,
     what: &str,
-    name: Word,
+    name: Symbol,
     of: TypeName,
 ) -> Result<(), Fail> {
-    let name = spelled(words, name);
-    let of = type_text(alloc, words, of)?;
+    let name = spelled(symbols, name);
+    let of = type_text(alloc, symbols, of)?;
     write!(text, "{what} {name}:{of}; ")?;
     Ok(())
 }
 
-fn spelled(words: &Words, word: Word) -> &str {
-    str::from_utf8(words.text(word)).unwrap_or("?")
+fn spelled(symbols: &Symbols, symbol: Symbol) -> &str {
+    str::from_utf8(symbols.text(symbol)).unwrap_or("?")
 }
 
 const ROWS: [(&str, &str); 22] = [
@@ -185,9 +185,9 @@ const ROWS: [(&str, &str); 22] = [
 fn rows(rt: HostRuntime) -> Result<(), Fail> {
     let alloc = rt.alloc();
     for (source, wanted) in ROWS {
-        let mut words = Words::new(alloc)?;
-        let tree = read(alloc, &mut words, source.as_bytes())?;
-        let found = declared(alloc, &words, &tree)?;
+        let mut symbols = Symbols::new(alloc)?;
+        let tree = read(alloc, &mut symbols, source.as_bytes())?;
+        let found = declared(alloc, &symbols, &tree)?;
         assert_eq!(rt; found.as_str(), wanted, "{source}");
     }
     Ok(())

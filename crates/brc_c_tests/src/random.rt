@@ -1,7 +1,7 @@
 ghost use Rattle.std.specs.Prelude.{◌<◌};
 
 use crate::reading::read;
-use brc_c_text::{Words, scan};
+use brc_c_text::{Symbols, scan};
 use std::alloc::Global;
 use std::test::Fail;
 
@@ -99,8 +99,8 @@ fn bytes(rt: HostRuntime) -> Result<(), Fail> {
 
 /// Reads a source, and looks at its tokens.
 fn check(alloc: Global, source: &[u8]) -> Result<(), Fail> {
-    let mut words = Words::new(alloc)?;
-    read(alloc, &mut words, source)?;
+    let mut symbols = Symbols::new(alloc)?;
+    read(alloc, &mut symbols, source)?;
     scan(alloc, source)?;
     Ok(())
 }

@@ -2,7 +2,7 @@
 
 use brc_c_macros::{Headers, Macros, Preprocessed, preprocess};
 use brc_c_read::{TypeNames, read_source};
-use brc_c_text::{Words, lexemes_of, scan};
+use brc_c_text::{Symbols, lexemes_of, scan};
 use brc_c_tree::SourceTree;
 use std::alloc::{AllocError, Global};
 use std::test::Fail;
@@ -30,16 +30,20 @@ impl Headers for TwoHeaders {
 }
 
 /// Preprocesses a text.
-pub fn preprocessed(alloc: Global, words: &mut Words, source: &[u8]) -> Result<Preprocessed, Fail> {
+pub fn preprocessed(
+    alloc: Global,
+    symbols: &mut Symbols,
+    source: &[u8],
+) -> Result<Preprocessed, Fail> {
     let scanned = scan(alloc, source)?;
-    let lexemes = lexemes_of(alloc, words, scanned.tokens.as_slice(), source, 0)?;
-    let macros = Macros::new(alloc, words, false)?;
-    Ok(preprocess(alloc, words, &mut TwoHeaders, macros, lexemes, 0)?)
+    let lexemes = lexemes_of(alloc, symbols, scanned.tokens.as_slice(), source, 0)?;
+    let macros = Macros::new(alloc, symbols, false)?;
+    Ok(preprocess(alloc, symbols, &mut TwoHeaders, macros, lexemes, 0)?)
 }
 
 /// Reads the functions of a text.
-pub fn read(alloc: Global, words: &mut Words, source: &[u8]) -> Result<SourceTree, Fail> {
-    let done = preprocessed(alloc, words, source)?;
-    let mut types = TypeNames::new(alloc, words)?;
-    Ok(read_source(alloc, words, &mut types, done.lexemes.as_slice())?)
+pub fn read(alloc: Global, symbols: &mut Symbols, source: &[u8]) -> Result<SourceTree, Fail> {
+    let done = preprocessed(alloc, symbols, source)?;
+    let mut types = TypeNames::new(alloc, symbols)?;
+    Ok(read_source(alloc, symbols, &mut types, done.lexemes.as_slice())?)
 }

@@ -1,21 +1,25 @@
 //! Trees as texts: expressions in parentheses, statements in words.
 
-use brc_c_text::{Word, Words};
+use brc_c_text::{Symbol, Symbols};
 use brc_c_tree::{Body, Expression, Function, List, Statement, Tree, TypeName, reason_text};
 use std::alloc::{AllocError, Global};
 
 /// Returns the text of a function's body, or the place and the reason for which it isn't read.
-pub fn body_text(alloc: Global, words: &Words, function: &Function) -> Result<String, AllocError> {
+pub fn body_text(
+    alloc: Global,
+    symbols: &Symbols,
+    function: &Function,
+) -> Result<String, AllocError> {
     match &function.body {
         Body::Read(tree, whole) => {
-            let expressions = expression_texts(alloc, words, tree)?;
-            let statements = statement_texts(alloc, words, tree, expressions.as_slice())?;
+            let expressions = expression_texts(alloc, symbols, tree)?;
+            let statements = statement_texts(alloc, symbols, tree, expressions.as_slice())?;
             String::from_str(alloc, at(statements.as_slice(), whole.index()))
         }
         Body::NotRead(why) => {
             let line = why.place.line;
             let column = why.place.column;
-            let reason = reason_text(alloc, words, why.reason)?;
+            let reason = reason_text(alloc, symbols, why.reason)?;
             format!(in alloc; "{line}:{column} {reason}")
         }
     }
@@ -28,13 +32,13 @@ fn at(texts: &[String], index: usize) -> &str {
     }
 }
 
-fn spelled(words: &Words, word: Word) -> &str {
-    str::from_utf8(words.text(word)).unwrap_or("?")
+fn spelled(symbols: &Symbols, symbol: Symbol) -> &str {
+    str::from_utf8(symbols.text(symbol)).unwrap_or("?")
 }
 
-/// Returns the text of a type: its word and its stars.
-pub fn type_text(alloc: Global, words: &Words, of: TypeName) -> Result<String, AllocError> {
-    let mut text = String::from_str(alloc, spelled(words, of.word))?;
+/// Returns the text of a type: its symbol and its stars.
+pub fn type_text(alloc: Global, symbols: &Symbols, of: TypeName) -> Result<String, AllocError> {
+    let mut text = String::from_str(alloc, spelled(symbols, of.symbol))?;
     for _star in 0..of.stars {
         text.push('*')?;
     }
@@ -44,11 +48,15 @@ pub fn type_text(alloc: Global, words: &Words, of: TypeName) -> Result<String, A
     Ok(text)
 }
 
-/// Returns the texts of all expressions. Each stands behind its operands.
-fn expression_texts(alloc: Global, words: &Words, tree: &Tree) -> Result<Vec<String>, AllocError> {
+/// Returns the texts of all expressions. Each comes after its operands.
+fn expression_texts(
+    alloc: Global,
+    symbols: &Symbols,
+    tree: &Tree,
+) -> Result<Vec<String>, AllocError> {
     let mut texts = Vec::new(alloc);
     for (expression, _) in tree.expressions() {
-        let text = expression_text(alloc, words, tree, texts.as_slice(), expression)?;
+        let text = expression_text(alloc, symbols, tree, texts.as_slice(), expression)?;
         texts.push(text)?;
     }
     Ok(texts)
@@ -56,16 +64,16 @@ fn expression_texts(alloc: Global, words: &Words, tree: &Tree) -> Result<Vec<Str
 
 fn expression_text(
     alloc: Global,
-    words: &Words,
+    symbols: &Symbols,
     tree: &Tree,
     texts: &[String],
     expression: &Expression,
 ) -> Result<String, AllocError> {
     match *expression {
-        Expression::Name(word)
-        | Expression::Number(word)
-        | Expression::Character(word)
-        | Expression::Text(word) => String::from_str(alloc, spelled(words, word)),
+        Expression::Name(symbol)
+        | Expression::Number(symbol)
+        | Expression::Character(symbol)
+        | Expression::Text(symbol) => String::from_str(alloc, spelled(symbols, symbol)),
         Expression::Call {
             function,
             arguments,
@@ -79,13 +87,13 @@ fn expression_text(
             format!(in alloc; "{{{values}}}")
         }
         Expression::Cast { to, operand } => {
-            let to = type_text(alloc, words, to)?;
+            let to = type_text(alloc, symbols, to)?;
             let operand = at(texts, operand.index());
             format!(in alloc; "[{to}]{operand}")
         }
         Expression::SizeOf => String::from_str(alloc, "sizeof"),
         Expression::Opaque => String::from_str(alloc, "opaque"),
-        _ => operator_text(alloc, words, texts, expression),
+        _ => operator_text(alloc, symbols, texts, expression),
     }
 }
 
@@ -108,7 +116,7 @@ fn operands_text(
 /// Returns the text of an operator with its operands.
 fn operator_text(
     alloc: Global,
-    words: &Words,
+    symbols: &Symbols,
     texts: &[String],
     expression: &Expression,
 ) -> Result<String, AllocError> {
@@ -141,14 +149,14 @@ fn operator_text(
             let otherwise = at(texts, otherwise.index());
             format!(in alloc; "({condition} ? {then} : {otherwise})")
         }
-        _ => place_text(alloc, words, texts, expression),
+        _ => place_text(alloc, symbols, texts, expression),
     }
 }
 
 /// Returns the text of what reads or writes a place.
 fn place_text(
     alloc: Global,
-    words: &Words,
+    symbols: &Symbols,
     texts: &[String],
     expression: &Expression,
 ) -> Result<String, AllocError> {
@@ -181,7 +189,7 @@ fn place_text(
             is_arrow,
         } => {
             let object = at(texts, object.index());
-            let name = spelled(words, name);
+            let name = spelled(symbols, name);
             let dot = if is_arrow { "->" } else { "." };
             format!(in alloc; "{object}{dot}{name}")
         }
@@ -203,16 +211,23 @@ fn step_text(
     }
 }
 
-/// Returns the texts of all statements. Each stands behind its parts.
+/// Returns the texts of all statements. Each comes after its parts.
 fn statement_texts(
     alloc: Global,
-    words: &Words,
+    symbols: &Symbols,
     tree: &Tree,
     expressions: &[String],
 ) -> Result<Vec<String>, AllocError> {
     let mut texts = Vec::new(alloc);
     for (statement, _) in tree.statements() {
-        let text = statement_text(alloc, words, tree, expressions, texts.as_slice(), statement)?;
+        let text = statement_text(
+            alloc,
+            symbols,
+            tree,
+            expressions,
+            texts.as_slice(),
+            statement,
+        )?;
         texts.push(text)?;
     }
     Ok(texts)
@@ -220,7 +235,7 @@ fn statement_texts(
 
 fn statement_text(
     alloc: Global,
-    words: &Words,
+    symbols: &Symbols,
     tree: &Tree,
     expressions: &[String],
     texts: &[String],
@@ -236,7 +251,7 @@ fn statement_text(
             text.push_str(" }")?;
             Ok(text)
         }
-        Statement::Declare(list) => declared_text(alloc, words, tree, expressions, list),
+        Statement::Declare(list) => declared_text(alloc, symbols, tree, expressions, list),
         Statement::Known { known, arguments } => {
             let arguments = operands_text(alloc, tree, expressions, arguments)?;
             format!(in alloc; "{known:?}({arguments});")
@@ -253,23 +268,23 @@ fn statement_text(
             let body = at(texts, body.index());
             format!(in alloc; "for ({first} {condition}; {next}) {body}")
         }
-        _ => short_text(alloc, words, expressions, texts, statement),
+        _ => short_text(alloc, symbols, expressions, texts, statement),
     }
 }
 
 fn declared_text(
     alloc: Global,
-    words: &Words,
+    symbols: &Symbols,
     tree: &Tree,
     expressions: &[String],
     list: List,
 ) -> Result<String, AllocError> {
     let mut text = String::new(alloc);
     for declared in tree.declarations(list) {
-        let of = type_text(alloc, words, declared.type_name)?;
-        let name = spelled(words, declared.name);
-        let word = if declared.is_static { "static" } else { "let" };
-        write!(text, "{word} {of} {name}")?;
+        let of = type_text(alloc, symbols, declared.type_name)?;
+        let name = spelled(symbols, declared.name);
+        let symbol = if declared.is_static { "static" } else { "let" };
+        write!(text, "{symbol} {of} {name}")?;
         if let Some(value) = declared.value {
             let value = at(expressions, value.index());
             write!(text, " = {value}")?;
@@ -281,12 +296,12 @@ fn declared_text(
 
 fn short_text(
     alloc: Global,
-    words: &Words,
+    symbols: &Symbols,
     expressions: &[String],
     texts: &[String],
     statement: &Statement,
 ) -> Result<String, AllocError> {
-    let (word, value, body) = match *statement {
+    let (symbol, value, body) = match *statement {
         Statement::Expression(value) => ("", Some(value), None),
         Statement::While { condition, body } => ("while ", Some(condition), Some(body)),
         Statement::DoWhile { body, condition } => ("do-while ", Some(condition), Some(body)),
@@ -298,11 +313,11 @@ fn short_text(
         } => ("if ", Some(condition), Some(then)),
         Statement::Case(value) => ("case ", Some(value), None),
         Statement::Return(value) => ("return ", value, None),
-        _ => return name_text(alloc, words, statement),
+        _ => return name_text(alloc, symbols, statement),
     };
     let value = value.map_or("", |id| at(expressions, id.index()));
     let Some(body) = body else {
-        return format!(in alloc; "{word}{value};");
+        return format!(in alloc; "{symbol}{value};");
     };
     let body = at(texts, body.index());
     match *statement {
@@ -311,21 +326,25 @@ fn short_text(
             ..
         } => {
             let otherwise = at(texts, otherwise.index());
-            format!(in alloc; "{word}{value} {body} else {otherwise}")
+            format!(in alloc; "{symbol}{value} {body} else {otherwise}")
         }
-        _ => format!(in alloc; "{word}{value} {body}"),
+        _ => format!(in alloc; "{symbol}{value} {body}"),
     }
 }
 
 /// Returns the text of a statement without expressions.
-fn name_text(alloc: Global, words: &Words, statement: &Statement) -> Result<String, AllocError> {
+fn name_text(
+    alloc: Global,
+    symbols: &Symbols,
+    statement: &Statement,
+) -> Result<String, AllocError> {
     match *statement {
         Statement::Label(name) => {
-            let name = spelled(words, name);
+            let name = spelled(symbols, name);
             format!(in alloc; "{name}:")
         }
         Statement::Goto(name) => {
-            let name = spelled(words, name);
+            let name = spelled(symbols, name);
             format!(in alloc; "goto {name};")
         }
         Statement::Default => String::from_str(alloc, "default;"),

@@ -1,6 +1,6 @@
 use crate::reading::read;
 use crate::rendering::type_text;
-use brc_c_text::Words;
+use brc_c_text::Symbols;
 use brc_c_types::{Types, types_of};
 use std::test::Fail;
 
@@ -46,20 +46,20 @@ const ROWS: [(&str, &str, bool); 27] = [
 fn rows(rt: HostRuntime) -> Result<(), Fail> {
     let alloc = rt.alloc();
     for (expression, wanted, is_object) in ROWS {
-        let mut words = Words::new(alloc)?;
+        let mut symbols = Symbols::new(alloc)?;
         let source = format!(in alloc;
             "{BEFORE}int f(NodeObject *self, PyObject **args, int n, Ref ref) {{ PyObject *local; {expression}; }}"
         )?;
-        let tree = read(alloc, &mut words, source.as_bytes())?;
+        let tree = read(alloc, &mut symbols, source.as_bytes())?;
         let types = Types::new(alloc, &tree)?;
         assert_eq!(rt; tree.functions.len(), 1);
         let found = types_of(alloc, &types, &tree.functions[0])?;
         // The whole expression is the last of the tree.
         let last = found.last().copied().flatten();
         let last = last.ok_or(expression)?;
-        let text = type_text(alloc, &words, last)?;
+        let text = type_text(alloc, &symbols, last)?;
         assert_eq!(rt; text.as_str(), wanted, "{expression}");
-        assert_eq!(rt; types.is_object(&words, last), is_object, "{expression}");
+        assert_eq!(rt; types.is_object(&symbols, last), is_object, "{expression}");
     }
     Ok(())
 }

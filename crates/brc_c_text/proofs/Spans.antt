@@ -8,7 +8,7 @@ pub follow_to : (from : ℕ) (ts : List Token) (to later : ℕ) → to ≤ later
 follow_to from [] to later h f = omega arith
 follow_to from (t ∷ ts) to later h f = (f.0, f.1, follow_to t.end ts to later h f.2)
 
--- A token may be put behind them.
+-- A token may be put after them.
 pub follow_more : (from : ℕ) (ts : List Token) (t : Token) (to later : ℕ) → to ≤ t.start
     → t.start ≤ t.end → t.end ≤ later
     → Follow from ts to → Follow from (ts ++ t ∷ []) later

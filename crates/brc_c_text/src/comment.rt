@@ -1,7 +1,7 @@
 /// A comment, with what begins and ends it.
 #[derive(Clone, Copy, Debug, PartialEq, Eq)]
 pub struct Comment {
-    /// Where its first byte is, and the byte behind its last one.
+    /// Where its first byte is, and the byte after its last one.
     pub start: usize,
     pub end: usize,
     /// The lines of its first and its last byte, from 1.

@@ -1,4 +1,4 @@
-/// The words that C keeps to itself, as far as the reader asks for them.
+/// The keywords of C, as far as the reader asks for them.
 #[derive(Clone, Copy, Debug, PartialEq, Eq)]
 pub enum Keyword {
     Asm,
@@ -67,7 +67,7 @@ impl Keyword {
         }
     }
 
-    /// Returns whether a declaration's type is the same without the word.
+    /// Returns whether a declaration's type is the same without the keyword.
     pub fn is_qualifier(self) -> bool {
         match self {
             Keyword::Static
@@ -81,7 +81,7 @@ impl Keyword {
         }
     }
 
-    /// Returns whether a tag or a body in braces stands behind the word.
+    /// Returns whether a tag or a body in braces comes after the keyword.
     pub fn has_tag(self) -> bool {
         match self {
             Keyword::Struct | Keyword::Union | Keyword::Enum => true,

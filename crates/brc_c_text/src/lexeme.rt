@@ -1,7 +1,7 @@
 use crate::keyword::Keyword;
 use crate::punctuator::Punctuator;
+use crate::symbols::{Symbol, Symbols};
 use crate::token::{Token, TokenKind};
-use crate::words::{Word, Words};
 use std::alloc::{AllocError, Global};
 
 /// What a lexeme is.
@@ -18,7 +18,7 @@ pub enum LexemeKind {
     Unknown,
     /// What stands for the rest of a macro's use that is too long.
     Endless,
-    /// What is read behind the last lexeme.
+    /// What is read after the last lexeme.
     End,
 }
 
@@ -32,16 +32,16 @@ pub struct Place {
     pub column: u32,
 }
 
-/// A token without its source: its word says what it spells.
+/// A token without its source: its symbol says what it spells.
 #[derive(Clone, Copy, Debug, PartialEq, Eq)]
 pub struct Lexeme {
     pub kind: LexemeKind,
     /// Whether it is the first one of its line, where continued lines are one.
     pub begins_line: bool,
-    /// Whether a blank, a comment or the end of a line stands before it.
+    /// Whether a blank, a comment or the end of a line comes before it.
     pub is_apart: bool,
-    /// What it spells. A punctuator's word is empty.
-    pub word: Word,
+    /// What it spells. A punctuator's symbol is empty.
+    pub symbol: Symbol,
     pub place: Place,
 }
 
@@ -52,10 +52,10 @@ impl Lexeme {
     }
 
     /// Returns what it spells.
-    pub fn text<'a>(&self, words: &'a Words) -> &'a [u8] {
+    pub fn text<'a>(&self, symbols: &'a Symbols) -> &'a [u8] {
         match self.kind {
             LexemeKind::Punctuator(punctuator) => punctuator.text().as_bytes(),
-            _ => words.text(self.word),
+            _ => symbols.text(self.symbol),
         }
     }
 }
@@ -63,19 +63,19 @@ impl Lexeme {
 /// Returns the lexemes of a source's tokens.
 pub fn lexemes_of(
     alloc: Global,
-    words: &mut Words,
+    symbols: &mut Symbols,
     tokens: &[Token],
     source: &[u8],
     number: usize,
 ) -> Result<Vec<Lexeme>, AllocError> {
     let mut lexemes = Vec::with_capacity(alloc, tokens.len())?;
     for token in tokens {
-        let (kind, word) = spelled(words, token, source)?;
+        let (kind, symbol) = spelled(symbols, token, source)?;
         lexemes.push(Lexeme {
             kind,
             begins_line: token.begins_line,
             is_apart: token.is_apart,
-            word,
+            symbol,
             place: Place {
                 source: number,
                 line: token.line,
@@ -86,18 +86,18 @@ pub fn lexemes_of(
     Ok(lexemes)
 }
 
-/// Returns what a token is among lexemes, and its word.
+/// Returns what a token is among lexemes, and its symbol.
 fn spelled(
-    words: &mut Words,
+    symbols: &mut Symbols,
     token: &Token,
     source: &[u8],
-) -> Result<(LexemeKind, Word), AllocError> {
+) -> Result<(LexemeKind, Symbol), AllocError> {
     if let TokenKind::Punctuator(punctuator) = token.kind {
-        return Ok((LexemeKind::Punctuator(punctuator), Word::EMPTY));
+        return Ok((LexemeKind::Punctuator(punctuator), Symbol::EMPTY));
     }
-    let word = words.word(token.text(source))?;
+    let symbol = symbols.symbol(token.text(source))?;
     let kind = match token.kind {
-        TokenKind::Name => match words.keyword(word) {
+        TokenKind::Name => match symbols.keyword(symbol) {
             Some(keyword) => LexemeKind::Keyword(keyword),
             None => LexemeKind::Name,
         },
@@ -106,5 +106,5 @@ fn spelled(
         TokenKind::Character => LexemeKind::Character,
         TokenKind::Unknown | TokenKind::Punctuator(_) => LexemeKind::Unknown,
     };
-    Ok((kind, word))
+    Ok((kind, symbol))
 }

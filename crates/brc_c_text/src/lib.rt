@@ -1,4 +1,4 @@
-//! A C source as tokens: where each one stands, the comments between them, and the words that they spell.
+//! A C source as tokens: where each one is, the comments between them, and the symbols that they spell.
 #![tactic(auto)]
 
 mod comment;
@@ -9,8 +9,8 @@ mod piece;
 mod punctuator;
 mod quoted;
 mod scanning;
+mod symbols;
 mod token;
-mod words;
 
 pub use comment::Comment;
 pub use fault::TextFault;
@@ -18,5 +18,5 @@ pub use keyword::Keyword;
 pub use lexeme::{Lexeme, LexemeKind, Place, lexemes_of};
 pub use punctuator::Punctuator;
 pub use scanning::{FILE_LIMIT, Scanned, scan};
+pub use symbols::{Symbol, Symbols};
 pub use token::{Token, TokenKind};
-pub use words::{Word, Words};

@@ -16,7 +16,7 @@ pub(crate) enum PieceKind {
     Token(TokenKind),
 }
 
-/// What a piece is, and the place behind it.
+/// What a piece is, and the place after it.
 #[derive(Clone, Copy, Debug, PartialEq, Eq)]
 pub(crate) struct Piece {
     pub(crate) kind: PieceKind,
@@ -93,7 +93,7 @@ fn past_name(source: &[u8], start: usize) -> usize
     source.len()
 }
 
-/// Returns the place behind a number, which has letters, digits, points, and signs behind the letter of an exponent.
+/// Returns the place after a number, which has letters, digits, points, and signs after the letter of an exponent.
 fn past_number(source: &[u8], start: usize) -> usize
     requires { start ≤ length source.now }
     ensures least { start ≤ result }
@@ -111,7 +111,7 @@ fn past_number(source: &[u8], start: usize) -> usize
     source.len()
 }
 
-/// Returns the piece at a backslash, which continues the line if only blanks stand between it and the line's end.
+/// Returns the piece at a backslash, which continues the line if only blanks are between it and the line's end.
 fn continuation(source: &[u8], at: usize) -> Piece
     requires { at < length source.now }
     ensures some { at < result.end }
@@ -196,7 +196,7 @@ fn named(source: &[u8], at: usize) -> Piece
     }
 }
 
-/// Returns whether the name may stand before a string's first quote.
+/// Returns whether the name may come before a string's first quote.
 fn is_prefix(name: &[u8]) -> bool {
     matches!(name, b"L" | b"u" | b"U" | b"u8")
 }

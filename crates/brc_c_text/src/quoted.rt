@@ -2,7 +2,7 @@
 
 ghost use Rattle.std.specs.Prelude.{◌<◌, ◌≤◌, length, IfSome};
 
-/// Returns the place behind the quote that ends the string or the character, whose first byte behind its own quote is
+/// Returns the place after the quote that ends the string or the character, whose first byte after its own quote is
 /// at `start`, or `None` if it isn't closed on its line.
 pub(crate) fn past_quoted(source: &[u8], start: usize, quote: u8) -> Option<usize>
     requires { start ≤ length source.now }
@@ -24,7 +24,7 @@ pub(crate) fn past_quoted(source: &[u8], start: usize, quote: u8) -> Option<usiz
     None
 }
 
-/// Returns the end of the comment whose first byte behind `//` is at `start`: that of its line, or of a later one if
+/// Returns the end of the comment whose first byte after `//` is at `start`: that of its line, or of a later one if
 /// the line is continued.
 pub(crate) fn past_line_comment(source: &[u8], start: usize) -> usize
     requires { start ≤ length source.now }
@@ -43,7 +43,7 @@ pub(crate) fn past_line_comment(source: &[u8], start: usize) -> usize
     source.len()
 }
 
-/// Returns the place behind the comment whose first byte behind its opening is at `start`. If nothing closes it, it
+/// Returns the place after the comment whose first byte after its opening is at `start`. If nothing closes it, it
 /// reaches to the end of the source.
 pub(crate) fn past_block_comment(source: &[u8], start: usize) -> usize
     requires { start ≤ length source.now }

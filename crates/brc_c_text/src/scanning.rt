@@ -11,7 +11,7 @@ use std::alloc::{AllocError, Global};
 /// The greatest length of a source, in bytes.
 pub const FILE_LIMIT: usize = 1048576;
 
-/// The tokens and the comments of a source, each in the order in which they stand there.
+/// The tokens and the comments of a source, each in their order.
 #[derive(Drop)]
 pub struct Scanned {
     pub tokens: Vec<Token>,
@@ -85,14 +85,14 @@ impl Scanned {
     }
 }
 
-/// Where a place stands among lines.
+/// Where a place is among lines.
 #[derive(Clone, Copy, Debug)]
 struct Lines {
     /// The number of its line, from 1. A source has fewer bytes than numbers have values, so no number is ever full.
     number: u32,
     /// Where the line begins.
     start: usize,
-    /// Whether no token stands before it, on its line or on those that it continues.
+    /// Whether no token comes before it, on its line or on those that it continues.
     is_fresh: bool,
     /// Whether the piece before it is no token.
     is_apart: bool,

@@ -16,18 +16,18 @@ pub enum TokenKind {
     Unknown,
 }
 
-/// A token: what it is, and where it stands.
+/// A token: what it is, and where it is.
 #[derive(Clone, Copy, Debug, PartialEq, Eq)]
 pub struct Token {
     pub kind: TokenKind,
     /// Whether it is the first one of its line, where continued lines are one.
     pub begins_line: bool,
-    /// Whether a blank, a comment or the end of a line stands before it.
+    /// Whether a blank, a comment or the end of a line comes before it.
     pub is_apart: bool,
     /// Its line and column, from 1. Columns count bytes.
     pub line: u32,
     pub column: u32,
-    /// Where its first byte is, and the byte behind its last one.
+    /// Where its first byte is, and the byte after its last one.
     pub start: u32,
     pub end: u32,
 }

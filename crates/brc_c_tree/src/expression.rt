@@ -1,6 +1,6 @@
 use crate::tree::{ExpressionId, List};
 use crate::type_name::TypeName;
-use brc_c_text::Word;
+use brc_c_text::Symbol;
 
 /// An operator in front of its operand.
 #[derive(Clone, Copy, Debug, PartialEq, Eq)]
@@ -39,17 +39,17 @@ pub enum Binary {
 /// An expression. It names its operands by their places in the function's tree.
 #[derive(Clone, Copy, Debug, PartialEq, Eq)]
 pub enum Expression {
-    Name(Word),
-    Number(Word),
+    Name(Symbol),
+    Number(Symbol),
     /// A character, with its quotes.
-    Character(Word),
+    Character(Symbol),
     /// A string, with its quotes.
-    Text(Word),
+    Text(Symbol),
     Unary {
         operator: Unary,
         operand: ExpressionId,
     },
-    /// `++` or `--`, before its operand or behind it.
+    /// `++` or `--`, before its operand or after it.
     Step {
         is_up: bool,
         is_before: bool,
@@ -89,7 +89,7 @@ pub enum Expression {
     },
     Field {
         object: ExpressionId,
-        name: Word,
+        name: Symbol,
         /// Whether it is read through a pointer.
         is_arrow: bool,
     },

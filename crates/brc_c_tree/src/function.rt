@@ -2,12 +2,12 @@ use crate::statement::Statement;
 use crate::stop::NotRead;
 use crate::tree::{StatementId, Tree};
 use crate::type_name::TypeName;
-use brc_c_text::{Place, Word};
+use brc_c_text::{Place, Symbol};
 
 /// A parameter of a function.
 #[derive(Clone, Copy, Debug, PartialEq, Eq)]
 pub struct Parameter {
-    pub name: Option<Word>,
+    pub name: Option<Symbol>,
     pub type_name: TypeName,
     /// Whether it is `...`.
     pub is_variadic: bool,
@@ -24,8 +24,8 @@ pub enum Body {
 /// A function that has a body.
 #[derive(Drop)]
 pub struct Function {
-    pub name: Word,
-    /// Where its name stands in its head.
+    pub name: Symbol,
+    /// Where its name is in its head.
     pub place: Place,
     /// Where its last brace is.
     pub end: Place,

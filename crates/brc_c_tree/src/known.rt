@@ -18,7 +18,7 @@ pub enum Known {
     Visit,
     TrashcanBegin,
     TrashcanEnd,
-    /// `PyObject_HEAD`, which is no statement, and does nothing where one stands.
+    /// `PyObject_HEAD`, which is no statement, and does nothing where one is.
     Head,
 }
 

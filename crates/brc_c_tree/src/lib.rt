@@ -1,4 +1,4 @@
-//! The tree of C functions, and what stands outside them: values without any rule of the grammar.
+//! The tree of C functions, and what is outside them: values without any rule of the grammar.
 #![tactic(auto)]
 
 mod expression;

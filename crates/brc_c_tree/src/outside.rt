@@ -1,14 +1,14 @@
-//! What stands outside functions.
+//! What is outside functions.
 
 use crate::function::Function;
 use crate::type_name::TypeName;
-use brc_c_text::{Place, Word};
+use brc_c_text::{Place, Symbol};
 use std::alloc::Global;
 
 /// A field of a struct or a union. Those of one inside it are fields of both.
 #[derive(Clone, Copy, Debug, PartialEq, Eq)]
 pub struct Field {
-    pub name: Word,
+    pub name: Symbol,
     pub type_name: TypeName,
 }
 
@@ -23,7 +23,7 @@ pub struct Record {
 /// A name of a record: its tag, or one that `typedef` gives it.
 #[derive(Clone, Copy, Debug, PartialEq, Eq)]
 pub struct RecordName {
-    pub name: Word,
+    pub name: Symbol,
     /// How many stars the type of this name has before the record.
     pub stars: u32,
     /// The number of its record.
@@ -33,14 +33,14 @@ pub struct RecordName {
 /// A name that `typedef` gives to another type.
 #[derive(Clone, Copy, Debug, PartialEq, Eq)]
 pub struct Alias {
-    pub name: Word,
+    pub name: Symbol,
     pub type_name: TypeName,
 }
 
 /// A function that is declared without a body.
 #[derive(Clone, Copy, Debug, PartialEq, Eq)]
 pub struct Prototype {
-    pub name: Word,
+    pub name: Symbol,
     pub result: TypeName,
     pub place: Place,
 }
@@ -48,7 +48,7 @@ pub struct Prototype {
 /// A variable outside functions.
 #[derive(Clone, Copy, Debug, PartialEq, Eq)]
 pub struct Variable {
-    pub name: Word,
+    pub name: Symbol,
     pub type_name: TypeName,
     pub place: Place,
 }

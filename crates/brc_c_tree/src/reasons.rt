@@ -1,27 +1,27 @@
 //! The words of reasons.
 
 use crate::stop::{Expected, NESTING_LIMIT, Reason, TOKEN_LIMIT};
-use brc_c_text::{Keyword, LexemeKind, Word, Words};
+use brc_c_text::{Keyword, LexemeKind, Symbol, Symbols};
 use std::alloc::{AllocError, Global};
 
 /// Returns the reason in words.
-pub fn reason_text(alloc: Global, words: &Words, reason: Reason) -> Result<String, AllocError> {
+pub fn reason_text(alloc: Global, symbols: &Symbols, reason: Reason) -> Result<String, AllocError> {
     match reason {
         Reason::Instead {
             found,
-            word,
+            symbol,
             expected,
         } => {
-            let found = found_text(alloc, words, found, word)?;
+            let found = found_text(alloc, symbols, found, symbol)?;
             let expected = expected_text(alloc, expected)?;
             format!(in alloc; "{found} is read where {expected} is expected")
         }
-        Reason::Unknown(word) => {
-            let found = String::from_utf8_lossy(alloc, words.text(word))?;
+        Reason::Unknown(symbol) => {
+            let found = String::from_utf8_lossy(alloc, symbols.text(symbol))?;
             format!(in alloc; "`{found}` is read, which begins nothing in C")
         }
-        Reason::Endless(word) => {
-            let found = String::from_utf8_lossy(alloc, words.text(word))?;
+        Reason::Endless(symbol) => {
+            let found = String::from_utf8_lossy(alloc, symbols.text(symbol))?;
             format!(in alloc; "a macro makes too much before `{found}`")
         }
         Reason::TooLong => format!(in alloc; "more than {TOKEN_LIMIT} tokens"),
@@ -43,9 +43,9 @@ fn plain_text(reason: Reason) -> &'static str {
 
 fn found_text(
     alloc: Global,
-    words: &Words,
+    symbols: &Symbols,
     found: LexemeKind,
-    word: Word,
+    symbol: Symbol,
 ) -> Result<String, AllocError> {
     match found {
         LexemeKind::End => String::from_str(alloc, "the end"),
@@ -54,7 +54,7 @@ fn found_text(
             format!(in alloc; "`{text}`")
         }
         _ => {
-            let text = String::from_utf8_lossy(alloc, words.text(word))?;
+            let text = String::from_utf8_lossy(alloc, symbols.text(symbol))?;
             format!(in alloc; "`{text}`")
         }
     }

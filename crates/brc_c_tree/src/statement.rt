@@ -1,7 +1,7 @@
 use crate::known::Known;
 use crate::tree::{ExpressionId, List, StatementId};
 use crate::type_name::TypeName;
-use brc_c_text::{Place, Word};
+use brc_c_text::{Place, Symbol};
 
 /// A statement. It names its parts by their places in the function's tree.
 #[derive(Clone, Copy, Debug, PartialEq, Eq)]
@@ -33,11 +33,11 @@ pub enum Statement {
         value: ExpressionId,
         body: StatementId,
     },
-    /// `case`. The statement behind it stands for itself.
+    /// `case`. The statement after it is one of its own.
     Case(ExpressionId),
     Default,
-    Label(Word),
-    Goto(Word),
+    Label(Symbol),
+    Goto(Symbol),
     Break,
     Continue,
     Return(Option<ExpressionId>),
@@ -51,7 +51,7 @@ pub enum Statement {
 /// A variable of a function.
 #[derive(Clone, Copy, Debug, PartialEq, Eq)]
 pub struct Declaration {
-    pub name: Word,
+    pub name: Symbol,
     /// Its type. An array's has a star for each of its dimensions.
     pub type_name: TypeName,
     /// How many dimensions it has as an array.

@@ -1,4 +1,4 @@
-use brc_c_text::{Keyword, LexemeKind, Place, Punctuator, Word};
+use brc_c_text::{Keyword, LexemeKind, Place, Punctuator, Symbol};
 
 /// The greatest number of functions that are read of a source.
 pub const FUNCTION_LIMIT: usize = 512;
@@ -22,16 +22,16 @@ pub enum Expected {
 /// Why a function isn't read.
 #[derive(Clone, Copy, Debug, PartialEq, Eq)]
 pub enum Reason {
-    /// Another lexeme stands there than the grammar has.
+    /// Another lexeme is there than the grammar has.
     Instead {
         found: LexemeKind,
-        word: Word,
+        symbol: Symbol,
         expected: Expected,
     },
     /// A byte that C doesn't have.
-    Unknown(Word),
+    Unknown(Symbol),
     /// The use of a macro that makes too many lexemes.
-    Endless(Word),
+    Endless(Symbol),
     /// `...` in place of code.
     MissingCode,
     /// `({ .. })`

@@ -38,12 +38,12 @@ impl List {
     }
 }
 
-/// The statements and expressions of a function. Each stands behind those that it names.
+/// The statements and expressions of a function. Each comes after those that it names.
 #[derive(Drop)]
 pub struct Tree {
     expressions: Vec<(Expression, Place)>,
     statements: Vec<(Statement, Place)>,
-    /// Arguments and values, those of a list side by side, ..
+    /// Arguments and values, those of one list adjacent, ..
     operands: Vec<ExpressionId>,
     /// .. the statements of blocks, ..
     bodies: Vec<StatementId>,
@@ -67,7 +67,7 @@ impl Tree {
         Some(self.expressions.get(id.0)?.0)
     }
 
-    /// Returns where an expression stands: at its operator, or at its first lexeme if it has none.
+    /// Returns where an expression is: at its operator, or at its first lexeme if it has none.
     pub fn expression_place(&self, id: ExpressionId) -> Option<Place> {
         Some(self.expressions.get(id.0)?.1)
     }
@@ -81,12 +81,12 @@ impl Tree {
         Some(self.statements.get(id.0)?.1)
     }
 
-    /// Returns all expressions, each behind its operands.
+    /// Returns all expressions, each after its operands.
     pub fn expressions(&self) -> &[(Expression, Place)] {
         self.expressions.as_slice()
     }
 
-    /// Returns all statements, each behind its parts.
+    /// Returns all statements, each after its parts.
     pub fn statements(&self) -> &[(Statement, Place)] {
         self.statements.as_slice()
     }
@@ -127,7 +127,7 @@ impl Tree {
         Ok(id)
     }
 
-    /// Adds the operands of a call or of braces, side by side.
+    /// Adds the operands of a call or of braces, adjacent to each other.
     pub fn add_operands(&mut self, all: &[ExpressionId]) -> Result<List, AllocError> {
         let start = self.operands.len();
         self.operands.extend_from_slice(all)?;
@@ -137,7 +137,7 @@ impl Tree {
         })
     }
 
-    /// Adds the statements of a block, side by side.
+    /// Adds the statements of a block, adjacent to each other.
     pub fn add_body(&mut self, all: &[StatementId]) -> Result<List, AllocError> {
         let start = self.bodies.len();
         self.bodies.extend_from_slice(all)?;
@@ -147,7 +147,7 @@ impl Tree {
         })
     }
 
-    /// Adds declarations, side by side.
+    /// Adds declarations, adjacent to each other.
     pub fn add_declarations(&mut self, all: &[Declaration]) -> Result<List, AllocError> {
         let start = self.declarations.len();
         self.declarations.extend_from_slice(all)?;

@@ -1,6 +1,6 @@
-use brc_c_text::Word;
+use brc_c_text::Symbol;
 
-/// What the word of a type is a tag of.
+/// What the symbol of a type is a tag of.
 #[derive(Clone, Copy, Debug, PartialEq, Eq)]
 pub enum Tag {
     Struct,
@@ -11,12 +11,12 @@ pub enum Tag {
 /// A type, as far as the reader asks for it.
 #[derive(Clone, Copy, Debug, PartialEq, Eq)]
 pub struct TypeName {
-    /// The last of its words that is no qualifier, or `int` if there is none.
-    pub word: Word,
+    /// The last of its symbols that is no qualifier, or `int` if there is none.
+    pub symbol: Symbol,
     pub tag: Option<Tag>,
     /// How often it is a pointer or an array.
     pub stars: u32,
-    /// Whether it is a pointer to a function, whose result the word and the other stars then name.
+    /// Whether it is a pointer to a function, whose result the symbol and the other stars then name.
     pub is_function: bool,
 }
 

@@ -1,22 +1,22 @@
-use brc_c_text::{Keyword, Lexeme, LexemeKind, Punctuator, Word};
+use brc_c_text::{Keyword, Lexeme, LexemeKind, Punctuator, Symbol};
 use brc_c_tree::TypeName;
 
 /// Returns what a function gives that a macro casts from a table: `(*(T *(*)(..))table[..])` has `T *`. `body` is the
 /// macro's.
 pub fn cast_result(body: &[Lexeme]) -> Option<TypeName> {
-    let mut word: Option<Word> = None;
+    let mut symbol: Option<Symbol> = None;
     let mut stars: u32 = 0;
     for (at, lexeme) in body.iter().enumerate() {
         match lexeme.kind {
             LexemeKind::Name => {
-                word = Some(lexeme.word);
+                symbol = Some(lexeme.symbol);
                 stars = 0;
             }
             LexemeKind::Keyword(Keyword::Const | Keyword::Struct | Keyword::Volatile) => {}
             LexemeKind::Punctuator(Punctuator::Star) => stars = stars.saturating_add(1),
             LexemeKind::Punctuator(Punctuator::LeftParen) => {
-                if let Some(word) = word {
-                    return ending(body.get(at..)?, word, stars);
+                if let Some(symbol) = symbol {
+                    return ending(body.get(at..)?, symbol, stars);
                 }
                 stars = 0;
             }
@@ -27,10 +27,10 @@ pub fn cast_result(body: &[Lexeme]) -> Option<TypeName> {
 }
 
 /// Returns the type before `(*` of a pointer to a function.
-fn ending(rest: &[Lexeme], word: Word, stars: u32) -> Option<TypeName> {
+fn ending(rest: &[Lexeme], symbol: Symbol, stars: u32) -> Option<TypeName> {
     match rest {
         [_, star, ..] if star.is(Punctuator::Star) => Some(TypeName {
-            word,
+            symbol,
             tag: None,
             stars,
             is_function: false,

@@ -1,4 +1,4 @@
-//! The types of C expressions, as far as declarations tell, and which of them are pointers to Python's objects.
+//! The types of C expressions, as far as declarations say, and which of them are pointers to Python's objects.
 #![tactic(auto)]
 
 mod casts;

@@ -1,4 +1,4 @@
-use brc_c_text::Word;
+use brc_c_text::Symbol;
 use brc_c_tree::{Body, Function, Statement, TypeName};
 use std::alloc::{AllocError, Global};
 use std::collections::HashMap;
@@ -7,7 +7,7 @@ use std::collections::HashMap;
 pub(crate) fn locals_of(
     alloc: Global,
     function: &Function,
-) -> Result<HashMap<Word, TypeName>, AllocError> {
+) -> Result<HashMap<Symbol, TypeName>, AllocError> {
     let mut locals = HashMap::new(alloc);
     for parameter in &function.parameters {
         if let Some(name) = parameter.name {
@@ -28,8 +28,8 @@ pub(crate) fn locals_of(
 }
 
 fn add(
-    locals: &mut HashMap<Word, TypeName>,
-    name: Word,
+    locals: &mut HashMap<Symbol, TypeName>,
+    name: Symbol,
     type_name: TypeName,
 ) -> Result<(), AllocError> {
     if locals.get(&name).is_none() {

@@ -1,7 +1,7 @@
 //! Which types are pointers to objects.
 
 use crate::types::{FieldKey, Named, Types};
-use brc_c_text::{Word, Words};
+use brc_c_text::{Symbol, Symbols};
 use brc_c_tree::{TypeName, names_objects};
 
 /// How many names of a type are followed.
@@ -10,17 +10,17 @@ const ALIAS_LIMIT: usize = 8;
 impl Types {
     /// Returns whether the type is that of a pointer to an object: to a struct that begins as an object does, or to one
     /// that no declaration shows and whose name ends with `Object`.
-    pub fn is_object(&self, words: &Words, type_name: TypeName) -> bool {
+    pub fn is_object(&self, symbols: &Symbols, type_name: TypeName) -> bool {
         if type_name.is_function {
             return false;
         }
-        match self.record(type_name.word) {
+        match self.record(type_name.symbol) {
             Some(named) => { named.is_object && type_name.stars.saturating_add(named.stars) == 1 }
             None => {
                 let last = self.resolved(type_name);
-                let is_pythons = words.text(last.word) == b"PyObject".as_slice()
-                    || names_objects(words.text(last.word));
-                match self.record(last.word) {
+                let is_pythons = symbols.text(last.symbol) == b"PyObject".as_slice()
+                    || names_objects(symbols.text(last.symbol));
+                match self.record(last.symbol) {
                     Some(named) => {
                         named.is_object && last.stars.saturating_add(named.stars) == 1
                     }
@@ -34,7 +34,7 @@ impl Types {
     pub(crate) fn resolved(&self, type_name: TypeName) -> TypeName {
         let mut found = type_name;
         for _turn in 0..ALIAS_LIMIT {
-            let Some(next) = self.aliases.get(&found.word) else {
+            let Some(next) = self.aliases.get(&found.symbol) else {
                 break;
             };
             // A tag's name isn't one that `typedef` gives.
@@ -50,15 +50,15 @@ impl Types {
         found
     }
 
-    fn record(&self, name: Word) -> Option<Named> {
+    fn record(&self, name: Symbol) -> Option<Named> {
         self.records.get(&name).copied()
     }
 
     /// Returns the type of a field of a struct, or of what points to the struct.
-    pub fn field(&self, of: TypeName, name: Word) -> Option<TypeName> {
-        let named = match self.record(of.word) {
+    pub fn field(&self, of: TypeName, name: Symbol) -> Option<TypeName> {
+        let named = match self.record(of.symbol) {
             Some(named) => named,
-            None => self.record(self.resolved(of).word)?,
+            None => self.record(self.resolved(of).symbol)?,
         };
         let key = FieldKey {
             record: named.record,

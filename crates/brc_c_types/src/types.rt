@@ -1,4 +1,4 @@
-use brc_c_text::Word;
+use brc_c_text::Symbol;
 use brc_c_tree::{SourceTree, TypeName};
 use std::alloc::{AllocError, Global};
 use std::collections::HashMap;
@@ -16,17 +16,17 @@ pub(crate) struct Named {
 #[derive(Clone, Copy, Debug, PartialEq, Eq, Hash)]
 pub(crate) struct FieldKey {
     pub(crate) record: usize,
-    pub(crate) name: Word,
+    pub(crate) name: Symbol,
 }
 
 /// What a source and its headers declare outside functions. Of two declarations of a name the first one holds.
 #[derive(Drop)]
 pub struct Types {
-    pub(crate) records: HashMap<Word, Named>,
+    pub(crate) records: HashMap<Symbol, Named>,
     pub(crate) fields: HashMap<FieldKey, TypeName>,
-    pub(crate) aliases: HashMap<Word, TypeName>,
-    results: HashMap<Word, TypeName>,
-    variables: HashMap<Word, TypeName>,
+    pub(crate) aliases: HashMap<Symbol, TypeName>,
+    results: HashMap<Symbol, TypeName>,
+    variables: HashMap<Symbol, TypeName>,
 }
 
 impl Types {
@@ -87,25 +87,25 @@ impl Types {
     }
 
     /// Says what a function gives that isn't declared, as one that a macro takes from a table.
-    pub fn add_result(&mut self, name: Word, given: TypeName) -> Result<(), AllocError> {
+    pub fn add_result(&mut self, name: Symbol, given: TypeName) -> Result<(), AllocError> {
         add(&mut self.results, name, given)
     }
 
     /// Returns what a function of the source gives.
-    pub fn result_of(&self, function: Word) -> Option<TypeName> {
+    pub fn result_of(&self, function: Symbol) -> Option<TypeName> {
         self.results.get(&function).copied()
     }
 
     /// Returns the type of a variable outside functions.
-    pub fn variable(&self, name: Word) -> Option<TypeName> {
+    pub fn variable(&self, name: Symbol) -> Option<TypeName> {
         self.variables.get(&name).copied()
     }
 }
 
 /// Adds a type, unless the name has one.
 fn add(
-    types: &mut HashMap<Word, TypeName>,
-    name: Word,
+    types: &mut HashMap<Symbol, TypeName>,
+    name: Symbol,
     type_name: TypeName,
 ) -> Result<(), AllocError> {
     if types.get(&name).is_none() {

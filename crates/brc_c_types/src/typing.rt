@@ -1,6 +1,6 @@
 use crate::locals::locals_of;
 use crate::types::Types;
-use brc_c_text::Word;
+use brc_c_text::Symbol;
 use brc_c_tree::{Binary, Body, Expression, ExpressionId, Function, Tree, TypeName, Unary};
 use std::alloc::{AllocError, Global};
 use std::collections::HashMap;
@@ -9,7 +9,7 @@ use std::collections::HashMap;
 #[derive(Drop)]
 struct Typing<'a> {
     types: &'a Types,
-    locals: HashMap<Word, TypeName>,
+    locals: HashMap<Symbol, TypeName>,
     /// Those of the expressions so far.
     found: Vec<Option<TypeName>>,
 }
@@ -26,7 +26,7 @@ pub fn types_of(
         found: Vec::new(alloc),
     };
     if let Body::Read(tree, _) = &function.body {
-        // Each expression stands behind its operands.
+        // Each expression comes after its operands.
         for (expression, _) in tree.expressions() {
             let found = typing.type_of(tree, expression);
             typing.found.push(found)?;

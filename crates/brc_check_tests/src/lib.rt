@@ -22,6 +22,8 @@ mod states;
 #[cfg(test)]
 mod steps;
 #[cfg(test)]
+mod table_rows;
+#[cfg(test)]
 mod tables;
 #[cfg(test)]
 mod words;

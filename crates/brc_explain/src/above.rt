@@ -55,10 +55,7 @@ pub fn find_line(text: &[u8], number: u64) -> Situation<'_> {
         before = Some(line);
         rest = below;
     }
-    let (line, is_ended) = match split_line(rest) {
-        Some((line, _)) => (line, true),
-        None => (rest, false),
-    };
+    let (line, is_ended) = first_line(rest);
     Situation {
         version: version_of(text),
         line,
@@ -70,6 +67,14 @@ pub fn find_line(text: &[u8], number: u64) -> Situation<'_> {
         statics,
         body,
         body_line,
+    }
+}
+
+/// Returns the text's first line, and whether a line feed ends it.
+fn first_line(text: &[u8]) -> (&[u8], bool) {
+    match split_line(text) {
+        Some((line, _)) => (line, true),
+        None => (text, false),
     }
 }
 

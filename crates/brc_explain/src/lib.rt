@@ -5,10 +5,12 @@
 mod above;
 mod accepted;
 mod called;
+mod empty;
 mod fault;
 mod forms;
 mod line_fault;
 mod listing;
+mod missing;
 mod operand_roles;
 mod path_text;
 mod refused;

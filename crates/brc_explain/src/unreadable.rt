@@ -1,10 +1,11 @@
 //! The explanation of a text that can't be read.
 
-use crate::above::{Heading, Situation, count_instructions, find_line, heading_of, wrong_target};
+use crate::above::{Situation, count_instructions, find_line, heading_of, wrong_target};
 use crate::forms::{Form, Operand, hint_for};
-use crate::line_fault::{CALL_WORDS, LineFault, Wanted, heading_fault, instruction_fault};
+use crate::line_fault::{LineFault, Wanted, heading_fault, instruction_fault};
+use crate::missing::{write_callee, write_static_list};
 use crate::visible::{Span, behind, part, whole, write_marked_line, write_plain_line};
-use crate::words::{word_at, word_count};
+use crate::words::word_at;
 use brc_lang::{FaultCode, ReadFault, Version, is_word, write_bytes, write_number, write_pieces};
 use brc_pages::{Topic, page_of, write_in};
 use brc_report::{Paint, Role};
@@ -47,7 +48,7 @@ pub fn explain_unreadable<W: Write>(
 }
 
 /// Writes the line above, if there is one, and then the line with a mark under the part.
-fn write_line<W: Write>(
+pub fn write_line<W: Write>(
     found: &Situation<'_>,
     number: u64,
     marked: Span,
@@ -62,9 +63,21 @@ fn write_line<W: Write>(
 }
 
 fn write_first_line<W: Write>(found: &Situation<'_>, paint: Paint, out: &mut W) -> io::Result<()> {
+    let (marked, wrong) = first_line_fault(found);
+    write_line(found, 1, marked, paint, out)?;
+    write_pieces(&[wrong.as_bytes(), b"\n"], out)?;
+    write_bytes(
+        b"Expected: the line `module 1`, `module 2` or `module 3`. The functions follow\n\
+        below it.\n",
+        out,
+    )
+}
+
+/// Returns the part of the first line that is at fault, and what is wrong about it.
+fn first_line_fault(found: &Situation<'_>) -> (Span, &'static str) {
     let line = found.line;
     let first = word_at(line, 0).unwrap_or(whole(line));
-    let (marked, wrong): (Span, &str) = if !found.is_there {
+    if !found.is_there {
         (whole(line), "The text is empty.")
     } else if is_word(line, b"module 1")
         || is_word(line, b"module 2")
@@ -97,14 +110,7 @@ fn write_first_line<W: Write>(found: &Situation<'_>, paint: Paint, out: &mut W) 
         )
     } else {
         (whole(line), "The first line is another.")
-    };
-    write_line(found, 1, marked, paint, out)?;
-    write_pieces(&[wrong.as_bytes(), b"\n"], out)?;
-    write_bytes(
-        b"Expected: the line `module 1`, `module 2` or `module 3`. The functions follow\n\
-        below it.\n",
-        out,
-    )
+    }
 }
 
 fn write_words<W: Write>(
@@ -192,7 +198,8 @@ fn write_operand<W: Write>(operand: Operand, out: &mut W) -> io::Result<()> {
     write_pieces(&[b"Expected: ", wanted.as_bytes(), b".\n"], out)
 }
 
-fn write_range<W: Write>(low: u32, high: u32, out: &mut W) -> io::Result<()> {
+/// Writes which numbers are expected, from the least to the greatest.
+pub fn write_range<W: Write>(low: u32, high: u32, out: &mut W) -> io::Result<()> {
     write_bytes(b"Expected: a number from ", out)?;
     write_number(u64::from(low), out)?;
     write_bytes(b" to ", out)?;
@@ -348,69 +355,3 @@ fn write_cut_off<W: Write>(
     };
     write_bytes(wrong, out)
 }
-
-fn write_callee<W: Write>(
-    text: &[u8],
-    found: &Situation<'_>,
-    number: u64,
-    paint: Paint,
-    out: &mut W,
-) -> io::Result<()> {
-    let name = word_at(found.line, 2).unwrap_or(whole(found.line));
-    write_line(found, number, name, paint, out)?;
-    // The function that the line is in is open, and its own heading is the line above its body.
-    let own = found.body_line.saturating_sub(1);
-    match heading_of(text, part(found.line, name)) {
-        Some(heading) if heading.number < own => write_arguments(&heading, found.line, out),
-        _ => write_bytes(
-            b"No function above this one has this name.\n\
-            Expected: the name of a function above. A function calls neither itself nor\n\
-            one below it.\n",
-            out,
-        ),
-    }
-}
-
-fn write_static_list<W: Write>(
-    found: &Situation<'_>,
-    number: u64,
-    paint: Paint,
-    out: &mut W,
-) -> io::Result<()> {
-    let list = word_at(found.line, 2).unwrap_or(whole(found.line));
-    write_line(found, number, list, paint, out)?;
-    if found.statics == 0 {
-        return write_bytes(
-            b"The module has no static list.\n\
-            Expected: a `static` line above all functions, and its number, counted from 0.\n",
-            out,
-        );
-    }
-    write_bytes(b"The module has ", out)?;
-    write_counted(u64::from(found.statics), "static list", out)?;
-    write_bytes(b", counted from 0.\n", out)?;
-    write_range(0, found.statics.saturating_sub(1), out)
-}
-
-/// Writes that the call has an argument too many or too few for the function.
-fn write_arguments<W: Write>(heading: &Heading<'_>, call: &[u8], out: &mut W) -> io::Result<()> {
-    let arguments = word_count(call).saturating_sub(CALL_WORDS);
-    let parameters = word_count(heading.line).saturating_sub(HEADING_WORDS) / 2;
-    write_bytes(b"The function of line ", out)?;
-    write_number(heading.number, out)?;
-    write_bytes(b" has ", out)?;
-    write_counted(parameters as u64, "parameter", out)?;
-    write_bytes(b", and the call has ", out)?;
-    write_counted(arguments as u64, "argument", out)?;
-    write_bytes(b".\nExpected: one argument for each parameter.\n", out)
-}
-
-/// Writes the number and the noun, which ends in s but for one.
-fn write_counted<W: Write>(number: u64, noun: &str, out: &mut W) -> io::Result<()> {
-    let ending: &[u8] = if number == 1 { b"" } else { b"s" };
-    write_number(number, out)?;
-    write_pieces(&[b" ", noun.as_bytes(), ending], out)
-}
-
-/// The words of a line that opens a function without parameters: `func` and the name.
-const HEADING_WORDS: usize = 2;

@@ -20,93 +20,105 @@ use Rattle.brc_work.specs.Performs.{DispatchesAt, IsBefore}
 use Rattle.brc_work.specs.Stopping.{GivesUpTo, OuterGiveUp}
 use Rattle.brc_work.specs.Traces.{Program, function_under, MakesTrace, MakesCalls}
 
--- ---- one call, whichever function makes it
+-- ---- where a call begins, and where a hand stops
 
--- The thread is about to run a call of the function of this number, in this context and with these variables. If its
--- hand may begin no instruction, it is inside the call.
-pub record IsAboutTo (program : Program) (number : ℕ) (place : Place) (context : Context) (rows : List (Option ℕ))
-    (may : ℕ) : Type 0 where
-  pub comes : DispatchesAt program place context 0 rows
-  pub calls : number_under program.first context.outer ≡ number
-  pub turns : context.turns ≡ replicate 256 0
-  pub inside : may ≡ 0 → place ≡ InCall context 0 rows
-
--- The call that began at the place, in the context, has come to the instruction, which ends it: the next one to begin.
-pub record ComesTo (i : Instr) (program : Program) (place : Place) (context : Context) (begun : ℕ)
-    (calls : List HostCall) (v : View) (variables : List (Option ℕ)) (u : View) : Type 0 where
-  pub there : Place
-  pub turns : List ℕ
-  pub at : ℕ
-  pub comes : IsBefore i program there (record { left = context.left; turns = turns; outer = context.outer }) at
-      variables
-  pub makes : MakesTrace begun calls program place v there u
-
--- In the call, or in one that it has made, the hand has stopped before an instruction, after it has begun this many. It
--- has done what its thread does that stops there: it has unlocked what is locked in the state in which paths reach the
--- point, and has given up just what the variables own in that state, and what the calls own between that one and this
--- one, this one's too, the innermost first. It hasn't settled yet.
-pub record StopsWithin (program : Program) (place : Place) (context : Context) (begun : ℕ) (calls : List HostCall)
-    (v u : View) : Type 0 where
-  -- the innermost call
-  pub inner : Context
-  pub at : ℕ
+-- A thread in a call: its place, the call's context and variables, and how many instructions its hand may begin from
+-- here on.
+pub record Configuration : Type 0 where
+  pub place : Place
+  pub context : Context
   pub variables : List (Option ℕ)
-  pub state : State
-  pub reaches : Reaches (function_under program inner.outer) at state
-  -- the hand there
-  pub there : View
-  pub comes : MakesTrace begun calls program place v (InCall inner at variables) there
-  -- what the calls between give up, and this one
-  pub between : List (List (Option ℕ))
-  pub outer : (further : List (List (Option ℕ))) → OuterGiveUp program context.outer further
-      → OuterGiveUp program inner.outer (between ++ further)
-  pub gives_up : (further : List (List (Option ℕ))) → GivesUpTo program
-      (stopping (row_locked state.locked variables) (owned_rows state.slots variables ∷ (between ++ further))) there
-      further u
+  pub may : ℕ
 
--- The hand's thread has run the call up to its end, by a hand that may begin `may` instructions, and `left` after the
--- call, with the one that ends it begun too.
-abbrev pub RunsTo : Program → Place → Context → ℕ → ℕ → End → List HostCall → View → View → Type 0
-RunsTo program place context may left (Returned row) calls v u =
-    (begun from : ℕ) × (variables : List (Option ℕ)) × (begun + 1 + left ≡ may) × (row_of variables from ≡ Some row)
-    × ComesTo (Ret from) program place context begun calls v variables u
-RunsTo program place context may left Failed calls v u =
-    (begun : ℕ) × (variables : List (Option ℕ)) × (begun + 1 + left ≡ may)
-    × ComesTo Fail program place context begun calls v variables u
-RunsTo program place context may left Stopped calls v u = StopsWithin program place context may calls v u
+-- The thread is about to run a call of the function of this number. If its hand may begin no instruction, it is inside
+-- the call.
+pub record IsAboutTo (program : Program) (number : ℕ) (c : Configuration) : Type 0 where
+  pub comes : DispatchesAt program c.place c.context 0 c.variables
+  pub calls : number_under program.first c.context.outer ≡ number
+  pub turns : c.context.turns ≡ replicate 256 0
+  pub inside : c.may ≡ 0 → c.place ≡ InCall c.context 0 c.variables
 
--- The hand has run a call of the function of this number that begins with these variables, wherever its thread makes
--- it.
-abbrev pub Runs : List Function → ℕ → List (Option ℕ) → ℕ → ℕ → End → List HostCall → View → View → Type 0
-Runs functions number rows may left end calls v u = (first : ℕ) (place : Place) (context : Context)
-    → IsAboutTo (record { functions = functions; first = first }) number place context rows may
-    → RunsTo (record { functions = functions; first = first }) place context may left end calls v u
-
--- ---- an outermost call
-
--- The hand has begun a call of the program's function, and has stopped in it before an instruction, after it has begun
--- this many. It has done what its thread does that stops there: it has unlocked what is locked in the state in which
--- paths reach the point, has given up just what the variables own in that state and what the calls around own, has
--- settled, and is at the end of its calls.
-pub record StopsInCall (program : Program) (begun : ℕ) (calls : List HostCall) (v u : View) : Type 0 where
-  pub some : 0 < begun
-  -- the innermost call
+-- A point at which a hand stops: before an instruction of the innermost call, in a state in which paths reach it.
+pub record StopPoint (program : Program) : Type 0 where
   pub context : Context
   pub at : ℕ
   pub variables : List (Option ℕ)
   pub state : State
   pub reaches : Reaches (function_under program context.outer) at state
-  -- what the calls around it give up
+
+-- the place of a thread that is there
+abbrev pub place_of : {program : Program} → StopPoint program → Place
+place_of point = InCall point.context point.at point.variables
+
+-- The place of a thread that has stopped there. It unlocks what is locked in that state, and gives up what the
+-- variables own in it; then what these calls own, the innermost first.
+abbrev pub stopping_at : {program : Program} → StopPoint program → List (List (Option ℕ)) → Place
+stopping_at point outer =
+    stopping (row_locked point.state.locked point.variables) (owned_rows point.state.slots point.variables ∷ outer)
+
+-- ---- one call, whichever function makes it
+
+-- The call that began in the configuration has come to the instruction, which ends it: the next one to begin.
+pub record ComesTo (i : Instr) (program : Program) (c : Configuration) (begun : ℕ) (calls : List HostCall) (v : View)
+    (variables : List (Option ℕ)) (u : View) : Type 0 where
+  pub there : Place
+  pub turns : List ℕ
+  pub at : ℕ
+  pub comes : IsBefore i program there
+      (record { left = c.context.left; turns = turns; outer = c.context.outer }) at variables
+  pub makes : MakesTrace begun calls program c.place v there u
+
+-- In the call that began in the configuration, or in one that it has made, the hand has begun as many instructions as
+-- it might, and has stopped. It has given up what the innermost call owns, and what each call around that one owns, out
+-- to this one. What the calls further out own is left, whatever that is, and the hand hasn't settled.
+pub record StopsWithin (program : Program) (c : Configuration) (calls : List HostCall) (v u : View) : Type 0 where
+  pub point : StopPoint program
+  -- the hand there
+  pub there : View
+  pub comes : MakesTrace c.may calls program c.place v (place_of point) there
+  -- what the calls own that are open around the innermost, out to this one
+  pub between : List (List (Option ℕ))
+  pub owes : (further : List (List (Option ℕ))) → OuterGiveUp program c.context.outer further
+      → OuterGiveUp program point.context.outer (between ++ further)
+  pub gives_up : (further : List (List (Option ℕ))) → GivesUpTo program (stopping_at point (between ++ further)) there
+      further u
+
+-- The hand's thread has run the call up to its end, and its hand may begin `left` instructions after it. The one that
+-- ends the call has begun too.
+abbrev pub RunsTo : Program → Configuration → ℕ → End → List HostCall → View → View → Type 0
+RunsTo program c left (Returned row) calls v u =
+    (begun from : ℕ) × (variables : List (Option ℕ)) × (begun + 1 + left ≡ c.may)
+    × (row_of variables from ≡ Some row) × ComesTo (Ret from) program c begun calls v variables u
+RunsTo program c left Failed calls v u =
+    (begun : ℕ) × (variables : List (Option ℕ)) × (begun + 1 + left ≡ c.may)
+    × ComesTo Fail program c begun calls v variables u
+RunsTo program c left Stopped calls v u = StopsWithin program c calls v u
+
+-- The hand has run a call of the function of this number that begins with these variables, and in which it might begin
+-- `may` instructions, wherever its thread makes it.
+abbrev pub Runs : List Function → ℕ → List (Option ℕ) → ℕ → ℕ → End → List HostCall → View → View → Type 0
+Runs functions number rows may left end calls v u = (first : ℕ) (place : Place) (context : Context)
+    → let program : Program = record { functions = functions; first = first } in
+    let c : Configuration = record { place = place; context = context; variables = rows; may = may } in
+    IsAboutTo program number c → RunsTo program c left end calls v u
+
+-- ---- an outermost call
+
+-- The hand has begun a call of the program's function, and has stopped in it after it has begun this many instructions.
+-- It has done all that its thread does that stops there, has settled, and is at the end of its calls.
+pub record StopsInCall (program : Program) (begun : ℕ) (calls : List HostCall) (v u : View) : Type 0 where
+  pub some : 0 < begun
+  pub point : StopPoint program
+  -- what the calls own that are open around the innermost
   pub further : List (List (Option ℕ))
-  pub outer : OuterGiveUp program context.outer further
+  pub owes : OuterGiveUp program point.context.outer further
   -- the hand there
   pub there : View
   pub before : List HostCall
   pub closes : List HostCall
   pub calls_are : calls ≡ before ++ closes
-  pub comes : MakesTrace begun before program (Idle 1) v (InCall context at variables) there
-  pub gives_up : MakesTrace 0 closes program
-      (stopping (row_locked state.locked variables) (owned_rows state.slots variables ∷ further)) there (Idle 0) u
+  pub comes : MakesTrace begun before program (Idle 1) v (place_of point) there
+  pub gives_up : MakesTrace 0 closes program (stopping_at point further) there (Idle 0) u
 
 -- A call by a hand that may begin `may` instructions, and `left` after the call. It has ended, or the hand has stopped
 -- in it.

@@ -96,8 +96,12 @@ fn all_leave<R: Threads + Wait + Sync>(
     ensures table { OnSome result (IsOf heap.now main.new) }
     ensures thread { OnSome result (main.new.view.thread ≡ 0) }
 {
-    let one = worker_hand(heap, main, WORKER).ok()?;
-    let two = worker_hand(heap, main, 2).ok()?;
+    let Ok(one) = worker_hand(heap, main, WORKER) else {
+        return None;
+    };
+    let Ok(two) = worker_hand(heap, main, 2) else {
+        return None;
+    };
     let done = both_work(rt, heap, checked, steps, one, two);
     let mut host = FakeHost::new(&[]);
     leaves(rt, heap, main, &mut host);

@@ -9,7 +9,7 @@ use Rattle.brc_lang.specs.declared.module.Instr.{Instr}
 use Rattle.brc_lang.specs.declared.module.Instr.TheVariants as instructions
 use Rattle.brc_lang.specs.declared.parameter.Argument.{Argument}
 use Rattle.brc_model.specs.Actions.{first_context, argument_rows, passed_variables, kept_rows, callee_context}
-use Rattle.brc_model.specs.Stops.{row_locked, owned_rows, stopping}
+use Rattle.brc_model.specs.Stops.{owned_rows}
 use Rattle.brc_model.specs.Tables.{Reaches}
 use Rattle.brc_model.specs.Threads.{function_at, row_of, entry_variables}
 use Rattle.brc_model.specs.SlotStates.{target, after}
@@ -25,7 +25,7 @@ use Rattle.brc_free.specs.Works.{HasWorked, to_settle}
 use Rattle.brc_work.specs.declared.end.End.{End}
 use Rattle.brc_work.specs.declared.end.End.TheVariants.{Returned, Failed, Stopped}
 use Rattle.brc_work.specs.Performs.{DispatchesAt, IsBefore, PerformsAt, StepsTo, MakesRelease, place_after}
-use Rattle.brc_work.specs.Runs.{IsAboutTo, ComesTo, Runs, CallsOnce}
+use Rattle.brc_work.specs.Runs.{Configuration, IsAboutTo, place_of, stopping_at, ComesTo, Runs, CallsOnce}
 use Rattle.brc_work.specs.Stopping.{GivesUpTo, MakesStop, MakesReleases, OuterGiveUp, NoOuter, OneOuter}
 use Rattle.brc_work.specs.Traces.{Program, MakesTrace}
 use Rattle.brc_work.proofs.Traces.Joining.{no_trace, calls_then}
@@ -59,13 +59,17 @@ pub record HasCome (program : Program) (start : Place) (context : Context) (begu
 abbrev pub called_in : List Function → ℕ → Program
 called_in functions first = record { functions = functions; first = first }
 
+-- where a call begins
+abbrev pub from_there : Place → Context → List (Option ℕ) → ℕ → Configuration
+from_there place context rows may = record { place = place; context = context; variables = rows; may = may }
+
 -- Wherever a thread makes the call of the function of this number, it has come to the point, and its hand may begin
 -- `left` instructions more of those that it might begin in the call.
 abbrev pub Comes : List Function → ℕ → List (Option ℕ) → ℕ → ℕ → List HostCall → View → ℕ → List ℕ
     → List (Option ℕ) → View → Type 0
 Comes functions number entry may left cs v at turns rows u =
     (first : ℕ) (start : Place) (context : Context) → IsAboutTo
-    (called_in functions first) number start context entry may
+    (called_in functions first) number (from_there start context entry may)
     → (begun : ℕ) × (begun + left ≡ may)
     × HasCome (called_in functions first) start context begun left cs v at turns rows u
 
@@ -115,23 +119,25 @@ module _ (functions : List Function) (number : ℕ) (entry : List (Option ℕ)) 
       let here = come first start context about in
       let inner = with_turns context turns in
       record {
-        inner = inner;
-        at = at;
-        variables = rows;
-        state = state;
-        reaches = subst (λ (n : ℕ). Reaches (function_at functions n) at state) (sym about.calls) reaches;
+        point = record {
+          context = inner;
+          at = at;
+          variables = rows;
+          state = state;
+          reaches = subst (λ (n : ℕ). Reaches (function_at functions n) at state) (sym about.calls) reaches;
+        };
         there = u;
         comes = as_many program start (InCall inner at rows) v u (omega (arith, here.1, none))
             (subst (λ (p : Place). MakesTrace here.0 cs program start v p u) (here.2.inside none) here.2.makes);
         between = [];
-        outer = λ further gives. gives;
+        owes = λ further gives. gives;
         gives_up = λ further. stops program further;
       }
 
   module _ (i : Instr) (found : slice_get (function_at functions number).code at ≡ Some i)
       (low : at < instruction_limit) where
     before : (first : ℕ) (start : Place) (context : Context)
-        (about : IsAboutTo (called_in functions first) number start context entry may)
+        (about : IsAboutTo (called_in functions first) number (from_there start context entry may))
         → IsBefore i (called_in functions first) (come first start context about).2.place (with_turns context turns) at
         rows
     before first start context about = record {
@@ -141,8 +147,9 @@ module _ (functions : List Function) (number : ℕ) (entry : List (Option ℕ)) 
     }
 
     ends_by : (first : ℕ) (start : Place) (context : Context)
-        (about : IsAboutTo (called_in functions first) number start context entry may)
-        → ComesTo i (called_in functions first) start context (come first start context about).0 cs v rows u
+        (about : IsAboutTo (called_in functions first) number (from_there start context entry may))
+        → ComesTo i (called_in functions first) (from_there start context entry may) (come first start context about).0
+        cs v rows u
     ends_by first start context about = record {
       there = (come first start context about).2.place;
       turns = turns;
@@ -237,7 +244,7 @@ module _ (functions : List Function) (number : ℕ) (entry : List (Option ℕ)) 
   entered context = InCall (inner context) 0 (passed_variables rows arguments)
 
   enters : (first : ℕ) (start : Place) (context : Context)
-      (about : IsAboutTo (called_in functions first) number start context entry may)
+      (about : IsAboutTo (called_in functions first) number (from_there start context entry may))
       → MakesTrace ((come first start context about).0 + 1) cs (called_in functions first) start v (entered context) u
   enters first start context about =
       let program = called_in functions first in
@@ -246,8 +253,8 @@ module _ (functions : List Function) (number : ℕ) (entry : List (Option ℕ)) 
       (makes_call to callee arguments otherwise rows u named program here.2.place (with_turns context turns) at
       (before functions number entry may left cs v at turns rows u come i found low first start context about))
 
-  about_inner : (first : ℕ) (context : Context) → IsAboutTo (called_in functions first) callee (entered context)
-      (inner context) (passed_variables rows arguments) (left - 1)
+  about_inner : (first : ℕ) (context : Context) → IsAboutTo (called_in functions first) callee
+      (from_there (entered context) (inner context) (passed_variables rows arguments) (left - 1))
   about_inner first context = record {
     comes = record { does = λ layout t used. refl; names = refl; begins = refl; begun = refl };
     calls = refl;
@@ -313,31 +320,25 @@ module _ (functions : List Function) (number : ℕ) (entry : List (Option ℕ)) 
         let here = come first start context about in
         let within = runs first (entered context) (inner context) (about_inner first context) in
         let own = owned_rows (after i Fault s).slots kept in
-        let last = InCall within.inner within.at within.variables in
         record {
-          inner = within.inner;
-          at = within.at;
-          variables = within.variables;
-          state = within.state;
-          reaches = within.reaches;
+          point = within.point;
           there = within.there;
-          comes = as_many program start last v within.there (one_less here.0 left may here.1 some)
-              (calls_then cs ds program start (entered context) last [] [] [] v u within.there
+          comes = as_many program start (place_of within.point) v within.there (one_less here.0 left may here.1 some)
+              (calls_then cs ds program start (entered context) (place_of within.point) [] [] [] v u within.there
               (enters first start context about) within.comes);
           between = within.between ++ own ∷ [];
-          outer = λ further gives.
-              subst (OuterGiveUp program within.inner.outer) (sym (append_assoc within.between (own ∷ []) further))
-              (within.outer (own ∷ further) (OneOuter waits context.outer further i s
+          owes = λ further gives.
+              subst (OuterGiveUp program within.point.context.outer)
+              (sym (append_assoc within.between (own ∷ []) further))
+              (within.owes (own ∷ further) (OneOuter waits context.outer further i s
               (ap (λ (n : ℕ). slice_get (function_at functions n).code at) about.calls ∙ found)
               (subst (λ (n : ℕ). Reaches (function_at functions n) at s) (sym about.calls) reaches) gives));
           gives_up = λ further.
               subst (λ (calls : List (List (Option ℕ))).
-              GivesUpTo program (stopping (row_locked within.state.locked within.variables)
-              (owned_rows within.state.slots within.variables ∷ calls)) within.there further x)
+              GivesUpTo program (stopping_at within.point calls) within.there further x)
               (sym (append_assoc within.between (own ∷ []) further))
-              (releases program (stopping (row_locked within.state.locked within.variables)
-              (owned_rows within.state.slots within.variables ∷ (within.between ++ (own ∷ further)))) within.there
-              further (within.gives_up (own ∷ further)));
+              (releases program (stopping_at within.point (within.between ++ (own ∷ further))) within.there further
+              (within.gives_up (own ∷ further)));
         }
 
 -- ---- an outermost call
@@ -346,7 +347,7 @@ module _ (functions : List Function) (number may left : ℕ) (some : 0 < may) (c
   abbrev its : Program
   its = called_in functions number
 
-  about_outermost : IsAboutTo its number (Idle 1) (first_context 0) entry_variables may
+  about_outermost : IsAboutTo its number (from_there (Idle 1) (first_context 0) entry_variables may)
   about_outermost = record {
     comes = record { does = λ layout t used. refl; names = refl; begins = refl; begun = refl };
     calls = refl;
@@ -386,19 +387,14 @@ module _ (functions : List Function) (number may left : ℕ) (some : 0 < may) (c
       let further = within.between ++ [] in
       record {
         some = some;
-        context = within.inner;
-        at = within.at;
-        variables = within.variables;
-        state = within.state;
-        reaches = within.reaches;
+        point = within.point;
         further = further;
-        outer = within.outer [] NoOuter;
+        owes = within.owes [] NoOuter;
         there = within.there;
         before = cs;
         closes = ds;
         calls_are = refl;
         comes = within.comes;
-        gives_up = stops_last its (stopping (row_locked within.state.locked within.variables)
-            (owned_rows within.state.slots within.variables ∷ further)) within.there ds u w (within.gives_up []) none
+        gives_up = stops_last its (stopping_at within.point further) within.there ds u w (within.gives_up []) none
             settled empty;
       }

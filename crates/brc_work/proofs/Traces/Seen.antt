@@ -15,7 +15,7 @@ use Rattle.brc_table.specs.declared.view.View.{View}
 use Rattle.brc_work.specs.declared.end.End.{End}
 use Rattle.brc_work.specs.declared.end.End.TheVariants.{Returned, Failed, Stopped}
 use Rattle.brc_work.specs.Acts.{KnowsMore}
-use Rattle.brc_work.specs.Runs.{IsAboutTo, RunsTo, Runs}
+use Rattle.brc_work.specs.Runs.{Configuration, IsAboutTo, RunsTo, Runs}
 use Rattle.brc_work.specs.Traces.{Program, Traces}
 
 pub traces_know : {n : ℕ} {cs : List HostCall} {program : Program} {p q : Place} {ds es : List Duty} {v u : View}
@@ -46,7 +46,10 @@ module _ (functions : List Function) (number : ℕ) (rows : List (Option ℕ)) (
   abbrev place : Place
   place = InCall context 0 rows
 
-  about : IsAboutTo its number place context rows may
+  abbrev inside : Configuration
+  inside = record { place = place; context = context; variables = rows; may = may }
+
+  about : IsAboutTo its number inside
   about = record {
     comes = record { does = λ layout t used. refl; names = refl; begins = refl; begun = refl };
     calls = refl;
@@ -54,7 +57,7 @@ module _ (functions : List Function) (number : ℕ) (rows : List (Option ℕ)) (
     inside = λ none. refl;
   }
 
-  ran : (end : End) → RunsTo its place context may left end cs v u → KnowsMore v u
+  ran : (end : End) → RunsTo its inside left end cs v u → KnowsMore v u
   ran (Returned row) (begun, from, variables, all, names, comes) = traces_know comes.makes
   ran Failed (begun, variables, all, comes) = traces_know comes.makes
   ran Stopped within =
