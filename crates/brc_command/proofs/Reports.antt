@@ -25,7 +25,7 @@ told_more trace old mid new before here = record {
   written = both_written old mid new before.lines here.lines before.written here.written;
 }
 
--- the report behind the lines
+-- the report after the lines
 with_report : (trace : Bool) (first last : StepMachine) (events : List (ℕ × Choice)) (old mid new : Option (List ℕ))
     → AreMade first events last → AreTold trace old mid → Appends mid new (tally_text (machine_tally last))
     → EndsWithReport trace old new first events

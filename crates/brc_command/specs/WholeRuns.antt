@@ -171,7 +171,7 @@ pub record SaysStep (stops_at : ℕ → Type 0) (err_old err_new : Option (List 
 abbrev pub FilesStopAt : (List ℕ → List ℕ → Type 0) → List ℕ → List ℕ → ℕ → Type 0
 FilesStopAt gives file schedule number = OfFiles gives file schedule (StopsAt number)
 
--- Standard error says why not all steps are made: the reason, or the step at which the run stops.
+-- Standard error has the reason, or it names the step at which the run stops.
 abbrev pub SaysWhy : (List ℕ → List ℕ → Type 0) → (List ℕ → Type 0) → List ℕ → List ℕ → Option (List ℕ)
     → Option (List ℕ) → Type 0
 SaysWhy gives lacks file schedule err_old err_new =

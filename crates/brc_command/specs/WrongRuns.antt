@@ -150,9 +150,9 @@ FilesEnd gives file schedule trace old new = IsEnding (FilesReported gives file 
 -- Where `explain --schedule` ends with status 1, a run that goes wrong is shown or that none is found, and with 0 the
 -- module is accepted.
 --
--- Where `step --unchecked` ends with status 0, all steps are made, none is wrong, the report is written, and nothing on
--- standard error. With 1 the run goes wrong. With 2 standard error says why not all steps are made, and with 3 that
--- memory was refused.
+-- Where `step --unchecked` ends with status 0, all steps are made, none of them is wrong, the report is written, and
+-- standard error is as it was. With 1 the run goes wrong. With 2 standard error has the reason, or it names the step at
+-- which the run stops. With 3 it says that memory was refused.
 abbrev pub EndsUnchecked : (List ℕ → List ℕ → Type 0) → (List ℕ → Type 0) → Unchecked → Option (List ℕ)
     → Option (List ℕ) → Option (List ℕ) → Option (List ℕ) → ℕ → Type 0
 EndsUnchecked gives lacks (Explain file bounds) old new err_old err_new status =
