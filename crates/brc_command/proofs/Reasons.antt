@@ -15,7 +15,7 @@ use Rattle.brc_command.specs.Endings.{ending_status, ending_text}
 use Rattle.brc_command.specs.Lines.{fault_text, stop_status, stop_text}
 use Rattle.brc_command.specs.Loading.{ReadsAsModule, ReadsAsSchedule}
 use Rattle.brc_command.specs.Texts.{IsCallFault, IsListFault, IsPlanFault, IsTextFault}
-use Rattle.brc_command.specs.WholeRuns.{FilesReported, FilesStopAt, HaveFault, IsReplayFault, IsReplayReason, SaysWhy}
+use Rattle.brc_command.specs.WholeRuns.{FilesReported, HaveFault, IsReplayFault, IsReplayReason, SaysWhy}
 use Rattle.brc_command.specs.WrongRuns.{FilesEnd, GoesWrong}
 use Rattle.brc_schedule.specs.declared.schedule.Schedule.{Schedule}
 use Rattle.brc_schedule.specs.Text as schedules

@@ -1,5 +1,5 @@
 -- What is written of a run whose steps are all made: the lines of its trace, one after another, and then the report.
-use Rattle.std.proofs.Common.{◌≡◌, ℕ, Bool, List, [], ◌∷◌, ◌++◌, refl, sym, ap, ◌∙◌, subst}
+use Rattle.std.proofs.Common.{◌≡◌, ℕ, Bool, List, [], ◌++◌, refl, ap, ◌∙◌, subst}
 use Rattle.std.specs.Prelude.{Option, None, Some, Result, Ok, Err, IfOk, is_some}
 use Rattle.std.specs.Io.KnownBytes.{Appends}
 use Rattle.brc_model.specs.declared.thread.Choice.{Choice}

@@ -1,5 +1,5 @@
 -- A run of a module of which nothing is known before.
-use Rattle.std.specs.Prelude.{◌≡◌, ℕ, ◌<◌, ◌≤◌, List, take, map, Option, None, Some, is_some}
+use Rattle.std.specs.Prelude.{ℕ, ◌<◌, ◌≤◌, List, take, map, Option, None, Some, is_some}
 use Rattle.std.specs.Io.KnownBytes.{Appends}
 use Rattle.brc_lang.specs.Grammar.{IsModule}
 use Rattle.brc_model.specs.declared.thread.Choice.{Choice}

@@ -1,7 +1,7 @@
 use Rattle.std.proofs.Common.{ℕ}
-use Rattle.brc_command.specs.WholeRuns.{EndsWithReport, OfPlan, StopsAt}
+use Rattle.brc_command.specs.WholeRuns.{EndsWithReport, StopsAt}
 use Rattle.brc_command.specs.WrongRuns.{PlanGoesWrong}
-use Rattle.brc_command.proofs.Reasons.{replay_fault, text_fault}
+use Rattle.brc_command.proofs.Reasons.{replay_fault}
 use Rattle.brc_command.proofs.Rerunning.{ended_by, texts_hold}
 use Rattle.brc_command.proofs.replaying.replay_texts.Goals as goal
 
