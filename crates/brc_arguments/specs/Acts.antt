@@ -38,11 +38,11 @@ abbrev pub asks_for_run : List ℕ → Bool
 asks_for_run word = bytes_eq word (codes "--schedule") || bytes_eq word (codes "--unchecked")
 
 -- the command line asks for such a run, by one of its words
-pub record EndsAskingUnchecked (asks : Bool) (gives : List ℕ → List ℕ → Type 0) (old new : Option (List ℕ))
-    (status : ℕ) : Type 0 where
+pub record EndsAskingUnchecked (asks : Bool) (gives : List ℕ → List ℕ → Type 0) (lacks : List ℕ → Type 0)
+    (old new err_old err_new : Option (List ℕ)) (status : ℕ) : Type 0 where
   pub word : asks ≡ true
   pub asked : Unchecked
-  pub ended : EndsUnchecked gives asked old new status
+  pub ended : EndsUnchecked gives lacks asked old new err_old err_new status
 
 -- the command line is wrong or asks for help, and the status is 2; or memory was refused, and the status is 3
 abbrev pub IsRefused : Option (List ℕ) → Option (List ℕ) → ℕ → Type 0
@@ -53,12 +53,12 @@ abbrev pub Ends : Bool → (List ℕ → List ℕ → Type 0) → (List ℕ → 
     → Option (List ℕ) → Option (List ℕ) → ℕ → Type 0
 Ends asks gives lacks paint old new err_old err_new status =
     IsDoneAsking gives paint old new err_old err_new ⊎ ChecksFiles gives lacks old new err_old err_new status
-    ⊎ EndsAskingUnchecked asks gives old new status
+    ⊎ EndsAskingUnchecked asks gives lacks old new err_old err_new status
 
 abbrev pub Stops : Bool → (List ℕ → List ℕ → Type 0) → (List ℕ → Type 0) → Paint → Option (List ℕ) → Option (List ℕ)
     → Option (List ℕ) → Option (List ℕ) → ℕ → Type 0
 Stops asks gives lacks paint old new err_old err_new status =
     IsStoppedAsking gives lacks paint old new err_old err_new status
     ⊎ ChecksFiles gives lacks old new err_old err_new status
-    ⊎ EndsAskingUnchecked asks gives old new status
+    ⊎ EndsAskingUnchecked asks gives lacks old new err_old err_new status
     ⊎ ((new ≡ old) × IsRefused err_old err_new status)

@@ -9,7 +9,10 @@ mod GivenTexts
 mod LastTally
 mod Leaving
 mod ReadFiles
+mod Reasons
+mod Reports
 mod Rerunning
+mod RightSteps
 mod RunsFound
 mod Machines
 mod ObjectTexts

@@ -1,6 +1,7 @@
 pub mod Accepted
 pub mod Calls
 pub mod Commands
+pub mod Endings
 pub mod Explanations
 pub mod Files
 pub mod Findings
@@ -10,4 +11,5 @@ pub mod Objects
 pub mod Texts
 pub mod Traces
 pub mod Reruns
+pub mod WholeRuns
 pub mod WrongRuns

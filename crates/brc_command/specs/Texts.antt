@@ -104,6 +104,14 @@ IsCallFault m s (NoFunction name) = IsFirstUnknown m s.calls name
 IsCallFault m s NoMemory = Unit {0}
 IsCallFault m s _ = ⊥
 
+-- the schedule's text is faulty, or the module has no function for a call, or memory was refused
+abbrev pub IsListFault : Module → List ℕ → StepFault → Type 0
+IsListFault m schedule_text (Plan e) = schedule_faults.HasFault schedule_text e.line e.code
+IsListFault m schedule_text (NoFunction name) = (s : Schedule) × schedules.Spells schedule_text s
+    × IsFirstUnknown m s.calls name
+IsListFault m schedule_text NoMemory = Unit {0}
+IsListFault m schedule_text _ = ⊥
+
 -- both texts are read
 pub record AreRead (module_text schedule_text : List ℕ) (m : Module) (s : Schedule) : Type 0 where
   pub module_read : modules.Spells module_text m

@@ -1,7 +1,8 @@
 -- What is shown of the runs of a module that the checker may refuse.
-use Rattle.std.specs.Prelude.{◌≡◌, ◌⊎◌, ℕ, List, ◌++◌, Option, None, Some, codes, decimal}
+use Rattle.std.specs.Prelude.{◌≡◌, ◌⊎◌, ℕ, Bool, List, ◌++◌, Option, None, Some, codes, decimal}
 use Rattle.brc_lang.specs.declared.module.Module.{Module}
 use Rattle.brc_lang.specs.Grammar as modules
+use Rattle.brc_lang.specs.Written.{AppendsBeginning}
 use Rattle.brc_model.specs.declared.thread.Choice.{Choice}
 use Rattle.brc_schedule.specs.declared.schedule.Schedule.{Schedule}
 use Rattle.brc_schedule.specs.Text as schedules
@@ -9,8 +10,7 @@ use Rattle.brc_world.specs.Runs.{events_of}
 use Rattle.brc_replay.specs.WrongRuns.{IsWrongRun}
 use Rattle.brc_command.specs.declared.unchecked.Unchecked.{Unchecked}
 use Rattle.brc_command.specs.declared.unchecked.Unchecked.TheVariants.{Explain, Step}
-use Rattle.brc_command.specs.declared.replaying.Ending.{Ending}
-use Rattle.brc_command.specs.declared.replaying.Ending.TheVariants.{Whole, Wrong, Beyond}
+use Rattle.brc_command.specs.declared.endings.Ending.{Ending}
 use Rattle.brc_command.specs.declared.step_fault.StepFault.{StepFault}
 use Rattle.brc_command.specs.declared.step_fault.StepFault.TheVariants.{Text, Refused, NoMemory, Output}
 use Rattle.brc_command.specs.declared.stop.Stop.{Stop}
@@ -18,7 +18,11 @@ use Rattle.brc_command.specs.declared.stop.Stop.TheVariants.{Fault}
 use Rattle.brc_command.specs.Accepted.{accepted_text}
 use Rattle.brc_command.specs.Calls.{calls_of}
 use Rattle.brc_command.specs.Commands.{Reports, BeginsReport}
+use Rattle.brc_command.specs.Endings.{IsEnding}
 use Rattle.brc_command.specs.Explanations.{IsAccepted}
+use Rattle.brc_command.specs.Lines.{fault_text}
+use Rattle.brc_command.specs.WholeRuns.{EndsWithReport, StopsAt, OfPlan, OfTexts}
+use Rattle.brc_command.specs.WholeRuns.{FilesReported, FilesStopAt, SaysWhy}
 
 -- ---- a run that is found
 
@@ -120,26 +124,42 @@ pub record GoesWrong (gives : List ℕ → List ℕ → Type 0) (file schedule :
   pub schedule_given : gives schedule schedule_text
   pub wrong : TextsGoWrong module_text schedule_text
 
--- the run goes wrong, if the ending says so
-abbrev pub IsEnding : Type 0 → Ending → Type 0
-IsEnding wrong (Wrong text) = wrong
-IsEnding wrong Whole = Unit {0}
-IsEnding wrong (Beyond number) = Unit {0}
+-- ---- how `step --unchecked` ends, by the ending
 
--- the ending says that the run goes wrong
-abbrev pub IsWrongEnding : Ending → Type 0
-IsWrongEnding (Wrong text) = Unit {0}
-IsWrongEnding Whole = ⊥
-IsWrongEnding (Beyond number) = ⊥
+-- the run of the schedule's text over the module
+abbrev pub PlanEnds : Module → List ℕ → Bool → Option (List ℕ) → Option (List ℕ) → Ending → Type 0
+PlanEnds m schedule_text trace old new = IsEnding (OfPlan m schedule_text (EndsWithReport trace old new))
+    (PlanGoesWrong m schedule_text) (λ number. OfPlan m schedule_text (StopsAt number))
+
+-- the run of the texts
+abbrev pub TextsEnd : List ℕ → List ℕ → Bool → Option (List ℕ) → Option (List ℕ) → Ending → Type 0
+TextsEnd module_text schedule_text trace old new =
+    IsEnding (OfTexts module_text schedule_text (EndsWithReport trace old new))
+    (TextsGoWrong module_text schedule_text) (λ number. OfTexts module_text schedule_text (StopsAt number))
+
+-- the run of the files
+abbrev pub FilesEnd : (List ℕ → List ℕ → Type 0) → List ℕ → List ℕ → Bool → Option (List ℕ) → Option (List ℕ)
+    → Ending → Type 0
+FilesEnd gives file schedule trace old new = IsEnding (FilesReported gives file schedule trace old new)
+    (GoesWrong gives file schedule) (FilesStopAt gives file schedule)
 
 -- ---- both
 
--- What standard output and the status show of the request. Where `explain --schedule` ends with status 1, a run that
--- goes wrong is shown or that none is found, and with 0 the module is accepted; where `step --unchecked` ends with
--- status 1, the run goes wrong.
-abbrev pub EndsUnchecked : (List ℕ → List ℕ → Type 0) → Unchecked → Option (List ℕ) → Option (List ℕ) → ℕ → Type 0
-EndsUnchecked gives (Explain file bounds) old new status =
+-- What standard output, standard error and the status show of the request.
+--
+-- Where `explain --schedule` ends with status 1, a run that goes wrong is shown or that none is found, and with 0 the
+-- module is accepted.
+--
+-- Where `step --unchecked` ends with status 0, all steps are made, none of them is wrong, the report is written, and
+-- standard error is as it was. With 1 the run goes wrong. With 2 standard error has the reason, or it names the step at
+-- which the run stops. With 3 it says that memory was refused.
+abbrev pub EndsUnchecked : (List ℕ → List ℕ → Type 0) → (List ℕ → Type 0) → Unchecked → Option (List ℕ)
+    → Option (List ℕ) → Option (List ℕ) → Option (List ℕ) → ℕ → Type 0
+EndsUnchecked gives lacks (Explain file bounds) old new err_old err_new status =
     (status ≡ 0 → Reports (HasNone gives file.now) old new)
     × (status ≡ 1 → Reports (HasFound gives file.now bounds.workers bounds.rows) old new)
-EndsUnchecked gives (Step file schedule trace picture) old new status =
-    status ≡ 1 → GoesWrong gives file.now schedule.now
+EndsUnchecked gives lacks (Step file schedule trace picture) old new err_old err_new status =
+    (status ≡ 0 → FilesReported gives file.now schedule.now trace old new × (err_new ≡ err_old))
+    × (status ≡ 1 → GoesWrong gives file.now schedule.now)
+    × (status ≡ 2 → SaysWhy gives lacks file.now schedule.now err_old err_new)
+    × (status ≡ 3 → AppendsBeginning err_old err_new (fault_text NoMemory))

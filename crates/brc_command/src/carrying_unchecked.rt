@@ -1,16 +1,19 @@
 //! The commands about runs of modules that the checker may refuse.
 
-ghost use Rattle.std.specs.Prelude.{◌≡◌, ◌≢◌, ◌≤◌};
+ghost use Rattle.std.specs.Prelude.{◌≡◌, ◌≤◌};
+ghost use Rattle.brc_lang.specs.Written.{AppendsBeginning};
+ghost use Rattle.brc_command.specs.declared.step_fault.StepFault.TheVariants.{NoMemory};
 ghost use Rattle.brc_command.specs.Commands.{Reports};
+ghost use Rattle.brc_command.specs.Lines.{fault_text};
+ghost use Rattle.brc_command.specs.WholeRuns.{FilesReported, SaysWhy};
 ghost use Rattle.brc_command.specs.WrongRuns.{EndsUnchecked, GoesWrong, HasFound, HasNone};
 
+use crate::endings::write_ending;
 use crate::explaining_runs::explain_run;
 use crate::lines::write_stop;
 use crate::load::Load;
-use crate::replaying::{replay, write_ending};
+use crate::replaying::replay;
 use crate::save::Save;
-use crate::step_fault::StepFault;
-use crate::stop::Stop;
 use crate::terminal::Terminal;
 use crate::unchecked::{Bounds, Unchecked};
 use std::alloc::Global;
@@ -29,7 +32,8 @@ pub fn execute_unchecked<L: Load + Save, T: Terminal, W: Write, E: Write>(
     err: &mut E,
 ) -> u8
     ensures known { result ≤ 3 }
-    ensures ends { EndsUnchecked (L.may_give load.old) asked.now (W.contents out.old) (W.contents out.new) result }
+    ensures ends { EndsUnchecked (L.may_give load.old) (L.may_lack load.old) asked.now (W.contents out.old)
+        (W.contents out.new) (E.contents err.old) (E.contents err.new) result }
 {
     match *asked {
         Unchecked::Explain { file, bounds } => {
@@ -82,27 +86,23 @@ fn step_unchecked<L: Load + Save, T: Terminal, W: Write, E: Write>(
     err: &mut E,
 ) -> u8
     ensures known { result ≤ 3 }
+    ensures reported { result ≡ 0 → FilesReported (L.may_give load.old) file.now schedule.now trace
+        (W.contents out.old) (W.contents out.new) }
+    ensures silent { result ≡ 0 → E.contents err.new ≡ E.contents err.old }
     ensures wrong { result ≡ 1 → GoesWrong (L.may_give load.old) file.now schedule.now }
+    ensures why { result ≡ 2 → SaysWhy (L.may_give load.old) (L.may_lack load.old) file.now schedule.now
+        (E.contents err.old) (E.contents err.new) }
+    ensures memory { result ≡ 3 → AppendsBeginning (E.contents err.old) (E.contents err.new) (fault_text NoMemory) }
 {
     match replay(alloc, file, schedule, trace, picture, load, terminal, out) {
         Ok(ending) => {
             let _ = write_ending(&ending, err);
             ending.status()
         }
+        // The module isn't checked, so no refusal gives status 1.
         Err(stop) => {
             let _ = write_stop(&stop, err);
-            status_without_check(&stop)
+            stop.status()
         }
-    }
-}
-
-/// Returns the exit status of a run that isn't checked before: 3 if memory is refused, and 2 otherwise.
-fn status_without_check(stop: &Stop<'_>) -> u8
-    ensures known { result ≤ 3 }
-    ensures not_wrong { result ≢ 1 }
-{
-    match stop {
-        Stop::Fault(StepFault::NoMemory) | Stop::NoThread => 3,
-        _ => 2,
     }
 }

@@ -1,12 +1,13 @@
 //! The picture of a run of any module, up to the first step that is wrong.
 
-ghost use Rattle.std.specs.Prelude.{◌≡◌, IfOk};
+ghost use Rattle.std.specs.Prelude.{◌≡◌, ◌⊎◌, IfErr, IfOk};
+ghost use Rattle.brc_command.specs.declared.step_fault.StepFault.TheVariants.{NoMemory as MemoryRefused, Output};
 ghost use Rattle.brc_command.specs.Reruns.{Fits};
 
-use crate::replaying::{Ending, Rerun, take_step};
+use crate::endings::Ending;
+use crate::rerun::{Rerun, take_step};
 use crate::save::Save;
 use crate::step_fault::StepFault;
-use crate::stop::Stop;
 use brc_lang::Function;
 use brc_picture::{Seen, Wrong, svg_text, touched_row};
 use brc_plain::{Plain, Refused};
@@ -16,15 +17,16 @@ use std::alloc::Global;
 
 /// Saves the picture of the run, if there is a file for it, and returns how the run ends. Returns `Output` if it can't
 /// be saved, and `NoMemory`.
-pub fn with_picture<'a, S: Save>(
+pub fn with_picture<S: Save>(
     alloc: Global,
     rerun: &Rerun<'_>,
     ending: Ending,
     picture: Option<&str>,
     save: &mut S,
-) -> Result<Ending, Stop<'a>>
+) -> Result<Ending, StepFault>
     requires { Fits rerun.now }
-    ensures { IfOk result (λ same. same ≡ ending) }
+    ensures same { IfOk result (λ same. same ≡ ending) }
+    ensures fault { IfErr result (λ e. (e ≡ Output) ⊎ (e ≡ MemoryRefused)) }
 {
     let Some(path) = picture else {
         return Ok(ending);
@@ -32,7 +34,7 @@ pub fn with_picture<'a, S: Save>(
     let svg = rerun_picture(alloc, rerun, &ending)?;
     match save.save(path, svg.as_slice()) {
         Ok(()) => Ok(ending),
-        Err(_) => Err(Stop::Fault(StepFault::Output)),
+        Err(_) => Err(StepFault::Output),
     }
 }
 

@@ -5,6 +5,7 @@ ghost use Rattle.std.specs.Io.KnownBytes.{Appends};
 ghost use Rattle.brc_lang.specs.Written.{AppendsBeginning};
 ghost use Rattle.brc_command.specs.Lines.{located_text, unreadable_text, refused_text};
 ghost use Rattle.brc_command.specs.Lines.{unknown_text, fault_text, stop_text, version_text};
+ghost use Rattle.brc_command.specs.WholeRuns.{bounds_text};
 
 use crate::step_fault::StepFault;
 use crate::stop::Stop;
@@ -37,6 +38,17 @@ pub fn write_stop<W: Write>(stop: &Stop<'_>, writer: &mut W) -> io::Result<()>
         Stop::NoThread => write_bytes(b"no thread\n", writer),
         Stop::Fault(fault) => write_fault(fault, writer),
     }
+}
+
+/// Writes the line about a step that leaves the machine's bounds, with the errors of `brc_lang::write_bytes`.
+pub fn write_bounds<W: Write>(number: u64, writer: &mut W) -> io::Result<()>
+    ensures whole { OnOk result (Appends (W.contents writer.old) (W.contents writer.new) (bounds_text number)) }
+    ensures begun { OnErr result (AppendsBeginning (W.contents writer.old) (W.contents writer.new)
+        (bounds_text number)) }
+{
+    let mut digits = Buffer::new();
+    let number = digits.format(number).as_bytes();
+    write_pieces(&[b"out of bounds at step ", number, b"\n"], writer)
 }
 
 fn write_fault<W: Write>(fault: &StepFault, writer: &mut W) -> io::Result<()>

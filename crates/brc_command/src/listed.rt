@@ -1,11 +1,12 @@
 //! The calls and the events that a schedule's text lists, of a module that need not be one that the checker accepts.
 
-ghost use Rattle.std.specs.Prelude.{◌≡◌, ◌++◌, map, IfOk, OnOk};
+ghost use Rattle.std.specs.Prelude.{◌≡◌, ◌++◌, map, IfErr, IfOk, OnOk};
 ghost use Rattle.brc_model.specs.Safety.{AreCalls};
 ghost use Rattle.brc_replay.specs.WrongRuns.{event_in};
 ghost use Rattle.brc_schedule.specs.Text.{IsSchedule, Spells};
 ghost use Rattle.brc_world.specs.Runs.{events_of, events_of_line};
-ghost use Rattle.brc_command.specs.Calls.{calls_of};
+ghost use Rattle.brc_command.specs.Calls.{calls_of, AreKnown};
+ghost use Rattle.brc_command.specs.Texts.{IsListFault};
 
 use crate::calls::calls_of;
 use crate::step_fault::StepFault;
@@ -30,8 +31,10 @@ pub fn listed_of(alloc: Global, module: &Module, text: &[u8]) -> Result<Listed, 
     ensures spelled { IfOk result (λ listed. Spells text.now listed.schedule) }
     ensures fits { IfOk result (λ listed. IsSchedule listed.schedule) }
     ensures found { IfOk result (λ listed. listed.calls.items ≡ calls_of «module».now listed.schedule.calls) }
+    ensures known { IfOk result (λ listed. AreKnown «module».now listed.schedule.calls) }
     ensures calls_fit { IfOk result (λ listed. AreCalls «module».now listed.calls.items) }
     ensures made { IfOk result (λ listed. map event_in listed.events.items ≡ events_of listed.schedule.steps) }
+    ensures fault { IfErr result (λ e. IsListFault «module».now text.now e) }
 {
     let schedule = schedule_of(alloc, text)?;
     let calls = calls_of(alloc, module, &schedule)?;
