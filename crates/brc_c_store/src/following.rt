@@ -1,0 +1,382 @@
+use crate::event::{Calling, Choice, Event, Gives, Source};
+use crate::object::{Base, Object};
+use crate::register::RegisterSet;
+use crate::rules::Rules;
+use crate::signs::{Signs, Test};
+use crate::store::{KnownFact, Section, Store};
+use crate::value::{Fact, Local, ObjectId, Singleton, Value};
+use std::alloc::AllocError;
+
+/// What follows an event.
+#[derive(Debug, Drop)]
+pub enum Next {
+    /// No path goes this way.
+    Never,
+    /// No register is left for a reference.
+    TooMany,
+    Store(Store),
+}
+
+/// Returns the store after an event, if a path goes this way on. The event is one that breaks no rule in the store.
+pub fn after(
+    rules: Rules,
+    event: Event,
+    choice: Choice,
+    store: &Store,
+) -> Result<Next, AllocError> {
+    if !is_way(event, choice) {
+        return Ok(Next::Never);
+    }
+    let mut next = store.clone()?;
+    match event {
+        Event::Pass => {}
+        Event::Copy { to, from } => copy(&mut next, to, from)?,
+        Event::Null(local) => return Ok(ask_null(next, local, choice == Choice::Yes)),
+        Event::Sign { of, test } => return ask_sign(next, of, test, choice == Choice::Yes),
+        Event::Choice(fact) => return ask_fact(next, fact, choice == Choice::Yes),
+        Event::Is { local, singleton } => {
+            return Ok(ask_singleton(next, local, singleton, choice == Choice::Yes));
+        }
+        Event::Forget(fact) => next.facts.retain(|known| known.fact != fact),
+        Event::Use(local) => next.refine(local),
+        Event::Take(local) => return Ok(take(next, local)),
+        Event::Release(local) | Event::Give(local) => give(&mut next, local),
+        Event::GiveTo { local, container } => {
+            give(&mut next, local);
+            if let Some(id) = next.object_of(local) {
+                next.give_to(id, container);
+            }
+        }
+        Event::Keep { local, container } => {
+            let keeper = next.object_of(container);
+            if let Some(id) = next.object_of(local) {
+                next.keep(id, keeper);
+            }
+        }
+        Event::Stow(local) => {
+            assume(&mut next, local);
+            stow(&mut next, local);
+        }
+        Event::HandOver(local) => stow(&mut next, local),
+        Event::Assume(local) => assume(&mut next, local),
+        Event::EndItems => next.end_items(),
+        Event::Call { gives, into, .. } => return call(next, gives, into, choice),
+        Event::Lend {
+            to,
+            lender,
+            is_optional,
+        } => lend(&mut next, to, lender, is_optional)?,
+        Event::Lock { first, second } => lock(rules, &mut next, first, second)?,
+        Event::Unlock => unlock(rules, &mut next),
+        Event::Detach => detach(&mut next),
+        Event::Attach => next.is_detached = false,
+        Event::UseOrNull(_) | Event::Return(_) | Event::ReturnPlain | Event::Halt | Event::End => {}
+    }
+    Ok(Next::Store(next))
+}
+
+/// Returns whether an event has this way after it.
+fn is_way(event: Event, choice: Choice) -> bool {
+    match event {
+        Event::Null(_) | Event::Sign { .. } | Event::Choice(_) | Event::Is { .. } => {
+            choice != Choice::Missing
+        }
+        Event::Call { calling, .. } => match calling {
+            Calling::Succeeds => choice == Choice::Yes,
+            Calling::MayFail => choice != Choice::Missing,
+            Calling::MayMiss => true,
+        },
+        Event::Return(_) | Event::ReturnPlain | Event::Halt | Event::End => false,
+        _ => choice == Choice::Yes,
+    }
+}
+
+fn copy(next: &mut Store, to: Local, from: Source) -> Result<(), AllocError> {
+    match from {
+        Source::Nothing => next.set(to, Value::Unset),
+        Source::Null => next.set(to, Value::Null),
+        Source::Local(local) => {
+            let value = next.value(local);
+            next.set(to, value)
+        }
+        Source::Number(signs) => next.set(to, Value::Number(signs)),
+        Source::Singleton(singleton) => next.set_new(
+            to,
+            Object {
+                singleton: Some(singleton),
+                ..Object::LENT
+            },
+        ),
+        Source::Unknown => {
+            let id = next.add_object(Object {
+                is_assumed: true,
+                ..Object::LENT
+            })?;
+            next.set(to, Value::Maybe(id))
+        }
+    }
+}
+
+fn ask_null(next: Store, local: Local, is_null: bool) -> Next {
+    let mut next = next;
+    match next.value(local) {
+        Value::Unset => Next::Never,
+        Value::Null => way(next, is_null),
+        Value::Object(_) => way(next, !is_null),
+        Value::Number(_) => Next::Store(next),
+        Value::Maybe(id) => {
+            if is_null {
+                next.take_for_null(id);
+            } else {
+                next.refine(local);
+            }
+            Next::Store(next)
+        }
+    }
+}
+
+fn way(next: Store, is_open: bool) -> Next {
+    if is_open {
+        Next::Store(next)
+    } else {
+        Next::Never
+    }
+}
+
+fn ask_sign(next: Store, of: Local, test: Test, wanted: bool) -> Result<Next, AllocError> {
+    let mut next = next;
+    let signs = match next.value(of) {
+        Value::Number(signs) => signs,
+        _ => Signs::ALL,
+    };
+    let left = signs.that(test, wanted);
+    if left.is_empty() {
+        return Ok(Next::Never);
+    }
+    next.set(of, Value::Number(left))?;
+    Ok(Next::Store(next))
+}
+
+fn ask_fact(next: Store, fact: Option<Fact>, holds: bool) -> Result<Next, AllocError> {
+    let mut next = next;
+    let Some(fact) = fact else {
+        return Ok(Next::Store(next));
+    };
+    match next.fact(fact) {
+        Some(known) => Ok(way(next, known == holds)),
+        None => {
+            next.facts.push(KnownFact { fact, holds })?;
+            Ok(Next::Store(next))
+        }
+    }
+}
+
+/// A name has a singleton exactly if the function has assigned it.
+fn ask_singleton(next: Store, local: Local, singleton: Singleton, holds: bool) -> Next {
+    let mut next = next;
+    let is_it = match next.object_of(local) {
+        Some(id) => next.object(id).singleton == Some(singleton),
+        None => false,
+    };
+    if !is_it {
+        next.refine(local);
+    }
+    way(next, is_it == holds)
+}
+
+fn take(next: Store, local: Local) -> Next {
+    let mut next = next;
+    next.refine(local);
+    if let Some(id) = next.object_of(local) {
+        let Some(register) = next.free() else {
+            return Next::TooMany;
+        };
+        let mut object = next.object(id);
+        object.registers = object.registers.with(register);
+        next.set_object(id, object);
+    }
+    Next::Store(next)
+}
+
+fn give(next: &mut Store, local: Local) {
+    next.refine(local);
+    if let Some(id) = next.object_of(local) {
+        let mut object = next.object(id);
+        object.is_fresh = false;
+        next.set_object(id, object);
+        next.give_up(id);
+    }
+}
+
+/// The reference is given up, and the object is lent from there on.
+fn stow(next: &mut Store, local: Local) {
+    if let Some(id) = next.object_of(local) {
+        let mut object = next.object(id);
+        object.is_fresh = false;
+        if let Some(last) = object.registers.last() {
+            object.registers = object.registers.without(last);
+            if !object.is_alive() {
+                object.base = Base::Call;
+            }
+        }
+        next.set_object(id, object);
+    }
+}
+
+fn assume(next: &mut Store, local: Local) {
+    if let Some(id) = next.object_of(local) {
+        let mut object = next.object(id);
+        object.is_assumed = true;
+        next.set_object(id, object);
+    }
+}
+
+fn call(
+    next: Store,
+    gives: Gives,
+    into: Option<Local>,
+    choice: Choice,
+) -> Result<Next, AllocError> {
+    let mut next = next;
+    let Some(into) = into else {
+        return Ok(Next::Store(next));
+    };
+    if choice != Choice::Yes {
+        return Ok(Next::Store(next));
+    }
+    match gives {
+        Gives::Nothing => {}
+        Gives::New {
+            is_fresh,
+            is_assumed,
+        } => {
+            let Some(register) = next.free() else {
+                return Ok(Next::TooMany);
+            };
+            let object = Object {
+                registers: RegisterSet::EMPTY.with(register),
+                is_fresh,
+                is_assumed,
+                ..Object::GONE
+            };
+            next.set_new(into, object)?;
+        }
+        Gives::Item(container) => {
+            let Some(base) = item_of(&next, container) else {
+                return Ok(Next::TooMany);
+            };
+            next.set_new(
+                into,
+                Object {
+                    base,
+                    ..Object::GONE
+                },
+            )?;
+        }
+        Gives::Part(lender) => {
+            let base = part_of(&next, lender);
+            next.set_new(
+                into,
+                Object {
+                    base,
+                    ..Object::GONE
+                },
+            )?;
+        }
+        Gives::Lent => next.set_new(into, Object::LENT)?,
+        Gives::Same(local) => same(&mut next, into, local)?,
+    }
+    Ok(Next::Store(next))
+}
+
+/// Returns what lends an item of a container, or `None` if no register is left for the item.
+fn item_of(next: &Store, container: Local) -> Option<Base> {
+    if let Some(id) = next.object_of(container) {
+        if next.is_private(next.object(id)) {
+            return Some(Base::Part(id));
+        }
+    }
+    Some(Base::Item(next.free()?))
+}
+
+/// Returns what lends a part of an object.
+fn part_of(next: &Store, lender: Local) -> Base {
+    let Some(id) = next.object_of(lender) else {
+        return Base::Call;
+    };
+    let object = next.object(id);
+    match object.base {
+        _ if !object.registers.is_empty() => Base::Part(id),
+        Base::Part(_) => Base::Part(id),
+        Base::Item(register) => Base::Item(register),
+        Base::Call | Base::Gone => Base::Call,
+    }
+}
+
+fn lend(
+    next: &mut Store,
+    to: Local,
+    lender: Option<Local>,
+    is_optional: bool,
+) -> Result<(), AllocError> {
+    let base = match lender {
+        Some(lender) => part_of(next, lender),
+        None => Base::Call,
+    };
+    let id = next.add_object(Object {
+        base,
+        ..Object::GONE
+    })?;
+    if is_optional && next.value(to) == Value::Null {
+        next.set(to, Value::Maybe(id))
+    } else {
+        next.set(to, Value::Object(id))
+    }
+}
+
+fn same(next: &mut Store, into: Local, local: Local) -> Result<(), AllocError> {
+    match next.value(local) {
+        Value::Null => {
+            let id = next.add_object(Object::LENT)?;
+            next.set(into, Value::Maybe(id))
+        }
+        value => next.set(into, value),
+    }
+}
+
+fn lock(
+    rules: Rules,
+    next: &mut Store,
+    first: Option<Local>,
+    second: Option<Local>,
+) -> Result<(), AllocError> {
+    if rules == Rules::GlobalLock {
+        return Ok(());
+    }
+    // The text has one lock: it is given back and taken again.
+    if !next.sections.is_empty() {
+        next.end_items();
+    }
+    let section = Section {
+        first: object_of(next, first),
+        second: object_of(next, second),
+    };
+    next.sections.push(section)?;
+    Ok(())
+}
+
+fn object_of(next: &Store, local: Option<Local>) -> Option<ObjectId> {
+    next.object_of(local?)
+}
+
+fn unlock(rules: Rules, next: &mut Store) {
+    if rules == Rules::FreeThreaded {
+        let _ = next.sections.pop();
+        next.end_items();
+    }
+}
+
+fn detach(next: &mut Store) {
+    next.end_items();
+    next.is_detached = true;
+}

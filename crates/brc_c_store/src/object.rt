@@ -1,0 +1,53 @@
+use crate::register::{Register, RegisterSet};
+use crate::value::{ObjectId, Singleton};
+
+/// Whose reference to an object the function may use, beside its own ones.
+#[derive(Clone, Copy, Debug, PartialEq, Eq, Hash)]
+pub enum Base {
+    /// Nobody's: without a register of its own the object may be freed.
+    Gone,
+    /// It is lent for the whole call.
+    Call,
+    /// A container's, which may change. The register has the item.
+    Item(Register),
+    /// That of another object, which lends it as long as it lives.
+    Part(ObjectId),
+}
+
+/// An object that a function knows.
+#[derive(Clone, Copy, Debug, PartialEq, Eq, Hash)]
+pub struct Object {
+    /// The registers that own its references.
+    pub registers: RegisterSet,
+    pub base: Base,
+    /// Whether the function has made it and given it to nobody.
+    pub is_fresh: bool,
+    /// The container that has made a reference of its own.
+    pub kept_by: Option<ObjectId>,
+    pub singleton: Option<Singleton>,
+    /// Whether something is assumed of it, so that a fault in it is possible only.
+    pub is_assumed: bool,
+}
+
+impl Object {
+    /// An object of which nobody has a reference.
+    pub const GONE: Object = Object {
+        registers: RegisterSet::EMPTY,
+        base: Base::Gone,
+        is_fresh: false,
+        kept_by: None,
+        singleton: None,
+        is_assumed: false,
+    };
+
+    /// An object that is lent for the whole call.
+    pub const LENT: Object = Object {
+        base: Base::Call,
+        ..Object::GONE
+    };
+
+    /// Returns whether the function may use the object.
+    pub fn is_alive(self) -> bool {
+        !self.registers.is_empty() || self.base != Base::Gone
+    }
+}

@@ -1,0 +1,113 @@
+/// Which signs a number may have. Minus one is a sign of its own, since functions of C say by it that they fail.
+#[derive(Clone, Copy, Debug, PartialEq, Eq, Hash)]
+pub struct Signs {
+    pub minus_one: bool,
+    /// Below minus one.
+    pub below: bool,
+    pub zero: bool,
+    pub above: bool,
+}
+
+impl Signs {
+    pub const NONE: Signs = Signs {
+        minus_one: false,
+        below: false,
+        zero: false,
+        above: false,
+    };
+
+    pub const ALL: Signs = Signs {
+        minus_one: true,
+        below: true,
+        zero: true,
+        above: true,
+    };
+
+    pub const MINUS_ONE: Signs = Signs {
+        minus_one: true,
+        below: false,
+        zero: false,
+        above: false,
+    };
+
+    pub const ZERO: Signs = Signs {
+        minus_one: false,
+        below: false,
+        zero: true,
+        above: false,
+    };
+
+    pub const ABOVE: Signs = Signs {
+        minus_one: false,
+        below: false,
+        zero: false,
+        above: true,
+    };
+
+    pub const ZERO_OR_ABOVE: Signs = Signs {
+        minus_one: false,
+        below: false,
+        zero: true,
+        above: true,
+    };
+
+    /// Returns the sign of a number.
+    pub fn of(number: i64) -> Signs {
+        Signs {
+            minus_one: number == -1,
+            below: number < -1,
+            zero: number == 0,
+            above: number > 0,
+        }
+    }
+
+    pub fn is_empty(self) -> bool {
+        !self.minus_one && !self.below && !self.zero && !self.above
+    }
+
+    /// Returns those of these signs of which some number passes the test, or fails it if `wanted` is false.
+    pub fn that(self, test: Test, wanted: bool) -> Signs {
+        Signs {
+            minus_one: self.minus_one && test.is_open(-1, -1, wanted),
+            below: self.below && test.is_open(i64::MIN, -2, wanted),
+            zero: self.zero && test.is_open(0, 0, wanted),
+            above: self.above && test.is_open(1, i64::MAX, wanted),
+        }
+    }
+}
+
+#[derive(Clone, Copy, Debug, PartialEq, Eq, Hash)]
+pub enum Comparison {
+    Equal,
+    NotEqual,
+    Less,
+    LessEqual,
+    Greater,
+    GreaterEqual,
+}
+
+/// A comparison of a number with a constant.
+#[derive(Clone, Copy, Debug, PartialEq, Eq, Hash)]
+pub struct Test {
+    pub comparison: Comparison,
+    pub constant: i64,
+}
+
+impl Test {
+    /// Returns whether some number from `least` to `most` passes the test, or fails it if `wanted` is false.
+    fn is_open(self, least: i64, most: i64, wanted: bool) -> bool {
+        let constant = self.constant;
+        match (self.comparison, wanted) {
+            (Comparison::Equal, true) | (Comparison::NotEqual, false) => {
+                least <= constant && constant <= most
+            }
+            (Comparison::Equal, false) | (Comparison::NotEqual, true) => {
+                least != constant || most != constant
+            }
+            (Comparison::Less, true) | (Comparison::GreaterEqual, false) => least < constant,
+            (Comparison::Less, false) | (Comparison::GreaterEqual, true) => most >= constant,
+            (Comparison::LessEqual, true) | (Comparison::Greater, false) => least <= constant,
+            (Comparison::LessEqual, false) | (Comparison::Greater, true) => most > constant,
+        }
+    }
+}
