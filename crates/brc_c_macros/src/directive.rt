@@ -42,16 +42,28 @@ fn action_of(symbols: &Symbols, name: &Lexeme) -> Action {
     match name.kind {
         LexemeKind::Keyword(Keyword::If) => Action::If,
         LexemeKind::Keyword(Keyword::Else) => Action::Else,
-        LexemeKind::Name => match symbols.text(name.symbol) {
-            b"ifdef" => Action::Ifdef,
-            b"ifndef" => Action::Ifndef,
-            b"elif" => Action::Elif,
-            b"endif" => Action::Endif,
-            b"define" => Action::Define,
-            b"undef" => Action::Undef,
-            b"include" => Action::Include,
-            _ => Action::Other,
-        },
+        LexemeKind::Name => named(symbols.text(name.symbol)),
         _ => Action::Other,
     }
+}
+
+/// The directives whose names are no keywords. The proof of a `match` over texts has a branch for each of their bytes, so
+/// they are a table.
+const NAMES: &[(&[u8], Action)] = &[
+    (b"ifdef", Action::Ifdef),
+    (b"ifndef", Action::Ifndef),
+    (b"elif", Action::Elif),
+    (b"endif", Action::Endif),
+    (b"define", Action::Define),
+    (b"undef", Action::Undef),
+    (b"include", Action::Include),
+];
+
+fn named(name: &[u8]) -> Action {
+    for (text, action) in NAMES {
+        if *text == name {
+            return *action;
+        }
+    }
+    Action::Other
 }

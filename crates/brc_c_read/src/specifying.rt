@@ -82,10 +82,7 @@ impl<'a> Parser<'a> {
     }
 
     pub(crate) fn is_attribute(&self, lexeme: &Lexeme) -> bool {
-        matches!(
-            self.symbols.text(lexeme.symbol),
-            b"__attribute__" | b"__attribute" | b"__declspec" | b"__extension__"
-        )
+        ATTRIBUTES.contains(&self.symbols.text(lexeme.symbol))
     }
 
     /// Passes an attribute, unless it is `cleanup`.
@@ -95,7 +92,7 @@ impl<'a> Parser<'a> {
             return Ok(());
         }
         let name = self.cursor.ahead(2).symbol;
-        if matches!(self.symbols.text(name), b"cleanup" | b"__cleanup__") {
+        if CLEANUPS.contains(&self.symbols.text(name)) {
             return Err(not_read(place, Reason::Cleanup));
         }
         if !self
@@ -316,20 +313,33 @@ fn sounds_like_type(name: &[u8]) -> bool {
         || name.starts_with(b"PyCFunction")
 }
 
+/// Words that begin an attribute.
+const ATTRIBUTES: [&[u8]; 4] = [
+    b"__attribute__",
+    b"__attribute",
+    b"__declspec",
+    b"__extension__",
+];
+
+/// The names of the attribute that calls a function where a variable ends.
+const CLEANUPS: [&[u8]; 2] = [b"cleanup", b"__cleanup__"];
+
+/// Functions and macros that take a type.
+const TYPE_TAKERS: [&[u8]; 11] = [
+    b"PyObject_New",
+    b"PyObject_NEW",
+    b"PyObject_NewVar",
+    b"PyObject_GC_New",
+    b"PyObject_GC_NewVar",
+    b"PyMem_New",
+    b"PyMem_NEW",
+    b"PyMem_Resize",
+    b"va_arg",
+    b"offsetof",
+    b"Py_OFFSETOF",
+];
+
 /// Returns whether the function or macro takes a type.
 fn takes_type(name: &[u8]) -> bool {
-    matches!(
-        name,
-        b"PyObject_New"
-            | b"PyObject_NEW"
-            | b"PyObject_NewVar"
-            | b"PyObject_GC_New"
-            | b"PyObject_GC_NewVar"
-            | b"PyMem_New"
-            | b"PyMem_NEW"
-            | b"PyMem_Resize"
-            | b"va_arg"
-            | b"offsetof"
-            | b"Py_OFFSETOF"
-    )
+    TYPE_TAKERS.contains(&name)
 }

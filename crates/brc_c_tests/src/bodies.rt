@@ -1,6 +1,4 @@
-use crate::reading::read;
-use crate::rendering::body_text;
-use brc_c_text::Symbols;
+use crate::reading::bodies_of;
 use std::test::Fail;
 
 /// The body of a function with the parameters `a` and `b`, and the text of its tree.
@@ -124,20 +122,6 @@ const ROWS: [(&str, &str); 39] = [
     ("{ a; } { { b; } }", "{ { a; } { { b; } } }"),
 ];
 
-#[test]
-fn bodies(rt: HostRuntime) -> Result<(), Fail> {
-    let alloc = rt.alloc();
-    for (body, wanted) in ROWS {
-        let mut symbols = Symbols::new(alloc)?;
-        let source = format!(in alloc; "static int f(PyObject *a, int b) {{ {body} }}")?;
-        let tree = read(alloc, &mut symbols, source.as_bytes())?;
-        assert_eq!(rt; tree.functions.len(), 1, "{body}");
-        let found = body_text(alloc, &symbols, &tree.functions[0])?;
-        assert_eq!(rt; found.as_str(), wanted, "{body}");
-    }
-    Ok(())
-}
-
 /// The body of a function that isn't read, from line 2 on, and where and why it isn't.
 const NOT_READ: [(&str, &str); 23] = [
     ("a = ;", "2:5 `;` is read where an expression is expected"),
@@ -176,19 +160,20 @@ const NOT_READ: [(&str, &str); 23] = [
 
 /// Each function after one that isn't read is read.
 #[test]
-fn reasons(rt: HostRuntime) -> Result<(), Fail> {
+fn bodies(rt: HostRuntime) -> Result<(), Fail> {
     let alloc = rt.alloc();
+    for (body, wanted) in ROWS {
+        let source = format!(in alloc; "static int f(PyObject *a, int b) {{ {body} }}")?;
+        let found = bodies_of(alloc, source.as_bytes())?;
+        assert_eq!(rt; found.as_str().trim_end(), wanted, "{body}");
+    }
     for (body, wanted) in NOT_READ {
-        let mut symbols = Symbols::new(alloc)?;
         let source = format!(in alloc;
             "int f(int a) {{\n{body}\n}}\nint g(void)\n{{\nreturn 1;\n}}\n"
         )?;
-        let tree = read(alloc, &mut symbols, source.as_bytes())?;
-        assert_eq!(rt; tree.functions.len(), 2, "{body}");
-        let found = body_text(alloc, &symbols, &tree.functions[0])?;
-        assert_eq!(rt; found.as_str(), wanted, "{body}");
-        let found = body_text(alloc, &symbols, &tree.functions[1])?;
-        assert_eq!(rt; found.as_str(), "{ return 1; }", "{body}");
+        let found = bodies_of(alloc, source.as_bytes())?;
+        let wanted = format!(in alloc; "{wanted}\n{{ return 1; }}\n")?;
+        assert_eq!(rt; found, wanted, "{body}");
     }
     Ok(())
 }

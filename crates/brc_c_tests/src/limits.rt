@@ -1,7 +1,6 @@
-use crate::reading::{preprocessed, read};
-use crate::rendering::body_text;
+use crate::reading::{bodies_of, preprocessed};
 use brc_c_text::Symbols;
-use brc_c_tree::{Body, FUNCTION_LIMIT};
+use brc_c_tree::FUNCTION_LIMIT;
 use std::alloc::{AllocError, Global};
 use std::test::Fail;
 
@@ -36,45 +35,52 @@ const ROWS: [(&str, &str, &str, usize, &str); 3] = [
     ("a;", "", "", 16383, "more than 32768 tokens"),
 ];
 
+/// What is repeated around an expression 63 times at most.
+const AROUND: [(&str, &str, &str); 3] = [("(", "a", ")"), ("f(", "a", ")"), ("a[", "1", "]")];
+
 #[test]
 fn sizes(rt: HostRuntime) -> Result<(), Fail> {
     let alloc = rt.alloc();
     for (before, middle, behind, times, why) in ROWS {
-        for over in 0..2 {
-            let mut symbols = Symbols::new(alloc)?;
-            let source = nested(alloc, before, middle, behind, times.saturating_add(over))?;
-            let tree = read(alloc, &mut symbols, source.as_bytes())?;
-            assert_eq!(rt; tree.functions.len(), 1, "{before}");
-            let found = body_text(alloc, &symbols, &tree.functions[0])?;
-            let is_read = matches!(tree.functions[0].body, Body::Read(_, _));
-            assert_eq!(rt; is_read, over == 0, "{before} {times}");
-            if over == 1 {
-                assert!(rt; found.as_str().ends_with(why), "{found}");
-            }
-        }
+        let source = nested(alloc, before, middle, behind, times)?;
+        let found = bodies_of(alloc, source.as_bytes())?;
+        assert!(rt; found.as_str().starts_with("{"), "{before} {times}");
+        let source = nested(alloc, before, middle, behind, times.saturating_add(1))?;
+        let found = bodies_of(alloc, source.as_bytes())?;
+        assert!(rt; found.as_str().trim_end().ends_with(why), "{found}");
     }
-    Ok(())
-}
-
-/// Parentheses: 63 open ones in a statement of the body.
-#[test]
-fn parentheses(rt: HostRuntime) -> Result<(), Fail> {
-    let alloc = rt.alloc();
-    for (before, middle, behind) in [("(", "a", ")"), ("f(", "a", ")"), ("a[", "1", "]")] {
+    for (before, middle, behind) in AROUND {
         for (times, is_read) in [(63, true), (64, false)] {
-            let mut symbols = Symbols::new(alloc)?;
             let source = nested(alloc, before, middle, behind, times)?;
-            let tree = read(alloc, &mut symbols, source.as_bytes())?;
-            assert_eq!(rt; tree.functions.len(), 1);
-            let found = body_text(alloc, &symbols, &tree.functions[0])?;
+            let found = bodies_of(alloc, source.as_bytes())?;
             assert_eq!(rt;
-                !found.as_str().ends_with("64 deep"),
+                !found.as_str().trim_end().ends_with("64 deep"),
                 is_read,
                 "{before} {times}"
             );
         }
     }
     Ok(())
+}
+
+/// Each macro uses the one before it ten times.
+const GROWING: &str =
+    "#define A x + x + x + x + x + x + x + x + x + x\n#define B A + A + A + A + A + A + A + A\n\
+    #define C B + B + B + B + B + B + B + B\n#define D C + C + C + C + C + C + C + C\n\
+    #define E D + D + D + D + D + D + D + D\n#define F E + E + E + E + E + E + E + E\n\
+    int f(int x) { return F; }\nint g(void) { return 1; }\n";
+
+/// The same with nothing at its end makes no tokens, and takes as long.
+const EMPTY: &str =
+    "#define A\n#define B A A A A A A A A\n#define C B B B B B B B B\n#define D C C C C C C C C\n\
+    #define E D D D D D D D D\n#define F E E E E E E E E\n#define G F F F F F F F F\n\
+    int f(int x) { G return 1; }\nint g(void) { E return 1; }\n";
+
+/// Returns how many lexemes a header leaves that includes itself.
+fn included(alloc: Global) -> Result<usize, Fail> {
+    let mut symbols = Symbols::new(alloc)?;
+    let done = preprocessed(alloc, &mut symbols, b"#include \"self.h\"\nx")?;
+    Ok(done.lexemes.len())
 }
 
 #[test]
@@ -87,50 +93,22 @@ fn many(rt: HostRuntime) -> Result<(), Fail> {
     repeat(&mut source, "!a && a ? a : ", 300)?;
     source.push_str("a; }\n")?;
     repeat(&mut source, "int g(void) { }\n", FUNCTION_LIMIT)?;
-    let mut symbols = Symbols::new(alloc)?;
-    let tree = read(alloc, &mut symbols, source.as_bytes())?;
-    assert_eq!(rt; tree.functions.len(), FUNCTION_LIMIT + 1);
-    for (at, function) in tree.functions.iter().enumerate() {
-        let found = body_text(alloc, &symbols, function)?;
-        let is_over = found
-            .as_str()
-            .ends_with("more than 512 functions in a file");
+    let found = bodies_of(alloc, source.as_bytes())?;
+    assert_eq!(rt; found.as_str().lines().count(), FUNCTION_LIMIT + 1);
+    for (at, line) in found.as_str().lines().enumerate() {
+        let is_over = line.ends_with("more than 512 functions in a file");
         assert_eq!(rt; is_over, at == FUNCTION_LIMIT);
     }
-    Ok(())
-}
-
-/// Each macro uses the one before it ten times.
-#[test]
-fn macros(rt: HostRuntime) -> Result<(), Fail> {
-    let alloc = rt.alloc();
-    let source =
-        "#define A x + x + x + x + x + x + x + x + x + x\n#define B A + A + A + A + A + A + A + A\n\
-        #define C B + B + B + B + B + B + B + B\n#define D C + C + C + C + C + C + C + C\n\
-        #define E D + D + D + D + D + D + D + D\n#define F E + E + E + E + E + E + E + E\n\
-        int f(int x) { return F; }\nint g(void) { return 1; }\n";
-    let mut symbols = Symbols::new(alloc)?;
-    let tree = read(alloc, &mut symbols, source.as_bytes())?;
-    assert_eq!(rt; tree.functions.len(), 2);
-    let found = body_text(alloc, &symbols, &tree.functions[0])?;
-    assert!(rt;
-        found.as_str().ends_with("more than 32768 tokens"),
-        "{found}"
+    let found = bodies_of(alloc, GROWING.as_bytes())?;
+    let is_long = found
+        .as_str()
+        .ends_with("more than 32768 tokens\n{ return 1; }\n");
+    assert!(rt; is_long, "{found}");
+    let found = bodies_of(alloc, EMPTY.as_bytes())?;
+    assert_eq!(rt;
+        found.as_str(),
+        "8:16 a macro makes too much before `A`\n{ return 1; }\n"
     );
-    let found = body_text(alloc, &symbols, &tree.functions[1])?;
-    assert_eq!(rt; found.as_str(), "{ return 1; }");
-    // The same with nothing at its end makes no tokens, and takes as long.
-    let empty =
-        "#define A\n#define B A A A A A A A A\n#define C B B B B B B B B\n#define D C C C C C C C C\n\
-        #define E D D D D D D D D\n#define F E E E E E E E E\n#define G F F F F F F F F\n\
-        int f(int x) { G return 1; }\nint g(void) { E return 1; }\n";
-    let tree = read(alloc, &mut symbols, empty.as_bytes())?;
-    assert_eq!(rt; tree.functions.len(), 2);
-    let found = body_text(alloc, &symbols, &tree.functions[0])?;
-    assert_eq!(rt; found.as_str(), "8:16 a macro makes too much before `A`");
-    let found = body_text(alloc, &symbols, &tree.functions[1])?;
-    assert_eq!(rt; found.as_str(), "{ return 1; }");
-    let done = preprocessed(alloc, &mut symbols, b"#include \"self.h\"\nx")?;
-    assert_eq!(rt; done.lexemes.len(), 64);
+    assert_eq!(rt; included(alloc)?, 64);
     Ok(())
 }

@@ -8,6 +8,18 @@ use std::test::Fail;
 /// Returns what a source declares outside functions, and the heads of its functions.
 fn declared(alloc: Global, symbols: &Symbols, tree: &SourceTree) -> Result<String, Fail> {
     let mut text = String::new(alloc);
+    add_records(alloc, symbols, &mut text, tree)?;
+    add_names(alloc, symbols, &mut text, tree)?;
+    add_heads(alloc, symbols, &mut text, tree)?;
+    Ok(text)
+}
+
+fn add_records(
+    alloc: Global,
+    symbols: &Symbols,
+    text: &mut String,
+    tree: &SourceTree,
+) -> Result<(), Fail> {
     for named in &tree.record_names {
         let name = spelled(symbols, named.name);
         let stars = named.stars;
@@ -23,21 +35,23 @@ fn declared(alloc: Global, symbols: &Symbols, tree: &SourceTree) -> Result<Strin
         }
         text.push_str("; ")?;
     }
+    Ok(())
+}
+
+fn add_names(
+    alloc: Global,
+    symbols: &Symbols,
+    text: &mut String,
+    tree: &SourceTree,
+) -> Result<(), Fail> {
     for alias in &tree.aliases {
-        add(
-            alloc,
-            symbols,
-            &mut text,
-            "alias",
-            alias.name,
-            alias.type_name,
-        )?;
+        add(alloc, symbols, text, "alias", alias.name, alias.type_name)?;
     }
     for prototype in &tree.prototypes {
         add(
             alloc,
             symbols,
-            &mut text,
+            text,
             "prototype",
             prototype.name,
             prototype.result,
@@ -47,26 +61,28 @@ fn declared(alloc: Global, symbols: &Symbols, tree: &SourceTree) -> Result<Strin
         add(
             alloc,
             symbols,
-            &mut text,
+            text,
             "variable",
             variable.name,
             variable.type_name,
         )?;
     }
+    Ok(())
+}
+
+fn add_heads(
+    alloc: Global,
+    symbols: &Symbols,
+    text: &mut String,
+    tree: &SourceTree,
+) -> Result<(), Fail> {
     for function in &tree.functions {
         let symbol = if function.is_static {
             "static"
         } else {
             "function"
         };
-        add(
-            alloc,
-            symbols,
-            &mut text,
-            symbol,
-            function.name,
-            function.result,
-        )?;
+        add(alloc, symbols, text, symbol, function.name, function.result)?;
         for parameter in &function.parameters {
             let name = parameter.name.map_or("-", |name| spelled(symbols, name));
             let of = type_text(alloc, symbols, parameter.type_name)?;
@@ -74,7 +90,7 @@ fn declared(alloc: Global, symbols: &Symbols, tree: &SourceTree) -> Result<Strin
             write!(text, "({name}:{of}{more}) ")?;
         }
     }
-    Ok(text)
+    Ok(())
 }
 
 fn add(
@@ -181,13 +197,18 @@ const ROWS: [(&str, &str); 22] = [
     ("UNKNOWN(x)\nint f(void) { }", "function f:int; "),
 ];
 
+/// Returns what a text declares.
+fn declared_in(alloc: Global, source: &str) -> Result<String, Fail> {
+    let mut symbols = Symbols::new(alloc)?;
+    let tree = read(alloc, &mut symbols, source.as_bytes())?;
+    declared(alloc, &symbols, &tree)
+}
+
 #[test]
 fn rows(rt: HostRuntime) -> Result<(), Fail> {
     let alloc = rt.alloc();
     for (source, wanted) in ROWS {
-        let mut symbols = Symbols::new(alloc)?;
-        let tree = read(alloc, &mut symbols, source.as_bytes())?;
-        let found = declared(alloc, &symbols, &tree)?;
+        let found = declared_in(alloc, source)?;
         assert_eq!(rt; found.as_str(), wanted, "{source}");
     }
     Ok(())

@@ -1,5 +1,6 @@
 //! Sources as they are read from a text.
 
+use crate::rendering::body_text;
 use brc_c_macros::{Headers, Macros, Preprocessed, preprocess};
 use brc_c_read::{TypeNames, read_source};
 use brc_c_text::{Symbols, lexemes_of, scan};
@@ -46,4 +47,21 @@ pub fn read(alloc: Global, symbols: &mut Symbols, source: &[u8]) -> Result<Sourc
     let done = preprocessed(alloc, symbols, source)?;
     let mut types = TypeNames::new(alloc, symbols)?;
     Ok(read_source(alloc, symbols, &mut types, done.lexemes.as_slice())?)
+}
+
+/// Returns the bodies of a text's functions, each on a line. What is read stays here, since a test that owns it would
+/// have its end proved at each assertion.
+pub fn bodies_of(alloc: Global, source: &[u8]) -> Result<String, Fail> {
+    let mut symbols = Symbols::new(alloc)?;
+    let tree = read(alloc, &mut symbols, source)?;
+    body_lines(alloc, &symbols, &tree)
+}
+
+fn body_lines(alloc: Global, symbols: &Symbols, tree: &SourceTree) -> Result<String, Fail> {
+    let mut lines = String::new(alloc);
+    for function in &tree.functions {
+        let body = body_text(alloc, symbols, function)?;
+        write!(lines, "{body}\n")?;
+    }
+    Ok(lines)
 }

@@ -1,7 +1,9 @@
 use crate::reading::read;
 use crate::rendering::type_text;
 use brc_c_text::Symbols;
+use brc_c_tree::SourceTree;
 use brc_c_types::{Types, types_of};
+use std::alloc::Global;
 use std::test::Fail;
 
 const BEFORE: &str =
@@ -42,24 +44,37 @@ const ROWS: [(&str, &str, bool); 27] = [
     ("local = self->owner", "PyObject*", true),
 ];
 
+/// Returns the type of a text's last expression, and whether it is an object.
+fn last_type(alloc: Global, source: &[u8]) -> Result<(String, bool), Fail> {
+    let mut symbols = Symbols::new(alloc)?;
+    let tree = read(alloc, &mut symbols, source)?;
+    last_type_in(alloc, &symbols, &tree)
+}
+
+fn last_type_in(
+    alloc: Global,
+    symbols: &Symbols,
+    tree: &SourceTree,
+) -> Result<(String, bool), Fail> {
+    let types = Types::new(alloc, tree)?;
+    let function = tree.functions.as_slice().first().ok_or("a function")?;
+    let found = types_of(alloc, &types, function)?;
+    // The whole expression is the last of the tree.
+    let last = found.last().copied().flatten().ok_or("a type")?;
+    let text = type_text(alloc, symbols, last)?;
+    Ok((text, types.is_object(symbols, last)))
+}
+
 #[test]
 fn rows(rt: HostRuntime) -> Result<(), Fail> {
     let alloc = rt.alloc();
     for (expression, wanted, is_object) in ROWS {
-        let mut symbols = Symbols::new(alloc)?;
         let source = format!(in alloc;
             "{BEFORE}int f(NodeObject *self, PyObject **args, int n, Ref ref) {{ PyObject *local; {expression}; }}"
         )?;
-        let tree = read(alloc, &mut symbols, source.as_bytes())?;
-        let types = Types::new(alloc, &tree)?;
-        assert_eq!(rt; tree.functions.len(), 1);
-        let found = types_of(alloc, &types, &tree.functions[0])?;
-        // The whole expression is the last of the tree.
-        let last = found.last().copied().flatten();
-        let last = last.ok_or(expression)?;
-        let text = type_text(alloc, &symbols, last)?;
-        assert_eq!(rt; text.as_str(), wanted, "{expression}");
-        assert_eq!(rt; types.is_object(&symbols, last), is_object, "{expression}");
+        let found = last_type(alloc, source.as_bytes())?;
+        assert_eq!(rt; found.0.as_str(), wanted, "{expression}");
+        assert_eq!(rt; found.1, is_object, "{expression}");
     }
     Ok(())
 }

@@ -28,43 +28,54 @@ pub enum Keyword {
     While,
 }
 
+/// How each keyword is spelled. The proof of a `match` over texts has a branch for each of their bytes, so they are a
+/// table.
+const SPELLINGS: &[(&[u8], Keyword)] = &[
+    (b"if", Keyword::If),
+    (b"else", Keyword::Else),
+    (b"return", Keyword::Return),
+    (b"goto", Keyword::Goto),
+    (b"for", Keyword::For),
+    (b"while", Keyword::While),
+    (b"do", Keyword::Do),
+    (b"switch", Keyword::Switch),
+    (b"case", Keyword::Case),
+    (b"default", Keyword::Default),
+    (b"break", Keyword::Break),
+    (b"continue", Keyword::Continue),
+    (b"sizeof", Keyword::Sizeof),
+    (b"asm", Keyword::Asm),
+    (b"__asm__", Keyword::Asm),
+    (b"__asm", Keyword::Asm),
+    (b"static", Keyword::Static),
+    (b"const", Keyword::Const),
+    (b"__const", Keyword::Const),
+    (b"struct", Keyword::Struct),
+    (b"union", Keyword::Union),
+    (b"enum", Keyword::Enum),
+    (b"typedef", Keyword::Typedef),
+    (b"extern", Keyword::Extern),
+    (b"volatile", Keyword::Volatile),
+    (b"__volatile__", Keyword::Volatile),
+    (b"register", Keyword::Register),
+    (b"auto", Keyword::Register),
+    (b"inline", Keyword::Inline),
+    (b"__inline", Keyword::Inline),
+    (b"__inline__", Keyword::Inline),
+    (b"restrict", Keyword::Restrict),
+    (b"__restrict", Keyword::Restrict),
+    (b"__restrict__", Keyword::Restrict),
+];
+
 impl Keyword {
     /// Returns the keyword that the text spells.
     pub fn of(text: &[u8]) -> Option<Keyword> {
-        match text {
-            b"if" => Some(Keyword::If),
-            b"else" => Some(Keyword::Else),
-            b"return" => Some(Keyword::Return),
-            b"goto" => Some(Keyword::Goto),
-            b"for" => Some(Keyword::For),
-            b"while" => Some(Keyword::While),
-            b"do" => Some(Keyword::Do),
-            b"switch" => Some(Keyword::Switch),
-            b"case" => Some(Keyword::Case),
-            b"default" => Some(Keyword::Default),
-            b"break" => Some(Keyword::Break),
-            b"continue" => Some(Keyword::Continue),
-            b"sizeof" => Some(Keyword::Sizeof),
-            b"asm" | b"__asm__" | b"__asm" => Some(Keyword::Asm),
-            _ => Keyword::of_specifier(text),
+        for (spelling, keyword) in SPELLINGS {
+            if *spelling == text {
+                return Some(*keyword);
+            }
         }
-    }
-
-    fn of_specifier(text: &[u8]) -> Option<Keyword> {
-        match text {
-            b"static" => Some(Keyword::Static),
-            b"const" | b"__const" => Some(Keyword::Const),
-            b"struct" => Some(Keyword::Struct),
-            b"union" => Some(Keyword::Union),
-            b"enum" => Some(Keyword::Enum),
-            b"typedef" => Some(Keyword::Typedef),
-            b"extern" => Some(Keyword::Extern),
-            b"volatile" | b"__volatile__" => Some(Keyword::Volatile),
-            b"register" | b"auto" => Some(Keyword::Register),
-            b"inline" | b"__inline" | b"__inline__" => Some(Keyword::Inline),
-            b"restrict" | b"__restrict" | b"__restrict__" => Some(Keyword::Restrict),
-            _ => None,
-        }
+        None
     }
 
     /// Returns whether a declaration's type is the same without the keyword.

@@ -22,29 +22,36 @@ pub enum Known {
     Head,
 }
 
+/// The name of each macro. The proof of a `match` over texts has a branch for each of their bytes, so they are a table.
+const NAMES: &[(&[u8], Known)] = &[
+    (b"Py_BEGIN_CRITICAL_SECTION", Known::BeginCriticalSection),
+    (b"Py_END_CRITICAL_SECTION", Known::EndCriticalSection),
+    (b"Py_BEGIN_CRITICAL_SECTION2", Known::BeginCriticalSection2),
+    (b"Py_END_CRITICAL_SECTION2", Known::EndCriticalSection2),
+    (b"Py_BEGIN_ALLOW_THREADS", Known::BeginAllowThreads),
+    (b"Py_END_ALLOW_THREADS", Known::EndAllowThreads),
+    (b"Py_BLOCK_THREADS", Known::BlockThreads),
+    (b"Py_UNBLOCK_THREADS", Known::UnblockThreads),
+    (b"Py_RETURN_NONE", Known::ReturnNone),
+    (b"Py_RETURN_TRUE", Known::ReturnTrue),
+    (b"Py_RETURN_FALSE", Known::ReturnFalse),
+    (b"Py_RETURN_NOTIMPLEMENTED", Known::ReturnNotImplemented),
+    (b"Py_RETURN_RICHCOMPARE", Known::ReturnRichCompare),
+    (b"Py_UNREACHABLE", Known::Unreachable),
+    (b"Py_VISIT", Known::Visit),
+    (b"Py_TRASHCAN_BEGIN", Known::TrashcanBegin),
+    (b"Py_TRASHCAN_END", Known::TrashcanEnd),
+    (b"PyObject_HEAD", Known::Head),
+];
+
 impl Known {
     /// Returns the macro of this name.
     pub fn of(name: &[u8]) -> Option<Known> {
-        match name {
-            b"Py_BEGIN_CRITICAL_SECTION" => Some(Known::BeginCriticalSection),
-            b"Py_END_CRITICAL_SECTION" => Some(Known::EndCriticalSection),
-            b"Py_BEGIN_CRITICAL_SECTION2" => Some(Known::BeginCriticalSection2),
-            b"Py_END_CRITICAL_SECTION2" => Some(Known::EndCriticalSection2),
-            b"Py_BEGIN_ALLOW_THREADS" => Some(Known::BeginAllowThreads),
-            b"Py_END_ALLOW_THREADS" => Some(Known::EndAllowThreads),
-            b"Py_BLOCK_THREADS" => Some(Known::BlockThreads),
-            b"Py_UNBLOCK_THREADS" => Some(Known::UnblockThreads),
-            b"Py_RETURN_NONE" => Some(Known::ReturnNone),
-            b"Py_RETURN_TRUE" => Some(Known::ReturnTrue),
-            b"Py_RETURN_FALSE" => Some(Known::ReturnFalse),
-            b"Py_RETURN_NOTIMPLEMENTED" => Some(Known::ReturnNotImplemented),
-            b"Py_RETURN_RICHCOMPARE" => Some(Known::ReturnRichCompare),
-            b"Py_UNREACHABLE" => Some(Known::Unreachable),
-            b"Py_VISIT" => Some(Known::Visit),
-            b"Py_TRASHCAN_BEGIN" => Some(Known::TrashcanBegin),
-            b"Py_TRASHCAN_END" => Some(Known::TrashcanEnd),
-            b"PyObject_HEAD" => Some(Known::Head),
-            _ => None,
+        for (text, known) in NAMES {
+            if *text == name {
+                return Some(*known);
+            }
         }
+        None
     }
 }

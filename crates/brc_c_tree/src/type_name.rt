@@ -30,11 +30,16 @@ impl TypeName {
     }
 }
 
+/// Types of other libraries whose names sound like those of objects.
+const FOREIGN: [&[u8]; 5] = [
+    b"GObject",
+    b"JSObject",
+    b"NSObject",
+    b"xmlXPathObject",
+    b"CXXObject",
+];
+
 /// Returns whether a type of this name is one of objects, as long as nothing declares it as something else.
 pub fn names_objects(name: &[u8]) -> bool {
-    let is_foreign = matches!(
-        name,
-        b"GObject" | b"JSObject" | b"NSObject" | b"xmlXPathObject" | b"CXXObject"
-    );
-    !is_foreign && (name.ends_with(b"Object") || name.ends_with(b"object"))
+    !FOREIGN.contains(&name) && (name.ends_with(b"Object") || name.ends_with(b"object"))
 }
