@@ -523,15 +523,22 @@ WAY = {
 }
 
 
+# Crates that have no part in the way of an instruction: those of cases and of C, and what tests begin with.
+APART = ("brc_case", "brc_c_", "brc_fixtures")
+
+
+def below_in_drawing(crate):
+    """The repository's crates that this one uses, but for those apart."""
+    return [name for name in CRATES[crate] if name in CRATES and not name.startswith(APART)]
+
+
 def level(crate):
-    own = [below for below in CRATES[crate] if below in CRATES]
-    return 1 + max((level(below) for below in own), default=0)
+    return 1 + max((level(below) for below in below_in_drawing(crate)), default=0)
 
 
 def draw_layers():
     """The crates by level, with the way of one instruction. Those of tests, of cases and of C have no part in it."""
-    apart = ("brc_case", "brc_c_", "brc_fixtures")
-    crates = [name for name in CRATES if not name.endswith(("_tests", "_bench")) and not name.startswith(apart)]
+    crates = [name for name in CRATES if not name.endswith(("_tests", "_bench")) and not name.startswith(APART)]
     want(set(crates) == set(WAY), f"crates.txt has other crates than the way of drop: {sorted(set(crates) ^ set(WAY))}")
     for crate, (_, path) in WAY.items():
         want((ROOT / path).exists(), f"{path} isn't there")
@@ -547,7 +554,7 @@ def draw_layers():
             if level(name) != number:
                 continue
             says, path = WAY[name]
-            below = [b for b in CRATES[name] if b in CRATES]
+            below = below_in_drawing(name)
             lines.append(f"│ {'' if shown else number:>2} │ " + f"{name:<15}{says}".ljust(width - 1) + "│")
             lines.append("│    │ " + (" " * 15 + path.removeprefix(f"crates/{name}/")).ljust(width - 1) + "│")
             for part in textwrap.wrap("uses " + short(below), width - 16) if below else []:

@@ -44,21 +44,29 @@ pub record EndsAskingUnchecked (asks : Bool) (gives : List ℕ → List ℕ → 
   pub asked : Unchecked
   pub ended : EndsUnchecked gives lacks asked old new err_old err_new status
 
+-- the word asks for the judgement of C files
+abbrev pub asks_for_c : List ℕ → Bool
+asks_for_c word = bytes_eq word (codes "c")
+
+-- the command line may ask for it, by one of its words; what is written then is left open
+pub record EndsAskingForC (asks_c : Bool) : Type 0 where
+  pub word : asks_c ≡ true
+
 -- the command line is wrong or asks for help, and the status is 2; or memory was refused, and the status is 3
 abbrev pub IsRefused : Option (List ℕ) → Option (List ℕ) → ℕ → Type 0
 IsRefused err_old err_new status = (status ≡ 2) ⊎ ((status ≡ 3)
     × AppendsBeginning err_old err_new (fault_text NoMemory))
 
-abbrev pub Ends : Bool → (List ℕ → List ℕ → Type 0) → (List ℕ → Type 0) → Paint → Option (List ℕ) → Option (List ℕ)
-    → Option (List ℕ) → Option (List ℕ) → ℕ → Type 0
-Ends asks gives lacks paint old new err_old err_new status =
+abbrev pub Ends : Bool → Bool → (List ℕ → List ℕ → Type 0) → (List ℕ → Type 0) → Paint → Option (List ℕ)
+    → Option (List ℕ) → Option (List ℕ) → Option (List ℕ) → ℕ → Type 0
+Ends asks asks_c gives lacks paint old new err_old err_new status =
     IsDoneAsking gives paint old new err_old err_new ⊎ ChecksFiles gives lacks old new err_old err_new status
-    ⊎ EndsAskingUnchecked asks gives lacks old new err_old err_new status
+    ⊎ EndsAskingUnchecked asks gives lacks old new err_old err_new status ⊎ EndsAskingForC asks_c
 
-abbrev pub Stops : Bool → (List ℕ → List ℕ → Type 0) → (List ℕ → Type 0) → Paint → Option (List ℕ) → Option (List ℕ)
-    → Option (List ℕ) → Option (List ℕ) → ℕ → Type 0
-Stops asks gives lacks paint old new err_old err_new status =
+abbrev pub Stops : Bool → Bool → (List ℕ → List ℕ → Type 0) → (List ℕ → Type 0) → Paint → Option (List ℕ)
+    → Option (List ℕ) → Option (List ℕ) → Option (List ℕ) → ℕ → Type 0
+Stops asks asks_c gives lacks paint old new err_old err_new status =
     IsStoppedAsking gives lacks paint old new err_old err_new status
     ⊎ ChecksFiles gives lacks old new err_old err_new status
-    ⊎ EndsAskingUnchecked asks gives lacks old new err_old err_new status
+    ⊎ EndsAskingUnchecked asks gives lacks old new err_old err_new status ⊎ EndsAskingForC asks_c
     ⊎ ((new ≡ old) × IsRefused err_old err_new status)

@@ -1,13 +1,14 @@
 ghost use Rattle.std.specs.Prelude.{◌≡◌, ◌≢◌, ◌≤◌};
 ghost use Rattle.std.specs.List.{list_any};
 ghost use Rattle.brc_report.specs.declared.paint.Paint.TheVariants.{Plain};
-ghost use Rattle.brc_arguments.specs.Acts.{Ends, Stops, IsRefused, asks_for_run};
+ghost use Rattle.brc_arguments.specs.Acts.{Ends, Stops, IsRefused, asks_for_c, asks_for_run};
 ghost use Rattle.clap.specs.Words.{kind_of};
 ghost use Rattle.clap.specs.declared.error.kind.ErrorKind.TheVariants.{OutOfMemory};
 
 use crate::command::parse;
 use crate::not_asked::NotAsked;
 use crate::request::Request;
+use brc_c_command::judge_c;
 use brc_command::{
     Load, NoTerminal, Save, StepFault, Stop, Terminal, check_files, execute_on, execute_unchecked,
     write_stop,
@@ -26,8 +27,9 @@ const USAGE: u8 = 2;
 /// Carries out a command line, whose first word is the program's own name, and returns the exit status.
 ///
 /// The status is 2 for a wrong command line or a call for help, 3 if memory is refused, and otherwise that of
-/// `execute` or `check_files`. If it isn't 0, standard error has the reason, unless the object of a file gives it. An
-/// error of standard error is ignored. Nobody watches: no text is coloured, and no progress is shown.
+/// `execute`, `check_files` or `judge_c`. If it isn't 0, standard error has the reason, unless the object of a file or
+/// the lines about C files give it. An error of standard error is ignored. Nobody watches: no text is coloured, and no
+/// progress is shown.
 pub fn act<R: System, S: AsStr, L: Load + Save, W: Write, E: Write>(
     rt: &R,
     alloc: Global,
@@ -38,9 +40,11 @@ pub fn act<R: System, S: AsStr, L: Load + Save, W: Write, E: Write>(
 ) -> u8
     ensures known { result ≤ 3 }
     ensures done { result ≡ 0 → Ends (list_any (λ word. asks_for_run (S.text word)) words.now)
+        (list_any (λ word. asks_for_c (S.text word)) words.now)
         (L.may_give load.old) (L.may_lack load.old) Plain (W.contents out.old) (W.contents out.new)
         (E.contents err.old) (E.contents err.new) result }
     ensures stopped { result ≢ 0 → Stops (list_any (λ word. asks_for_run (S.text word)) words.now)
+        (list_any (λ word. asks_for_c (S.text word)) words.now)
         (L.may_give load.old) (L.may_lack load.old) Plain (W.contents out.old) (W.contents out.new)
         (E.contents err.old) (E.contents err.new) result }
 {
@@ -59,9 +63,11 @@ pub fn act_on<R: System, S: AsStr, L: Load + Save, T: Terminal, W: Write, E: Wri
 ) -> u8
     ensures known { result ≤ 3 }
     ensures done { result ≡ 0 → Ends (list_any (λ word. asks_for_run (S.text word)) words.now)
+        (list_any (λ word. asks_for_c (S.text word)) words.now)
         (L.may_give load.old) (L.may_lack load.old) (T.paint_of terminal.old)
         (W.contents out.old) (W.contents out.new) (E.contents err.old) (E.contents err.new) result }
     ensures stopped { result ≢ 0 → Stops (list_any (λ word. asks_for_run (S.text word)) words.now)
+        (list_any (λ word. asks_for_c (S.text word)) words.now)
         (L.may_give load.old) (L.may_lack load.old) (T.paint_of terminal.old)
         (W.contents out.old) (W.contents out.new) (E.contents err.old) (E.contents err.new) result }
 {
@@ -74,6 +80,10 @@ pub fn act_on<R: System, S: AsStr, L: Load + Save, T: Terminal, W: Write, E: Wri
             // Clap takes no other word for the two options.
             Some(Request::Unchecked(asked)) if any_asks_for_run(words) => {
                 execute_unchecked(alloc, &asked, load, terminal, out, err)
+            }
+            // Nor another word for this command.
+            Some(Request::C(asked)) if any_asks_for_c(words) => {
+                judge_c(alloc, &asked, load, out, err)
             }
             _ => {
                 let _ = write_bytes(b"error: a command is required\n", err);
@@ -120,4 +130,20 @@ fn asks_for_run(word: &[u8]) -> bool
     let schedule: &[u8] = b"--schedule";
     let unchecked: &[u8] = b"--unchecked";
     word == schedule || word == unchecked
+}
+
+/// Returns whether one of the words asks for the judgement of C files.
+fn any_asks_for_c<S: AsStr>(words: &[S]) -> bool
+    ensures { result ≡ list_any (λ word. asks_for_c (S.text word)) words.now }
+{
+    words
+        .iter()
+        .any(|word| asks_for_c(word.as_str().as_bytes()))
+}
+
+fn asks_for_c(word: &[u8]) -> bool
+    ensures { result ≡ asks_for_c word.now }
+{
+    let name: &[u8] = b"c";
+    word == name
 }

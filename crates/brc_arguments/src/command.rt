@@ -1,6 +1,7 @@
 ghost use Rattle.std.specs.Prelude.{◌≡◌, ◌↔◌, IfSome, IsTrue, map};
 ghost use Rattle.brc_arguments.specs.Options.{AsksForJson, AsksToCheck, AsksToRun, AsksToStep, words_of};
 
+use crate::c_files::{c_command, c_of};
 use crate::not_asked::NotAsked;
 use crate::request::Request;
 use crate::unchecked::{unchecked_step_of, with_schedule, wrong_run_of};
@@ -77,7 +78,8 @@ fn program<'a>(alloc: Global) -> Result<Command<'a>, AllocError> {
         .subcommand(check_command(alloc)?)?
         .subcommand(run_command(alloc)?)?
         .subcommand(step_command(alloc)?)?
-        .subcommand(explain_command(alloc)?)
+        .subcommand(explain_command(alloc)?)?
+        .subcommand(c_command(alloc)?)
 }
 
 fn check_command<'a>(alloc: Global) -> Result<Command<'a>, AllocError> {
@@ -239,6 +241,9 @@ fn asked_in<'m>(matches: &'m ArgMatches<'_>) -> Option<Request<'m>> {
     }
     if let Some(explain) = matches.subcommand_matches("explain") {
         return explanation_in(explain);
+    }
+    if let Some(c) = matches.subcommand_matches("c") {
+        return Some(c_of(c));
     }
     match matches.subcommand_matches("step") {
         Some(step) if step.get_flag("unchecked") => unchecked_step_of(step),

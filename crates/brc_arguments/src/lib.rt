@@ -2,6 +2,7 @@
 #![tactic(auto)]
 
 mod acting;
+mod c_files;
 mod command;
 mod not_asked;
 mod request;

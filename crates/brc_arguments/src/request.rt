@@ -1,3 +1,4 @@
+use brc_c_program::Asked as AskedOfC;
 use brc_command::{Asked, Format, Unchecked};
 
 /// What a command line asks for.
@@ -9,4 +10,6 @@ pub enum Request<'a> {
     Files(&'a [&'a str], Format<'a>),
     /// A run of a module that the checker may refuse.
     Unchecked(Unchecked<'a>),
+    /// The judgement of C files.
+    C(AskedOfC<'a>),
 }

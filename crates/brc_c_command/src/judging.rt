@@ -1,0 +1,51 @@
+ghost use Rattle.std.specs.Prelude.{◌≤◌};
+
+use crate::loaded::Loaded;
+use brc_c_program::{Asked, Judgement, Status, judge_files};
+use brc_command::{Load, StepFault, Stop, write_stop};
+use brc_lang::write_bytes;
+use std::alloc::Global;
+use std::io::Write;
+
+/// Judges the functions of C files, writes what is found of them, and returns the exit status.
+///
+/// The status is 0 if there is no error, 1 if there is one, 2 if a file can't be read, a function isn't, or the output
+/// can't be written, and 3 if memory is refused. What is found is on standard output, and why a file can't be read on
+/// standard error, of which an error is ignored.
+pub fn judge_c<L: Load, W: Write, E: Write>(
+    alloc: Global,
+    asked: &Asked<'_>,
+    load: &mut L,
+    out: &mut W,
+    err: &mut E,
+) -> u8
+    ensures known { result ≤ 3 }
+{
+    match judge_files(alloc, asked, &mut Loaded { alloc, load }) {
+        Ok(judgement) => write_judgement(&judgement, out, err),
+        Err(_) => stop_for(StepFault::NoMemory, err),
+    }
+}
+
+fn write_judgement<W: Write, E: Write>(judgement: &Judgement, out: &mut W, err: &mut E) -> u8
+    ensures known { result ≤ 3 }
+{
+    if write_bytes(judgement.text.as_str().as_bytes(), out).is_err() {
+        return stop_for(StepFault::Output, err);
+    }
+    let _ = write_bytes(judgement.errors.as_str().as_bytes(), err);
+    match judgement.status {
+        Status::NoError => 0,
+        Status::Error => 1,
+        Status::NotRead => 2,
+    }
+}
+
+/// Writes why the command stops, and returns its status.
+fn stop_for<E: Write>(fault: StepFault, err: &mut E) -> u8
+    ensures known { result ≤ 3 }
+{
+    let stop = Stop::Fault(fault);
+    let _ = write_stop(&stop, err);
+    stop.status()
+}

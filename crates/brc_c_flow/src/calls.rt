@@ -1,0 +1,222 @@
+//! Calls: what is called, and what its arguments are for.
+
+use crate::building::{Branches, Builder};
+use crate::operand::{Operand, Site, Want};
+use crate::passing::{Passing, argument_want, passed};
+use crate::references::Counting;
+use crate::stop::Stop;
+use brc_c_graph::{NodeId, Words};
+use brc_c_store::{Event, Local};
+use brc_c_table::{Gives, Row};
+use brc_c_text::Symbol;
+use brc_c_tree::{Expression, ExpressionId, List};
+
+impl<'a> Builder<'a> {
+    /// Adds a call: what happens in its arguments, from left to right, and then what it does itself.
+    #[cycle(expression)]
+    pub(crate) fn call(
+        &mut self,
+        id: ExpressionId,
+        function: ExpressionId,
+        arguments: List,
+        want: Want,
+        depth: usize,
+    ) -> Result<Operand, Stop> {
+        let tree = self.tree;
+        let ids = tree.operands(arguments);
+        let name = self.called_name(function);
+        if is_cast(name) {
+            if let [only] = ids {
+                return self.value(*only, want.of_object(), depth);
+            }
+        }
+        if is_assertion(name) {
+            return self.assertion(ids, depth);
+        }
+        if is_nothing(name, want) {
+            return Ok(Operand::Plain);
+        }
+        if name.is_empty() {
+            let base = self.parts(function, depth)?;
+            self.use_base(function, base)?;
+        }
+        let how = self.passings(function, ids)?;
+        let mut operands = Vec::new(self.alloc);
+        for (at, argument) in ids.iter().enumerate() {
+            let want = self.want_of(name, how.as_slice(), at);
+            operands.push(self.value(*argument, want, depth)?)?;
+        }
+        self.called(id, function, ids, operands.as_slice(), how.as_slice(), want)
+    }
+
+    /// Adds an assertion: where it doesn't hold, the process ends. One that calls something isn't looked into.
+    #[cycle(expression)]
+    fn assertion(&mut self, ids: &[ExpressionId], depth: usize) -> Result<Operand, Stop> {
+        let Some(first) = ids.first() else {
+            return Ok(Operand::Plain);
+        };
+        if self.traits_of(*first).has_effect {
+            return Ok(Operand::Plain);
+        }
+        let place = self.place_of(*first);
+        let branches = self.branches(place)?;
+        self.condition(*first, branches, depth)?;
+        self.land(branches.fails);
+        self.end(Event::Halt, place)?;
+        self.land(branches.holds);
+        Ok(Operand::Plain)
+    }
+
+    /// Returns the name of the function that is called, or no bytes if it isn't called by a name.
+    fn called_name(&self, function: ExpressionId) -> &'a [u8] {
+        let symbols = self.symbols;
+        match self.tree.expression(function) {
+            Some(Expression::Name(name)) => symbols.text(name),
+            _ => b"",
+        }
+    }
+
+    /// Returns the row of what is called.
+    pub(crate) fn row_of(&self, function: ExpressionId) -> Option<&'a Row> {
+        let tables = self.tables;
+        let symbols = self.symbols;
+        match self.tree.expression(self.without_casts(function))? {
+            Expression::Name(name) => tables.row(symbols.text(name)),
+            Expression::Field { name, .. } => tables.field(symbols.text(name)),
+            _ => None,
+        }
+    }
+
+    /// Returns what an argument of a call is for.
+    fn want_of(&self, name: &[u8], how: &[Passing], at: usize) -> Want {
+        match Counting::of(name) {
+            Some(counting) => Want {
+                is_asked: counting.may_be_null(),
+                ..Want::OBJECT
+            },
+            None if how.is_empty() => Want::ASKED,
+            None => argument_want(passed(how, at)),
+        }
+    }
+
+    /// Adds what a call does whose arguments have these values.
+    fn called(
+        &mut self,
+        id: ExpressionId,
+        function: ExpressionId,
+        ids: &[ExpressionId],
+        operands: &[Operand],
+        how: &[Passing],
+        want: Want,
+    ) -> Result<Operand, Stop> {
+        let name = self.called_name(function);
+        let site = Site {
+            id,
+            place: self.place_of(function),
+            words: self.callee_words(function)?,
+        };
+        if let Some(counting) = Counting::of(name) {
+            return self.count(counting, ids, operands, site);
+        }
+        if is_end(name) {
+            self.end(Event::Halt, site.place)?;
+            return Ok(Operand::Plain);
+        }
+        match self.row_of(function) {
+            Some(row) if how.len() == operands.len() => {
+                self.table_call(row, ids, operands, how, site, want)
+            }
+            _ => self.assumed_call(name, operands, site, want),
+        }
+    }
+
+    /// Returns the words for what is called: the name of a function or of a field in the table, or all words.
+    fn callee_words(&mut self, function: ExpressionId) -> Result<Words, Stop> {
+        match self.tree.expression(self.without_casts(function)) {
+            Some(Expression::Field { name, .. }) if self.row_of(function).is_some() => {
+                self.words_of_symbol(name)
+            }
+            _ => self.words_of(function),
+        }
+    }
+
+    pub(crate) fn last_name(&self, function: ExpressionId) -> Symbol {
+        match self.tree.expression(self.without_casts(function)) {
+            Some(Expression::Name(name) | Expression::Field { name, .. }) => name,
+            _ => Symbol::EMPTY,
+        }
+    }
+
+    /// Leads a path past what is done only if a name doesn't have NULL. Returns where it goes on in both cases.
+    pub(crate) fn unless_null(&mut self, id: ExpressionId, local: Local) -> Result<NodeId, Stop> {
+        let place = self.place_of(id);
+        let Branches { holds, fails } = self.branches(place)?;
+        self.ask_null(id, local, Branches { holds, fails })?;
+        self.land(fails);
+        Ok(holds)
+    }
+}
+
+/// Returns whether a function gives an object: by its row, if it has one.
+pub(crate) fn gives_object(name: &[u8], row: Option<&Row>) -> bool {
+    if matches!(name, b"Py_NewRef" | b"Py_XNewRef") {
+        return true;
+    }
+    match row {
+        Some(row) => {
+            name != b"PyErr_Occurred".as_slice()
+                && matches!(
+                    row.gives,
+                    Gives::New
+                        | Gives::Item { .. }
+                        | Gives::Part { .. }
+                        | Gives::Lent
+                        | Gives::Same { .. }
+                )
+        }
+        None => false,
+    }
+}
+
+/// Returns whether a macro of this name is a cast.
+pub(crate) fn is_cast(name: &[u8]) -> bool {
+    matches!(name, b"PyObject_CAST" | b"_PyObject_CAST")
+}
+
+/// Returns whether a function of this name gives its first argument, and says how often it isn't 0.
+pub(crate) fn is_expectation(name: &[u8]) -> bool {
+    matches!(name, b"likely" | b"unlikely" | b"__builtin_expect")
+}
+
+fn is_assertion(name: &[u8]) -> bool {
+    name == b"assert".as_slice()
+}
+
+/// Returns whether a call does nothing with objects, and its arguments aren't looked into.
+fn is_nothing(name: &[u8], want: Want) -> bool {
+    if name == b"PyErr_Occurred".as_slice() {
+        return !want.is_object;
+    }
+    matches!(
+        name,
+        b"Py_BUILD_ASSERT" | b"static_assert" | b"va_start" | b"va_end" | b"Py_UNUSED"
+    )
+}
+
+/// Returns whether a function of this name doesn't return.
+fn is_end(name: &[u8]) -> bool {
+    matches!(
+        name,
+        b"abort"
+            | b"exit"
+            | b"_exit"
+            | b"longjmp"
+            | b"siglongjmp"
+            | b"__builtin_unreachable"
+            | b"Py_FatalError"
+            | b"_Py_FatalErrorFormat"
+            | b"Py_Exit"
+            | b"Py_ExitStatusException"
+            | b"Py_UNREACHABLE"
+    )
+}

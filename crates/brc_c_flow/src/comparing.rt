@@ -1,0 +1,151 @@
+//! Comparisons of two values.
+
+use crate::building::{Branches, Builder};
+use crate::operand::Operand;
+use crate::stop::Stop;
+use brc_c_store::{Comparison, Event, Local, Singleton, Test};
+use brc_c_tree::{Binary, ExpressionId};
+
+impl<'a> Builder<'a> {
+    /// Asks how two values compare, after which no path is open.
+    pub(crate) fn compare(
+        &mut self,
+        id: ExpressionId,
+        operator: Binary,
+        left: Operand,
+        right: Operand,
+        branches: Branches,
+    ) -> Result<(), Stop> {
+        let comparison = comparison_of(operator);
+        match (left, right) {
+            (Operand::Object(local), other) | (other, Operand::Object(local)) if other.is_null() =>
+                { self.compare_null(id, comparison, local, branches) }
+            (Operand::Counted(of), Operand::Null | Operand::Number(_)) => {
+                let test = Test {
+                    comparison,
+                    constant: constant_of(right),
+                };
+                self.ask_sign(id, of, test, branches)
+            }
+            (Operand::Null | Operand::Number(_), Operand::Counted(of)) => {
+                let test = Test {
+                    comparison: mirrored(comparison),
+                    constant: constant_of(left),
+                };
+                self.ask_sign(id, of, test, branches)
+            }
+            (Operand::Object(local), Operand::Singleton(singleton))
+            | (Operand::Singleton(singleton), Operand::Object(local)) => {
+                self.compare_singleton(id, comparison, local, singleton, branches)
+            }
+            _ => self.compare_constants(id, comparison, left, right, branches),
+        }
+    }
+
+    fn compare_null(
+        &mut self,
+        id: ExpressionId,
+        comparison: Comparison,
+        local: Local,
+        branches: Branches,
+    ) -> Result<(), Stop> {
+        match comparison {
+            Comparison::Equal => self.ask_null(id, local, branches),
+            Comparison::NotEqual => self.ask_null(id, local, branches.swapped()),
+            _ => self.ask_words(id, None, branches),
+        }
+    }
+
+    /// A variable has a singleton exactly if the function has assigned it, if it assigns it anywhere.
+    fn compare_singleton(
+        &mut self,
+        id: ExpressionId,
+        comparison: Comparison,
+        local: Local,
+        singleton: Singleton,
+        branches: Branches,
+    ) -> Result<(), Stop> {
+        if !self.is_singled(local, singleton) {
+            return self.ask_words(id, None, branches);
+        }
+        let branches = match comparison {
+            Comparison::Equal => branches,
+            Comparison::NotEqual => branches.swapped(),
+            _ => return self.ask_words(id, None, branches),
+        };
+        let words = self.words_of(id)?;
+        let event = Event::Is { local, singleton };
+        self.ask(event, self.place_of(id), Some(words), branches)
+    }
+
+    /// Compares values that are known before the function runs, or of which nothing is known.
+    fn compare_constants(
+        &mut self,
+        id: ExpressionId,
+        comparison: Comparison,
+        left: Operand,
+        right: Operand,
+        branches: Branches,
+    ) -> Result<(), Stop> {
+        match (number_of(left), number_of(right)) {
+            (Some(one), Some(other)) => {
+                let holds = compares(comparison, one, other);
+                self.jump(if holds {
+                    branches.holds
+                } else {
+                    branches.fails
+                });
+                Ok(())
+            }
+            _ => self.ask_freely(id, branches),
+        }
+    }
+}
+
+fn number_of(value: Operand) -> Option<i64> {
+    match value {
+        Operand::Null => Some(0),
+        Operand::Number(number) => Some(number),
+        _ => None,
+    }
+}
+
+fn constant_of(value: Operand) -> i64 {
+    match value {
+        Operand::Number(number) => number,
+        _ => 0,
+    }
+}
+
+fn compares(comparison: Comparison, left: i64, right: i64) -> bool {
+    match comparison {
+        Comparison::Equal => left == right,
+        Comparison::NotEqual => left != right,
+        Comparison::Less => left < right,
+        Comparison::LessEqual => left <= right,
+        Comparison::Greater => left > right,
+        Comparison::GreaterEqual => left >= right,
+    }
+}
+
+/// Returns the comparison that holds for the sides exchanged.
+fn mirrored(comparison: Comparison) -> Comparison {
+    match comparison {
+        Comparison::Less => Comparison::Greater,
+        Comparison::LessEqual => Comparison::GreaterEqual,
+        Comparison::Greater => Comparison::Less,
+        Comparison::GreaterEqual => Comparison::LessEqual,
+        Comparison::Equal | Comparison::NotEqual => comparison,
+    }
+}
+
+fn comparison_of(operator: Binary) -> Comparison {
+    match operator {
+        Binary::NotEqual => Comparison::NotEqual,
+        Binary::Less => Comparison::Less,
+        Binary::LessEqual => Comparison::LessEqual,
+        Binary::Greater => Comparison::Greater,
+        Binary::GreaterEqual => Comparison::GreaterEqual,
+        _ => Comparison::Equal,
+    }
+}

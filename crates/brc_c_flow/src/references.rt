@@ -1,0 +1,187 @@
+//! Calls that count references and do nothing else, as `Py_INCREF`.
+
+use crate::building::Builder;
+use crate::names::Kind;
+use crate::operand::{Operand, Site, Want};
+use crate::reasons::FlowReason;
+use crate::stop::Stop;
+use brc_c_store::{Event, Local, Source};
+use brc_c_tree::{Expression, ExpressionId, Unary};
+
+/// What is done to references.
+#[derive(Clone, Copy)]
+pub(crate) enum Counting {
+    Take,
+    TakeOrNull,
+    Release,
+    ReleaseOrNull,
+    NewRef,
+    NewRefOrNull,
+    Clear,
+    Replace,
+    ReplaceOrNull,
+}
+
+/// Where an argument has its object from.
+#[derive(Clone, Copy)]
+enum Origin {
+    Variable,
+    /// A field, or a variable that is there after the call, too.
+    Kept,
+    Element,
+    /// The value of any other expression.
+    Value,
+}
+
+impl Counting {
+    pub(crate) fn of(name: &[u8]) -> Option<Counting> {
+        match name {
+            b"Py_INCREF" => Some(Counting::Take),
+            b"Py_XINCREF" | b"Py_IncRef" => Some(Counting::TakeOrNull),
+            b"Py_DECREF" => Some(Counting::Release),
+            b"Py_XDECREF" | b"Py_DecRef" => Some(Counting::ReleaseOrNull),
+            b"Py_NewRef" => Some(Counting::NewRef),
+            b"Py_XNewRef" => Some(Counting::NewRefOrNull),
+            b"Py_CLEAR" => Some(Counting::Clear),
+            b"Py_SETREF" => Some(Counting::Replace),
+            b"Py_XSETREF" => Some(Counting::ReplaceOrNull),
+            _ => None,
+        }
+    }
+
+    /// Returns whether NULL serves too.
+    pub(crate) fn may_be_null(self) -> bool {
+        match self {
+            Counting::TakeOrNull
+            | Counting::ReleaseOrNull
+            | Counting::NewRefOrNull
+            | Counting::Clear
+            | Counting::ReplaceOrNull => true,
+            Counting::Take | Counting::Release | Counting::NewRef | Counting::Replace => false,
+        }
+    }
+
+    fn replaces(self) -> bool {
+        matches!(
+            self,
+            Counting::Clear | Counting::Replace | Counting::ReplaceOrNull
+        )
+    }
+}
+
+impl<'a> Builder<'a> {
+    /// Adds what a call does to the references of its argument.
+    pub(crate) fn count(
+        &mut self,
+        counting: Counting,
+        ids: &[ExpressionId],
+        operands: &[Operand],
+        site: Site,
+    ) -> Result<Operand, Stop> {
+        let (Some(id), Some(operand)) = (ids.first(), operands.first()) else {
+            return Err(self.stop_at(site.id, FlowReason::Expression));
+        };
+        if let Some(reason) = refused(counting, self.origin(*id)) {
+            return Err(self.stop_at(*id, reason));
+        }
+        let local = self.counted(*id, *operand)?;
+        if counting.replaces() {
+            self.replace(counting, ids, operands, local, site)?;
+            return Ok(Operand::Plain);
+        }
+        let event = match counting {
+            Counting::Release | Counting::ReleaseOrNull => Event::Release(local),
+            _ => Event::Take(local),
+        };
+        if counting.may_be_null() {
+            let end = self.unless_null(*id, local)?;
+            self.emit(event, site.place, Some(site.words))?;
+            self.land(end);
+        } else {
+            self.emit(event, site.place, Some(site.words))?;
+        }
+        match counting {
+            Counting::NewRef | Counting::NewRefOrNull => Ok(Operand::Object(local)),
+            _ => Ok(Operand::Plain),
+        }
+    }
+
+    /// Gives a variable another value, and gives up what it had.
+    fn replace(
+        &mut self,
+        counting: Counting,
+        ids: &[ExpressionId],
+        operands: &[Operand],
+        local: Local,
+        site: Site,
+    ) -> Result<(), Stop> {
+        let old = self.unnamed()?;
+        self.copy(old, Source::Local(local), site.place)?;
+        match (ids.get(1), operands.get(1)) {
+            (Some(id), Some(value)) => self.settle(*id, *value, Want::OBJECT.into(local))?,
+            _ => self.copy(local, Source::Null, site.place)?,
+        }
+        let Some(id) = ids.first() else {
+            return Ok(());
+        };
+        if counting.may_be_null() {
+            let end = self.unless_null(*id, old)?;
+            self.emit(Event::Release(old), site.place, Some(site.words))?;
+            self.land(end);
+        } else {
+            self.emit(Event::Release(old), site.place, Some(site.words))?;
+        }
+        Ok(())
+    }
+
+    /// Returns the name that has what is counted.
+    fn counted(&mut self, id: ExpressionId, operand: Operand) -> Result<Local, Stop> {
+        if let Operand::Object(local) = operand {
+            return Ok(local);
+        }
+        if let Operand::Singleton(singleton) = operand {
+            if let Some(local) = self.singleton_local(singleton)? {
+                return Ok(local);
+            }
+        }
+        let to = self.unnamed()?;
+        self.settle(id, operand, Want::OBJECT.into(to))?;
+        Ok(to)
+    }
+
+    /// Returns where an argument has its object from.
+    fn origin(&self, id: ExpressionId) -> Origin {
+        match self.tree.expression(self.without_casts(id)) {
+            Some(Expression::Name(name)) => match self.kind(name) {
+                Some(Kind::Object) => Origin::Variable,
+                Some(Kind::Static) => Origin::Kept,
+                Some(_) => Origin::Value,
+                None if self.types.variable(name).is_some() => Origin::Kept,
+                None => Origin::Value,
+            },
+            Some(Expression::Field { .. }) => Origin::Kept,
+            _ if self.element(id).is_some() => Origin::Variable,
+            _ if self.is_lent_element(id) => Origin::Value,
+            Some(
+                Expression::Index { .. }
+                | Expression::Unary {
+                    operator: Unary::Dereference,
+                    ..
+                },
+            ) => Origin::Element,
+            _ => Origin::Value,
+        }
+    }
+}
+
+/// Returns why the references of an argument can't be counted.
+fn refused(counting: Counting, origin: Origin) -> Option<FlowReason> {
+    match (counting, origin) {
+        (Counting::NewRef | Counting::NewRefOrNull, _) | (_, Origin::Variable) => None,
+        (Counting::Take | Counting::TakeOrNull, Origin::Kept) => Some(FlowReason::FieldTaken),
+        (_, Origin::Kept) => Some(FlowReason::FieldGivenUp),
+        (_, Origin::Element) => Some(FlowReason::ElementCounted),
+        (_, Origin::Value) if counting.replaces() => Some(FlowReason::Expression),
+        (_, Origin::Value) => None,
+    }
+}

@@ -1,0 +1,298 @@
+//! What a call of the table gives, and what it leaves on each way after it.
+
+use crate::arguments::container_of;
+use crate::building::Builder;
+use crate::operand::{Operand, Site, Want};
+use crate::passing::{Passing, passed};
+use crate::stop::Stop;
+use brc_c_store::{Calling, Choice, Event, Gives, Local, Signs, Source};
+use brc_c_table::{Fails, Gives as Given, Row, Takes};
+
+/// What a call gives, and the name that it goes into.
+#[derive(Clone, Copy)]
+pub(crate) struct Outcome {
+    pub(crate) gives: Gives,
+    pub(crate) into: Option<Local>,
+    pub(crate) calling: Calling,
+    /// What the call's expression has afterwards.
+    pub(crate) value: Operand,
+}
+
+impl<'a> Builder<'a> {
+    /// Returns what a call gives.
+    pub(crate) fn outcome_of(
+        &mut self,
+        row: &Row,
+        operands: &[Operand],
+        how: &[Passing],
+        want: Want,
+    ) -> Result<Outcome, Stop> {
+        let mut outcome = Outcome {
+            gives: Gives::Nothing,
+            into: None,
+            calling: calling_of(row.fails),
+            value: Operand::Plain,
+        };
+        match gives_of(row, operands) {
+            Some(gives) => {
+                let into = self.destination(want)?;
+                outcome.gives = gives;
+                outcome.into = Some(into);
+                outcome.value = Operand::Object(into);
+                // A borrowed result of which nobody asks whether it is NULL is taken for certain.
+                if is_borrowed(gives) && !want.is_asked {
+                    outcome.calling = Calling::Succeeds;
+                }
+            }
+            None => outcome.value = self.number_of(row, operands, want)?,
+        }
+        if outcome.into.is_none() {
+            give_first_out(row.fails, operands, how, &mut outcome);
+        }
+        Ok(outcome)
+    }
+
+    /// Returns what a call has that makes no object: a number, if it matters.
+    fn number_of(&mut self, row: &Row, operands: &[Operand], want: Want) -> Result<Operand, Stop> {
+        match row.gives {
+            Given::Null => Ok(Operand::Null),
+            Given::Same { argument } => Ok(operand_at(operands, argument)),
+            Given::Number if row.fails != Fails::Never => match want.into {
+                Some(local) if !want.is_object => Ok(Operand::Counted(local)),
+                _ if want.is_asked => Ok(Operand::Counted(self.unnamed()?)),
+                _ => Ok(Operand::Plain),
+            },
+            _ => Ok(Operand::Plain),
+        }
+    }
+
+    /// Adds what a call leaves that succeeds.
+    pub(crate) fn succeed(
+        &mut self,
+        row: &Row,
+        operands: &[Operand],
+        how: &[Passing],
+        outcome: &Outcome,
+        site: Site,
+    ) -> Result<(), Stop> {
+        let container = container_of(operands);
+        for (at, operand) in operands.iter().enumerate() {
+            match (passed(how, at), *operand) {
+                (Passing::Lent { is_optional }, Operand::Address(to)) => {
+                    self.lend(to, container, is_optional, site)?;
+                }
+                (Passing::Converted, Operand::Address(to)) => {
+                    self.lend(to, container, true, site)?;
+                    self.at_site(Event::Assume(to), site)?;
+                }
+                (Passing::Table(takes), _) => {
+                    self.succeed_with(takes, *operand, container, outcome, site)?;
+                }
+                _ => {}
+            }
+        }
+        self.set_number(outcome, success(row.fails), site)
+    }
+
+    fn lend(
+        &mut self,
+        to: Local,
+        lender: Option<Local>,
+        is_optional: bool,
+        site: Site,
+    ) -> Result<(), Stop> {
+        let event = Event::Lend {
+            to,
+            lender,
+            is_optional,
+        };
+        self.at_site(event, site)?;
+        Ok(())
+    }
+
+    /// Adds what a call that succeeds does with an argument.
+    fn succeed_with(
+        &mut self,
+        takes: Takes,
+        operand: Operand,
+        container: Option<Local>,
+        outcome: &Outcome,
+        site: Site,
+    ) -> Result<(), Stop> {
+        match (takes, operand) {
+            (Takes::Out | Takes::InOut, Operand::Address(local)) => {
+                if outcome.into != Some(local) {
+                    self.store_out(MADE, local, site)?;
+                }
+                Ok(())
+            }
+            (Takes::InOutOrNull, Operand::Address(local)) => {
+                self.store_or_null(MADE, local, site)
+            }
+            (Takes::OutBorrowed, Operand::Address(local)) => {
+                let gives = match container {
+                    Some(container) => Gives::Item(container),
+                    None => Gives::Lent,
+                };
+                self.store_out(gives, local, site)
+            }
+            (Takes::StolenOnSuccess, _) => self.give_argument(operand, None, site),
+            (Takes::KeptOnSuccess, _) => self.give_argument(operand, container, site),
+            _ => Ok(()),
+        }
+    }
+
+    /// Adds what a call leaves that fails, or that finds nothing.
+    pub(crate) fn fail(
+        &mut self,
+        operands: &[Operand],
+        how: &[Passing],
+        outcome: &Outcome,
+        signs: Signs,
+        site: Site,
+    ) -> Result<(), Stop> {
+        if let Operand::Object(local) = outcome.value {
+            if outcome.into == Some(local) {
+                self.copy(local, Source::Null, site.place)?;
+            }
+        }
+        for (at, operand) in operands.iter().enumerate() {
+            match (passed(how, at), *operand) {
+                (
+                    Passing::Table(Takes::Out | Takes::InOut | Takes::InOutOrNull),
+                    Operand::Address(local),
+                ) => self.copy(local, Source::Null, site.place)?,
+                (Passing::Table(Takes::StolenOnFailure), _) if signs != Signs::ZERO => {
+                    self.give_argument(*operand, None, site)?;
+                }
+                _ => {}
+            }
+        }
+        self.set_number(outcome, signs, site)
+    }
+
+    fn set_number(&mut self, outcome: &Outcome, signs: Signs, site: Site) -> Result<(), Stop> {
+        match outcome.value {
+            Operand::Counted(local) => self.copy(local, Source::Number(signs), site.place),
+            _ => Ok(()),
+        }
+    }
+
+    /// Stores an object where an argument points to, or NULL.
+    pub(crate) fn store_or_null(
+        &mut self,
+        gives: Gives,
+        local: Local,
+        site: Site,
+    ) -> Result<(), Stop> {
+        let event = Event::Call {
+            gives,
+            into: Some(local),
+            calling: Calling::MayFail,
+        };
+        let call = self.at_site(event, site)?;
+        let end = self.meeting(site.place)?;
+        self.jump(end);
+        self.resume(call, Choice::No);
+        self.copy(local, Source::Null, site.place)?;
+        self.land(end);
+        Ok(())
+    }
+
+    /// Stores an object where an argument points to.
+    fn store_out(&mut self, gives: Gives, local: Local, site: Site) -> Result<(), Stop> {
+        let event = Event::Call {
+            gives,
+            into: Some(local),
+            calling: Calling::Succeeds,
+        };
+        self.at_site(event, site)?;
+        Ok(())
+    }
+}
+
+/// What a call makes.
+pub(crate) const MADE: Gives = Gives::New {
+    is_fresh: true,
+    is_assumed: false,
+};
+
+/// Returns whose the object is that a call gives, if it gives one.
+fn gives_of(row: &Row, operands: &[Operand]) -> Option<Gives> {
+    match row.gives {
+        Given::New => Some(MADE),
+        Given::Item { argument } => match operand_at(operands, argument) {
+            Operand::Object(local) => Some(Gives::Item(local)),
+            _ => Some(Gives::Lent),
+        },
+        Given::Part { argument } => match operand_at(operands, argument) {
+            Operand::Object(local) => Some(Gives::Part(local)),
+            _ => Some(Gives::Lent),
+        },
+        Given::Lent => Some(Gives::Lent),
+        Given::Same { argument } => match operand_at(operands, argument) {
+            Operand::Object(local) => Some(Gives::Same(local)),
+            _ => None,
+        },
+        _ => None,
+    }
+}
+
+fn operand_at(operands: &[Operand], argument: u8) -> Operand {
+    match operands.get(usize::from(argument)) {
+        Some(operand) => *operand,
+        None => Operand::Plain,
+    }
+}
+
+fn is_borrowed(gives: Gives) -> bool {
+    matches!(gives, Gives::Item(_) | Gives::Part(_) | Gives::Lent)
+}
+
+/// The first reference that a call stores is what it gives, if it gives nothing else.
+fn give_first_out(fails: Fails, operands: &[Operand], how: &[Passing], outcome: &mut Outcome) {
+    for (at, operand) in operands.iter().enumerate() {
+        let Operand::Address(local) = *operand else {
+            continue;
+        };
+        match passed(how, at) {
+            Passing::Table(Takes::InOut) => {}
+            // If there is no exception, all that `PyErr_Fetch` sets is NULL.
+            Passing::Table(Takes::Out) if fails == Fails::Never => {
+                outcome.calling = Calling::MayFail;
+            }
+            Passing::Table(Takes::Out) => {}
+            _ => continue,
+        }
+        outcome.gives = MADE;
+        outcome.into = Some(local);
+        return;
+    }
+}
+
+fn calling_of(fails: Fails) -> Calling {
+    match fails {
+        Fails::Never => Calling::Succeeds,
+        Fails::Missing => Calling::MayMiss,
+        _ => Calling::MayFail,
+    }
+}
+
+/// Returns the signs of a number that says that the call succeeded.
+fn success(fails: Fails) -> Signs {
+    match fails {
+        Fails::Negative => Signs::ZERO,
+        Fails::Less => Signs::ZERO_OR_ABOVE,
+        Fails::Zero | Fails::Missing => Signs::ABOVE,
+        Fails::Null | Fails::Maybe | Fails::Never => Signs::ALL,
+    }
+}
+
+/// Returns the signs of a number that says that the call failed.
+pub(crate) fn failure(fails: Fails) -> Signs {
+    match fails {
+        Fails::Negative | Fails::Less | Fails::Missing => Signs::MINUS_ONE,
+        Fails::Zero => Signs::ZERO,
+        Fails::Null | Fails::Maybe | Fails::Never => Signs::ALL,
+    }
+}

@@ -1,0 +1,263 @@
+//! The search for all nodes of a graph in all stores in which a path reaches them. It goes breadth first, so that the
+//! first path to a block is a short one.
+
+use crate::block::{Block, Break, Held, Origin};
+use crate::breaking::write_break;
+use crate::emitting::{write_emptying, write_return};
+use crate::following::follow;
+use crate::image::Size;
+use crate::line::Line;
+use crate::liveness::Liveness;
+use brc_c_graph::{Graph, NodeId};
+use brc_c_store::{Event, RegisterSet, Rules, Store, faults};
+use brc_lang::CheckCode;
+use std::alloc::{AllocError, Global};
+use std::collections::{HashMap, VecDeque};
+
+/// How many blocks may have lines.
+const MOST_BLOCKS: usize = 2048;
+
+/// How many blocks there may be, with those for which nothing is written.
+const MOST_POINTS: usize = 16_384;
+
+/// What a search knows from the beginning on.
+#[derive(Clone, Copy)]
+pub(crate) struct Source<'a> {
+    pub(crate) alloc: Global,
+    pub(crate) rules: Rules,
+    pub(crate) graph: &'a Graph,
+    pub(crate) live: &'a Liveness,
+}
+
+/// A node in a normal store.
+#[derive(Debug, PartialEq, Eq, Hash, Drop)]
+struct Point {
+    node: NodeId,
+    store: Store,
+}
+
+/// A block whose event wasn't followed yet.
+#[derive(Debug, Drop)]
+pub(crate) struct Waiting {
+    pub(crate) block: usize,
+    pub(crate) node: NodeId,
+    pub(crate) store: Store,
+}
+
+/// The blocks of a function. The first one is the function's entry.
+#[derive(Drop)]
+pub(crate) struct Blocks {
+    blocks: Vec<Block>,
+    pub(crate) lines: Vec<Line>,
+    numbers: HashMap<Point, usize>,
+    waiting: VecDeque<Waiting>,
+    /// Whether a path was followed no further, since it has opened too many critical sections.
+    pub(crate) is_cut: bool,
+}
+
+impl Blocks {
+    pub(crate) fn new(alloc: Global) -> Blocks {
+        Blocks {
+            blocks: Vec::new(alloc),
+            lines: Vec::new(alloc),
+            numbers: HashMap::new(alloc),
+            waiting: VecDeque::new(alloc),
+            is_cut: false,
+        }
+    }
+
+    pub(crate) fn len(&self) -> usize {
+        self.blocks.len()
+    }
+
+    pub(crate) fn get(&self, number: usize) -> Option<Block> {
+        self.blocks.get(number).copied()
+    }
+
+    pub(crate) fn set(&mut self, number: usize, block: Block) {
+        if let Some(old) = self.blocks.get_mut(number) {
+            *old = block;
+        }
+    }
+
+    /// Adds a block that is no node's.
+    pub(crate) fn add(&mut self, block: Block) -> Result<usize, AllocError> {
+        let number = self.blocks.len();
+        self.blocks.push(block)?;
+        Ok(number)
+    }
+
+    /// Returns the block of a node in a normal store. A new one has to wait.
+    pub(crate) fn add_point(
+        &mut self,
+        rules: Rules,
+        node: NodeId,
+        store: Store,
+        origin: Origin,
+    ) -> Result<usize, AllocError> {
+        let point = Point { node, store };
+        if let Some(number) = self.numbers.get(&point) {
+            return Ok(*number);
+        }
+        let held = Held::of(rules, &point.store);
+        let block = self.add(Block::new(node, Some(origin), held))?;
+        self.waiting.push_back(Waiting {
+            block,
+            node,
+            store: point.store.clone()?,
+        })?;
+        self.numbers.insert(point, block)?;
+        Ok(block)
+    }
+}
+
+/// Finds all blocks. Returns what there is too much of, if anything.
+pub(crate) fn explore(source: &Source, blocks: &mut Blocks) -> Result<Option<Size>, AllocError> {
+    begin(source, blocks)?;
+    let mut written: usize = 0;
+    for _ in 0..MOST_POINTS {
+        let Some(waiting) = blocks.waiting.pop_front() else {
+            return Ok(None);
+        };
+        if let Some(size) = build(source, blocks, &waiting)? {
+            return Ok(Some(size));
+        }
+        if is_written(blocks.get(waiting.block)) {
+            written = written.saturating_add(1);
+        }
+        if written > MOST_BLOCKS {
+            return Ok(Some(Size::Blocks));
+        }
+    }
+    Ok(Some(Size::Blocks))
+}
+
+fn is_written(block: Option<Block>) -> bool {
+    match block {
+        Some(block) => block.passes_to().is_none(),
+        None => false,
+    }
+}
+
+/// By the rules of a global lock it is locked at the entry.
+fn begin(source: &Source, blocks: &mut Blocks) -> Result<(), AllocError> {
+    let rules = source.rules;
+    let store = Store::new(source.alloc);
+    let mut entry = Block::new(NodeId::ENTRY, None, Held::of(rules, &store));
+    if rules == Rules::GlobalLock {
+        blocks.lines.push(Line::Lock)?;
+    }
+    entry.end = blocks.lines.len();
+    let number = blocks.add(entry)?;
+    let origin = Origin {
+        block: number,
+        choice: None,
+    };
+    entry.next = Some(blocks.add_point(rules, NodeId::ENTRY, store, origin)?);
+    blocks.set(number, entry);
+    Ok(())
+}
+
+/// Writes the lines of a block, and finds those to which paths go on.
+fn build(
+    source: &Source,
+    blocks: &mut Blocks,
+    waiting: &Waiting,
+) -> Result<Option<Size>, AllocError> {
+    if !waiting.store.stale.is_empty() {
+        empty_registers(source.rules, blocks, waiting)?;
+        return Ok(None);
+    }
+    let Some(node) = source.graph.node(waiting.node) else {
+        return Ok(None);
+    };
+    if let Some(code) = faults(source.rules, node.event, &waiting.store) {
+        break_rule(source.rules, blocks, waiting, node.event, code)?;
+        return Ok(None);
+    }
+    match node.event {
+        Event::Return(_) | Event::ReturnPlain => {
+            end_call(source.rules, blocks, waiting, node.event)?;
+            Ok(None)
+        }
+        _ => follow(source, blocks, waiting, &node),
+    }
+}
+
+/// Empties the registers of forgotten items. The event comes afterwards.
+fn empty_registers(rules: Rules, blocks: &mut Blocks, waiting: &Waiting) -> Result<(), AllocError> {
+    let first = blocks.lines.len();
+    write_emptying(waiting.store.stale, &mut blocks.lines)?;
+    let end = blocks.lines.len();
+    let mut store = waiting.store.clone()?;
+    store.stale = RegisterSet::EMPTY;
+    let origin = Origin {
+        block: waiting.block,
+        choice: None,
+    };
+    let next = blocks.add_point(rules, waiting.node, store, origin)?;
+    if let Some(block) = blocks.get(waiting.block) {
+        blocks.set(
+            waiting.block,
+            Block {
+                first,
+                end,
+                next: Some(next),
+                ..block
+            },
+        );
+    }
+    Ok(())
+}
+
+fn break_rule(
+    rules: Rules,
+    blocks: &mut Blocks,
+    waiting: &Waiting,
+    event: Event,
+    code: CheckCode,
+) -> Result<(), AllocError> {
+    let first = blocks.lines.len();
+    let at = write_break(rules, event, code, &waiting.store, &mut blocks.lines)?;
+    let end = blocks.lines.len();
+    if let Some(block) = blocks.get(waiting.block) {
+        blocks.set(
+            waiting.block,
+            Block {
+                first,
+                end,
+                is_end: true,
+                broken: Some(Break { code, at }),
+                ..block
+            },
+        );
+    }
+    Ok(())
+}
+
+fn end_call(
+    rules: Rules,
+    blocks: &mut Blocks,
+    waiting: &Waiting,
+    event: Event,
+) -> Result<(), AllocError> {
+    let returned = match event {
+        Event::Return(local) => Some(local),
+        _ => None,
+    };
+    let first = blocks.lines.len();
+    write_return(rules, returned, &waiting.store, &mut blocks.lines)?;
+    let end = blocks.lines.len();
+    if let Some(block) = blocks.get(waiting.block) {
+        blocks.set(
+            waiting.block,
+            Block {
+                first,
+                end,
+                is_end: true,
+                ..block
+            },
+        );
+    }
+    Ok(())
+}

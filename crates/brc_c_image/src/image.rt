@@ -1,0 +1,182 @@
+//! From a graph to texts.
+
+use crate::blocks::{Blocks, Source, explore};
+use crate::laying::{Laid, Layout, lay};
+use crate::liveness::Liveness;
+use crate::naming::name_of;
+use crate::order::{order_of, places_of};
+use crate::path::{Step, path_to};
+use crate::resolving::pass_by;
+use crate::writing::text_of;
+use brc_c_graph::{Graph, NodeId};
+use brc_c_store::Rules;
+use brc_lang::CheckCode;
+use std::alloc::{AllocError, Global};
+
+/// How many instructions a function of a module has at most.
+const MOST_INSTRUCTIONS: usize = 256;
+
+/// A rule that a path breaks.
+#[derive(Debug, Drop)]
+pub struct Fault {
+    pub code: CheckCode,
+    /// The node whose event breaks it.
+    pub node: NodeId,
+    /// The steps from the entry to the node.
+    pub path: Vec<Step>,
+}
+
+/// The text of a module.
+#[derive(Debug, Drop)]
+pub struct Text {
+    pub bytes: Vec<u8>,
+    /// The number of the instruction that is at fault, from 0. Without a fault it has no meaning.
+    pub at: usize,
+}
+
+/// What a function has too much of to be judged.
+#[derive(Clone, Copy, Debug, PartialEq, Eq)]
+pub enum Size {
+    /// More than 256 instructions.
+    Instructions,
+    /// More than 2,048 nodes in stores for which something is written, or more than 8 critical sections at once.
+    Blocks,
+    /// More than 12 references at once.
+    References,
+}
+
+/// The modules whose verdicts are the function's.
+#[derive(Debug, Drop)]
+pub enum Image {
+    TooLarge(Size),
+    /// No path breaks a rule.
+    Right(Text),
+    /// Each rule that is broken at a node, once, with a text in which only the paths to that node report something.
+    Wrong(Vec<(Fault, Text)>),
+}
+
+/// Returns the modules of a function of C. The name may be any.
+pub fn image_of(
+    alloc: Global,
+    rules: Rules,
+    graph: &Graph,
+    name: &[u8],
+) -> Result<Image, AllocError> {
+    let live = Liveness::of(alloc, graph)?;
+    let mut blocks = Blocks::new(alloc);
+    let source = Source {
+        alloc,
+        rules,
+        graph,
+        live: &live,
+    };
+    if let Some(size) = explore(&source, &mut blocks)? {
+        return Ok(Image::TooLarge(size));
+    }
+    pass_by(&mut blocks);
+    image_in(alloc, &blocks, name)
+}
+
+fn image_in(alloc: Global, blocks: &Blocks, name: &[u8]) -> Result<Image, AllocError> {
+    let name = name_of(alloc, name)?;
+    let order = order_of(alloc, blocks)?;
+    let places = places_of(alloc, blocks, order.as_slice())?;
+    let layout = Layout {
+        blocks,
+        order: order.as_slice(),
+        places: places.as_slice(),
+        shown: None,
+    };
+    let broken = broken_blocks(alloc, blocks)?;
+    if broken.is_empty() && blocks.is_cut {
+        return Ok(Image::TooLarge(Size::Blocks));
+    }
+    if broken.is_empty() {
+        return right_image(alloc, name.as_str(), &layout);
+    }
+    wrong_image(alloc, name.as_str(), &layout, broken.as_slice())
+}
+
+fn right_image(alloc: Global, name: &str, layout: &Layout) -> Result<Image, AllocError> {
+    match text_in(alloc, name, layout)? {
+        Some(text) => Ok(Image::Right(text)),
+        None => Ok(Image::TooLarge(Size::Instructions)),
+    }
+}
+
+fn wrong_image(
+    alloc: Global,
+    name: &str,
+    layout: &Layout,
+    broken: &[usize],
+) -> Result<Image, AllocError> {
+    let mut wrong = Vec::new(alloc);
+    for number in broken {
+        if !add_fault(alloc, name, layout, *number, &mut wrong)? {
+            return Ok(Image::TooLarge(Size::Instructions));
+        }
+    }
+    Ok(Image::Wrong(wrong))
+}
+
+/// Adds the fault of a block with its text. Returns whether the text isn't too large.
+fn add_fault(
+    alloc: Global,
+    name: &str,
+    layout: &Layout,
+    number: usize,
+    wrong: &mut Vec<(Fault, Text)>,
+) -> Result<bool, AllocError> {
+    let Some((code, node)) = fault_at(layout.blocks, number) else {
+        return Ok(true);
+    };
+    let showing = Layout {
+        blocks: layout.blocks,
+        order: layout.order,
+        places: layout.places,
+        shown: Some(number),
+    };
+    let Some(text) = text_in(alloc, name, &showing)? else {
+        return Ok(false);
+    };
+    let path = path_to(alloc, layout.blocks, number)?;
+    wrong.push((Fault { code, node, path }, text))?;
+    Ok(true)
+}
+
+fn fault_at(blocks: &Blocks, number: usize) -> Option<(CheckCode, NodeId)> {
+    let block = blocks.get(number)?;
+    let broken = block.broken?;
+    Some((broken.code, block.node))
+}
+
+/// Returns the blocks whose events break a rule, the first one for each code at a node.
+fn broken_blocks(alloc: Global, blocks: &Blocks) -> Result<Vec<usize>, AllocError> {
+    let mut broken: Vec<usize> = Vec::new(alloc);
+    for number in 0..blocks.len() {
+        if let Some(fault) = fault_at(blocks, number) {
+            let is_known = broken
+                .iter()
+                .any(|known| fault_at(blocks, *known) == Some(fault));
+            if !is_known {
+                broken.push(number)?;
+            }
+        }
+    }
+    Ok(broken)
+}
+
+/// Returns a text, unless it has too many instructions.
+fn text_in(alloc: Global, name: &str, layout: &Layout) -> Result<Option<Text>, AllocError> {
+    let mut laid = Laid::new(alloc, layout.blocks.len())?;
+    lay(layout, &mut laid)?;
+    if laid.lines.len() > MOST_INSTRUCTIONS {
+        return Ok(None);
+    }
+    let text = text_of(alloc, name, &laid)?;
+    let at = laid.at;
+    Ok(Some(Text {
+        bytes: text.into_bytes(),
+        at,
+    }))
+}

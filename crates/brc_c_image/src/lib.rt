@@ -1,0 +1,28 @@
+//! The image of a C function: modules that the checker accepts exactly if the function obeys the ownership rules.
+//!
+//! A module has each node of the function's graph once for each store in which a path reaches it. Nothing is proved of
+//! an image but safety: what a function is said to be is the checker's verdict on the text.
+#![tactic(auto)]
+
+mod block;
+mod blocks;
+mod breaking;
+mod changes;
+mod emitting;
+mod following;
+mod image;
+mod laying;
+mod line;
+mod liveness;
+mod naming;
+mod normal;
+mod order;
+mod path;
+mod reading;
+mod registers;
+mod resolving;
+mod tails;
+mod writing;
+
+pub use image::{Fault, Image, Size, Text, image_of};
+pub use path::Step;

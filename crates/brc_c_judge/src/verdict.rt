@@ -1,0 +1,78 @@
+//! The verdict on a function.
+
+ghost use Rattle.std.specs.Prelude.{◌≡◌, Ok, true};
+ghost use Rattle.brc_c_judge.specs.Verdicts.{ShowsClaim};
+
+use crate::accepted::Accepted;
+use crate::confirmed::Confirmed;
+use crate::judging::{Claim, Judged, judge};
+use brc_c_graph::Graph;
+use brc_c_image::{Fault, Image, Size, Text, image_of};
+use brc_c_store::Rules;
+use std::alloc::{AllocError, Global};
+
+/// What is found of a function.
+#[derive(Debug, Drop)]
+pub enum Verdict {
+    /// The checker accepts its module.
+    Right(Accepted),
+    /// Its faults, each of which the checker confirms.
+    Wrong(Vec<Confirmed>),
+    TooLarge(Size),
+    /// The checker doesn't confirm what the modules are said to show: these faults, or if there is none, that the
+    /// function is right. That is an error of this program, and no verdict on the function.
+    Unconfirmed(Vec<Fault>),
+}
+
+/// Returns the verdict on a function of C by its graph. The name may be any.
+pub fn judge_function(
+    alloc: Global,
+    rules: Rules,
+    graph: &Graph,
+    name: &[u8],
+) -> Result<Verdict, AllocError> {
+    match image_of(alloc, rules, graph, name)? {
+        Image::TooLarge(size) => Ok(Verdict::TooLarge(size)),
+        Image::Right(text) => judge_right(alloc, text),
+        Image::Wrong(faults) => judge_faults(alloc, faults),
+    }
+}
+
+fn judge_right(alloc: Global, text: Text) -> Result<Verdict, AllocError> {
+    match judge(alloc, text.bytes.as_slice(), None)? {
+        Judged::Right => Ok(Verdict::Right(Accepted::new(text))),
+        Judged::Wrong(_) | Judged::Unconfirmed => Ok(Verdict::Unconfirmed(Vec::new(alloc))),
+    }
+}
+
+fn judge_faults(alloc: Global, faults: Vec<(Fault, Text)>) -> Result<Verdict, AllocError> {
+    let mut confirmed = Vec::new(alloc);
+    let mut unconfirmed = Vec::new(alloc);
+    for (fault, text) in faults {
+        if is_confirmed(alloc, &fault, &text)? {
+            confirmed.push(Confirmed::new(fault, text))?;
+        } else {
+            unconfirmed.push(fault)?;
+        }
+    }
+    if unconfirmed.is_empty() {
+        Ok(Verdict::Wrong(confirmed))
+    } else {
+        Ok(Verdict::Unconfirmed(unconfirmed))
+    }
+}
+
+/// Returns whether the checker reports the fault where its text says so.
+fn is_confirmed(alloc: Global, fault: &Fault, text: &Text) -> Result<bool, AllocError>
+    ensures { result ≡ Ok true
+        → ShowsClaim text.now.bytes.items (record { at = text.now.at; code = fault.now.code }) }
+{
+    let claim = Claim {
+        at: text.at,
+        code: fault.code,
+    };
+    match judge(alloc, text.bytes.as_slice(), Some(claim))? {
+        Judged::Wrong(_) => Ok(true),
+        Judged::Right | Judged::Unconfirmed => Ok(false),
+    }
+}

@@ -1,0 +1,141 @@
+use crate::asked::Asked;
+use crate::seen::Seen;
+use brc_c_report::Level;
+use std::alloc::AllocError;
+
+/// How many functions and findings there are.
+#[derive(Clone, Copy, Debug)]
+pub(crate) struct Counts {
+    functions: u64,
+    right: u64,
+    /// Those of the right ones that are so by assumptions only.
+    assumed: u64,
+    at_fault: u64,
+    warned: u64,
+    not_read: u64,
+    errors: u64,
+    warnings: u64,
+    possible: u64,
+    /// Whether a function has an obstacle.
+    has_obstacle: bool,
+}
+
+/// The status of a command for which there is memory.
+#[derive(Clone, Copy, Debug, PartialEq, Eq)]
+pub enum Status {
+    /// There is no error.
+    NoError,
+    /// There is an error, or what counts as one.
+    Error,
+    /// A file can't be read, or a function isn't read.
+    NotRead,
+}
+
+impl Counts {
+    pub(crate) const NONE: Counts = Counts {
+        functions: 0,
+        right: 0,
+        assumed: 0,
+        at_fault: 0,
+        warned: 0,
+        not_read: 0,
+        errors: 0,
+        warnings: 0,
+        possible: 0,
+        has_obstacle: false,
+    };
+
+    pub(crate) fn has_functions(&self) -> bool {
+        self.functions > 0
+    }
+
+    /// Counts a function.
+    pub(crate) fn add(&mut self, seen: &Seen) {
+        let errors = self.errors;
+        let warnings = self.warnings;
+        for finding in seen.findings.iter() {
+            match finding.level {
+                Level::Error => add_one(&mut self.errors),
+                Level::Warning(_) => add_one(&mut self.warnings),
+                Level::Possible => add_one(&mut self.possible),
+            }
+        }
+        add_one(&mut self.functions);
+        if seen.obstacle.is_some() {
+            self.has_obstacle = true;
+        }
+        if self.errors > errors {
+            add_one(&mut self.at_fault);
+        } else if seen.obstacle.is_some() {
+            add_one(&mut self.not_read);
+        } else if self.warnings > warnings {
+            add_one(&mut self.warned);
+        } else {
+            add_one(&mut self.right);
+            if !seen.assumed.is_empty() {
+                add_one(&mut self.assumed);
+            }
+        }
+    }
+
+    /// Returns the status of a command with these counts.
+    pub(crate) fn status(&self, asked: &Asked<'_>) -> Status {
+        if self.has_obstacle && !asked.allows_not_read {
+            Status::NotRead
+        } else if self.errors > 0
+            || asked.denies_warnings && self.warnings > 0
+            || asked.denies_assumed && self.assumed > 0
+        {
+            Status::Error
+        } else {
+            Status::NoError
+        }
+    }
+
+    /// Appends the line of the counts. A part that is 0 is left out, but for the right functions, errors and warnings.
+    pub(crate) fn add_line(
+        &self,
+        text: &mut String,
+        shows_possible: bool,
+    ) -> Result<(), AllocError> {
+        add_count(text, self.functions, "function")?;
+        let right = self.right;
+        write!(text, ": {right} right")?;
+        if self.assumed > 0 {
+            let assumed = self.assumed;
+            write!(text, " ({assumed} by assumptions)")?;
+        }
+        add_part(text, self.at_fault, "at fault")?;
+        add_part(text, self.warned, "with warnings")?;
+        add_part(text, self.not_read, "not read")?;
+        text.push_str("; ")?;
+        add_count(text, self.errors, "error")?;
+        text.push_str(", ")?;
+        add_count(text, self.warnings, "warning")?;
+        add_part(text, self.possible, "possible")?;
+        if self.possible > 0 && !shows_possible {
+            text.push_str(" (--possible)")?;
+        }
+        text.push_str("\n")?;
+        Ok(())
+    }
+}
+
+fn add_one(count: &mut u64) {
+    *count = count.saturating_add(1);
+}
+
+fn add_count(text: &mut String, count: u64, what: &str) -> Result<(), AllocError> {
+    if count == 1 {
+        write!(text, "{count} {what}")
+    } else {
+        write!(text, "{count} {what}s")
+    }
+}
+
+fn add_part(text: &mut String, count: u64, what: &str) -> Result<(), AllocError> {
+    if count == 0 {
+        return Ok(());
+    }
+    write!(text, ", {count} {what}")
+}

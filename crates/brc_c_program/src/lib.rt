@@ -1,0 +1,20 @@
+//! The C functions of a command's files: each file read by the rules that are asked for, each function judged, and what
+//! is found of it in lines.
+#![tactic(auto)]
+
+mod asked;
+mod counts;
+mod files;
+mod judging;
+mod judging_files;
+mod modules;
+mod pairs;
+mod seen;
+mod sources;
+mod unit;
+mod writing;
+
+pub use asked::{Asked, AskedRules};
+pub use counts::Status;
+pub use files::Files;
+pub use judging_files::{Judgement, judge_files};
