@@ -33,4 +33,4 @@ pub record Shown : Type 0 where
 abbrev pub IsVerdictOn : List ℕ → Option Claim → Judged → Type 0
 IsVerdictOn text claim Right = IsRightText text
 IsVerdictOn text claim (Wrong f) = (claim ≡ Some f.claim) × ShowsClaim text f.claim
-IsVerdictOn text claim Unconfirmed = Unit {0}
+IsVerdictOn text claim Unconfirmed = IsRightText text → ⊥

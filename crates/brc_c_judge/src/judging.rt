@@ -1,11 +1,11 @@
 //! The checker's verdict on a text.
 
-ghost use Rattle.std.specs.Prelude.{IfOk};
+ghost use Rattle.std.specs.Prelude.{◌≡◌, IfOk, true};
 ghost use Rattle.brc_lang.specs.Grammar.{Spells};
 ghost use Rattle.brc_c_judge.specs.Verdicts.{IsVerdictOn};
 
-use brc_check::check;
-use brc_lang::{CheckCode, FaultCode, Module, read};
+use brc_check::{Refused, check};
+use brc_lang::{CheckCode, FaultCode, Module, one_reading, read};
 use std::alloc::{AllocError, Global};
 
 /// What a text is to show: a code that is reported at an instruction.
@@ -36,7 +36,8 @@ pub enum Judged {
     Right,
     /// What is claimed of it is reported.
     Wrong(Finding),
-    /// Nothing of that: whoever wrote the text or made the claim was wrong.
+    /// It isn't accepted, and something else is reported than what is claimed of it: whoever wrote the text or made the
+    /// claim was wrong.
     Unconfirmed,
 }
 
@@ -66,6 +67,7 @@ fn judge_module(
     requires { Spells text.now spelled }
     ensures { IfOk result (IsVerdictOn text.now claim) }
 {
+    one_reading();
     let refused = match check(alloc, spelled) {
         Ok(_) => return Ok(Judged::Right),
         Err(refused) => refused,
@@ -76,9 +78,16 @@ fn judge_module(
     let Some(claim) = claim else {
         return Ok(Judged::Unconfirmed);
     };
-    if claim.at == refused.at && claim.code == refused.code {
+    if is_reported(claim, &refused) {
         Ok(Judged::Wrong(Finding { claim }))
     } else {
         Ok(Judged::Unconfirmed)
     }
+}
+
+/// Returns whether the checker reports what is claimed.
+fn is_reported(claim: Claim, refused: &Refused) -> bool
+    ensures { result ≡ true → (claim.at ≡ refused.now.at) × (claim.code ≡ refused.now.code) }
+{
+    claim.at == refused.at && claim.code == refused.code
 }
