@@ -1,6 +1,6 @@
 use crate::local_name::LocalName;
 use crate::node::{Node, NodeId, Words};
-use brc_c_store::{Choice, Local};
+use brc_c_store::{Choice, Field, Local};
 use std::alloc::{AllocError, Global};
 
 /// What a C function does with references. The nodes name each other by their places.
@@ -8,9 +8,13 @@ use std::alloc::{AllocError, Global};
 pub struct Graph {
     nodes: Vec<Node>,
     locals: Vec<LocalName>,
+    /// The names of fields, and of variables that are there after the call, too.
+    fields: Vec<Words>,
     texts: Vec<String>,
     /// The functions of which something is assumed, each once.
     assumed: Vec<Words>,
+    /// The names that are asked for where a path ends, each with the node there.
+    kept: Vec<(NodeId, Local)>,
 }
 
 impl Graph {
@@ -19,8 +23,10 @@ impl Graph {
         Graph {
             nodes: Vec::new(alloc),
             locals: Vec::new(alloc),
+            fields: Vec::new(alloc),
             texts: Vec::new(alloc),
             assumed: Vec::new(alloc),
+            kept: Vec::new(alloc),
         }
     }
 
@@ -67,6 +73,23 @@ impl Graph {
         self.locals.as_slice()
     }
 
+    /// Returns the field of this name.
+    pub fn add_field(&mut self, name: Words) -> Result<Field, AllocError> {
+        for (at, known) in self.fields.iter().enumerate() {
+            if self.words(*known) == self.words(name) {
+                return Ok(Field(at));
+            }
+        }
+        let field = Field(self.fields.len());
+        self.fields.push(name)?;
+        Ok(field)
+    }
+
+    /// Returns the names of fields, by their numbers.
+    pub fn fields(&self) -> &[Words] {
+        self.fields.as_slice()
+    }
+
     pub fn add_words(&mut self, text: String) -> Result<Words, AllocError> {
         let words = Words(self.texts.len());
         self.texts.push(text)?;
@@ -95,5 +118,16 @@ impl Graph {
     /// Returns the names of the functions of which something is assumed.
     pub fn assumed(&self) -> &[Words] {
         self.assumed.as_slice()
+    }
+
+    /// Notes that a name is asked for at a node where a path ends.
+    pub fn keep_at(&mut self, end: NodeId, local: Local) -> Result<(), AllocError> {
+        self.kept.push((end, local))?;
+        Ok(())
+    }
+
+    /// Returns the names that are asked for where a path ends, each with the node there.
+    pub fn kept(&self) -> &[(NodeId, Local)] {
+        self.kept.as_slice()
     }
 }

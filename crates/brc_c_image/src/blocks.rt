@@ -1,6 +1,7 @@
 //! The search for all nodes of a graph in all stores in which a path reaches them. It goes breadth first, so that the
 //! first path to a block is a short one.
 
+use crate::arrivals::Arrival;
 use crate::block::{Block, Break, Held, Origin};
 use crate::breaking::write_break;
 use crate::emitting::{write_emptying, write_return};
@@ -8,6 +9,7 @@ use crate::following::follow;
 use crate::image::Size;
 use crate::line::Line;
 use crate::liveness::Liveness;
+use crate::taking::take_lent;
 use brc_c_graph::{Graph, NodeId};
 use brc_c_store::{Event, RegisterSet, Rules, Store, faults};
 use brc_lang::CheckCode;
@@ -109,6 +111,28 @@ impl Blocks {
         self.numbers.insert(point, block)?;
         Ok(block)
     }
+
+    /// Returns the points at which paths return.
+    pub(crate) fn arrivals(
+        &self,
+        alloc: Global,
+        graph: &Graph,
+    ) -> Result<Vec<Arrival>, AllocError> {
+        let mut arrivals = Vec::new(alloc);
+        for point in self.numbers.keys() {
+            let returns = match graph.node(point.node) {
+                Some(node) => matches!(node.event, Event::Return(_) | Event::ReturnPlain),
+                None => false,
+            };
+            if returns {
+                arrivals.push(Arrival {
+                    node: point.node,
+                    store: point.store.clone()?,
+                })?;
+            }
+        }
+        Ok(arrivals)
+    }
 }
 
 /// Finds all blocks. Returns what there is too much of, if anything.
@@ -172,7 +196,13 @@ fn build(
         return Ok(None);
     };
     if let Some(code) = faults(source.rules, node.event, &waiting.store) {
-        break_rule(source.rules, blocks, waiting, node.event, code)?;
+        match take_lent(source.graph, node.event, code, &waiting.store)? {
+            Some(taken) => {
+                let first = blocks.lines.len();
+                go_on_in(source.rules, blocks, waiting, taken, first)?;
+            }
+            None => break_rule(source.rules, blocks, waiting, node.event, code)?,
+        }
         return Ok(None);
     }
     match node.event {
@@ -188,9 +218,20 @@ fn build(
 fn empty_registers(rules: Rules, blocks: &mut Blocks, waiting: &Waiting) -> Result<(), AllocError> {
     let first = blocks.lines.len();
     write_emptying(waiting.store.stale, &mut blocks.lines)?;
-    let end = blocks.lines.len();
     let mut store = waiting.store.clone()?;
     store.stale = RegisterSet::EMPTY;
+    go_on_in(rules, blocks, waiting, store, first)
+}
+
+/// Leads a block, whose lines begin here, to the same node in another store.
+fn go_on_in(
+    rules: Rules,
+    blocks: &mut Blocks,
+    waiting: &Waiting,
+    store: Store,
+    first: usize,
+) -> Result<(), AllocError> {
+    let end = blocks.lines.len();
     let origin = Origin {
         block: waiting.block,
         choice: None,

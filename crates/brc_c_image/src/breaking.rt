@@ -122,12 +122,22 @@ fn write_lost(event: Event, store: &Store, lines: &mut Vec<Line>) -> Result<(), 
     let to = match event {
         Event::Copy { to, .. } | Event::Lend { to, .. } => Some(to),
         Event::Call { into, .. } => into,
+        Event::Put { .. } => return write_lost_by_cell(store, lines),
         _ => None,
     };
     lines.push(Line::Newref {
         to: register_of(store, to).unwrap_or(LENT),
         from: LENT,
     })?;
+    Ok(())
+}
+
+/// The reference that a cell had is the function's, and lost at once.
+fn write_lost_by_cell(store: &Store, lines: &mut Vec<Line>) -> Result<(), AllocError> {
+    let to = empty_in(store);
+    for _turn in 0..2 {
+        lines.push(Line::Newref { to, from: LENT })?;
+    }
     Ok(())
 }
 
@@ -140,7 +150,7 @@ fn register_of(store: &Store, local: Option<Local>) -> Option<u8> {
 /// C8: an item is borrowed of a list that isn't locked, or what isn't locked is unlocked.
 fn write_not_locked(event: Event, store: &Store, lines: &mut Vec<Line>) -> Result<(), AllocError> {
     match event {
-        Event::Call { .. } => lines.push(Line::Borrow {
+        Event::Call { .. } | Event::Read { .. } | Event::Put { .. } => lines.push(Line::Borrow {
             to: free_in(store),
             list: UNLOCKED,
             otherwise: Target::Below,

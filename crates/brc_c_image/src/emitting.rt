@@ -22,6 +22,10 @@ pub(crate) fn write_event(
         }
         Event::Take(local) => write_taking(store, local, changes, lines)?,
         Event::Use(local) | Event::UseOrNull(local) => write_use(store, local, lines)?,
+        Event::Put { .. } => write_taking_out(changes, lines)?,
+        Event::Release(local) | Event::Give(local) | Event::GiveTo { local, .. } => {
+            write_giving_back(store, local, lines)?;
+        }
         _ => {}
     }
     write_drops(changes.dropped, lines)?;
@@ -80,6 +84,31 @@ fn write_taking(
             to: register.number(),
             from: variable_of(store, local),
         })?;
+    }
+    Ok(())
+}
+
+/// The reference that a cell had is the function's.
+fn write_taking_out(changes: &Changes, lines: &mut Vec<Line>) -> Result<(), AllocError> {
+    if let Some(register) = changes.owned {
+        lines.push(Line::Newref {
+            to: register.number(),
+            from: LENT,
+        })?;
+    }
+    Ok(())
+}
+
+/// A reference that a cell has is given up: one is made, and given up at once.
+fn write_giving_back(store: &Store, local: Local, lines: &mut Vec<Line>) -> Result<(), AllocError> {
+    let Some(id) = store.object_of(local) else {
+        return Ok(());
+    };
+    let free = store.free().or(store.empty());
+    if let (true, Some(register)) = (store.object(id).registers.is_empty(), free) {
+        let to = register.number();
+        lines.push(Line::Newref { to, from: LENT })?;
+        lines.push(Line::Drop(to))?;
     }
     Ok(())
 }

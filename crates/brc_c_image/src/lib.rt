@@ -4,6 +4,7 @@
 //! an image but safety: what a function is said to be is the checker's verdict on the text.
 #![tactic(auto)]
 
+mod arrivals;
 mod block;
 mod blocks;
 mod breaking;
@@ -16,13 +17,16 @@ mod line;
 mod liveness;
 mod naming;
 mod normal;
+mod normal_cells;
 mod order;
 mod path;
 mod reading;
 mod registers;
 mod resolving;
 mod tails;
+mod taking;
 mod writing;
 
+pub use arrivals::{Arrival, arrivals_of};
 pub use image::{Fault, Image, Size, Text, image_of};
 pub use path::Step;

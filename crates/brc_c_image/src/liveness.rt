@@ -1,20 +1,21 @@
 //! Which names and conditions a path reads again.
 
-use crate::reading::{fact_forgotten, fact_read, name_assigned, names_read};
-use brc_c_graph::{Graph, Node, NodeId};
-use brc_c_store::{Fact, Local};
+use crate::reading::{fact_forgotten, fact_read, field_read, name_assigned, names_read};
+use brc_c_graph::{Graph, Node, NodeId, Ways};
+use brc_c_store::{Fact, Field, Local};
 use std::alloc::{AllocError, Global};
 
 const WORD: usize = 64;
 
-/// For each node the names, and the conditions, that some path from there reads before it assigns them.
+/// For each node the names, the conditions and the fields that some path from there reads before it assigns them.
 #[derive(Drop)]
 pub(crate) struct Liveness {
     names: usize,
     facts: usize,
+    fields: usize,
     /// How many words a node has.
     width: usize,
-    /// A bit for each name and then for each condition, node by node.
+    /// A bit for each name, then for each condition, and then for each field, node by node.
     words: Vec<u64>,
 }
 
@@ -23,7 +24,8 @@ impl Liveness {
     pub(crate) fn of(alloc: Global, graph: &Graph) -> Result<Liveness, AllocError> {
         let names = graph.locals().len();
         let facts = fact_count(graph);
-        let bits = names.saturating_add(facts);
+        let fields = graph.fields().len();
+        let bits = names.saturating_add(facts).saturating_add(fields);
         let width = bits.saturating_add(WORD - 1) / WORD;
         let mut words = Vec::new(alloc);
         for _ in 0..graph.nodes().len().saturating_mul(width) {
@@ -32,6 +34,7 @@ impl Liveness {
         let mut live = Liveness {
             names,
             facts,
+            fields,
             width,
             words,
         };
@@ -55,6 +58,14 @@ impl Liveness {
         }
     }
 
+    /// Returns whether a path from the node reads or sets the field of an object again.
+    pub(crate) fn is_met(&self, node: NodeId, field: Field) -> bool {
+        match self.field_bit(field) {
+            Some(bit) => self.has(node, bit),
+            None => true,
+        }
+    }
+
     fn name_bit(&self, local: Local) -> Option<usize> {
         if local.0 < self.names {
             Some(local.0)
@@ -66,6 +77,18 @@ impl Liveness {
     fn fact_bit(&self, fact: Fact) -> Option<usize> {
         if fact.0 < self.facts {
             Some(self.names.saturating_add(fact.0))
+        } else {
+            None
+        }
+    }
+
+    fn field_bit(&self, field: Field) -> Option<usize> {
+        if field.0 < self.fields {
+            Some(
+                self.names
+                    .saturating_add(self.facts)
+                    .saturating_add(field.0),
+            )
         } else {
             None
         }
@@ -99,7 +122,7 @@ impl Liveness {
         for number in (0..graph.nodes().len()).rev() {
             let id = NodeId(number);
             if let Some(node) = graph.node(id) {
-                if self.update(id, &node) {
+                if self.update(graph, id, &node) {
                     is_changed = true;
                 }
             }
@@ -107,10 +130,10 @@ impl Liveness {
         is_changed
     }
 
-    fn update(&mut self, id: NodeId, node: &Node) -> bool {
+    fn update(&mut self, graph: &Graph, id: NodeId, node: &Node) -> bool {
         let mut is_changed = false;
         for word in 0..self.width {
-            let live = self.before(node, word);
+            let live = self.before(node, word) | self.kept_at(graph, id, node, word);
             let at = id.0.saturating_mul(self.width).saturating_add(word);
             if let Some(old) = self.words.get_mut(at) {
                 if *old != live {
@@ -132,11 +155,32 @@ impl Liveness {
         kept | self.name_mask(first, word)
             | self.name_mask(second, word)
             | self.fact_mask(fact_read(event), word)
+            | self.field_mask(field_read(event), word)
+    }
+
+    /// Returns a word of the names that are asked for where a path ends.
+    fn kept_at(&self, graph: &Graph, id: NodeId, node: &Node, word: usize) -> u64 {
+        let mut kept = 0;
+        if node.ways == Ways::NONE {
+            for (end, local) in graph.kept() {
+                if *end == id {
+                    kept |= self.name_mask(Some(*local), word);
+                }
+            }
+        }
+        kept
     }
 
     fn name_mask(&self, local: Option<Local>, word: usize) -> u64 {
         match local {
             Some(local) => mask(self.name_bit(local), word),
+            None => 0,
+        }
+    }
+
+    fn field_mask(&self, field: Option<Field>, word: usize) -> u64 {
+        match field {
+            Some(field) => mask(self.field_bit(field), word),
             None => 0,
         }
     }

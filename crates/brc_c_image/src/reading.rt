@@ -1,6 +1,6 @@
 //! What an event reads and assigns.
 
-use brc_c_store::{Event, Fact, Gives, Local, Source};
+use brc_c_store::{Event, Fact, Field, Gives, Local, Source};
 
 /// Returns the names whose values an event reads.
 pub(crate) fn names_read(event: Event) -> [Option<Local>; 2] {
@@ -9,6 +9,8 @@ pub(crate) fn names_read(event: Event) -> [Option<Local>; 2] {
         | Event::Choice(_)
         | Event::Forget(_)
         | Event::EndItems
+        | Event::HandBack { .. }
+        | Event::DropCells(_)
         | Event::Unlock
         | Event::Detach
         | Event::Attach
@@ -30,6 +32,7 @@ pub(crate) fn names_read(event: Event) -> [Option<Local>; 2] {
         | Event::Stow(local)
         | Event::HandOver(local)
         | Event::Assume(local)
+        | Event::FreeCells(local)
         | Event::Return(local) => [Some(local), None],
         Event::GiveTo { local, container } | Event::Keep { local, container } => {
             [Some(local), Some(container)]
@@ -43,6 +46,8 @@ pub(crate) fn names_read(event: Event) -> [Option<Local>; 2] {
             lender,
             is_optional,
         } => [lender, if is_optional { Some(to) } else { None }],
+        Event::Read { cell, .. } | Event::ForgetCell(cell) => [cell.holder, None],
+        Event::Put { cell, from } => [cell.holder, from],
         Event::Lock { first, second } => [first, second],
     }
 }
@@ -50,7 +55,7 @@ pub(crate) fn names_read(event: Event) -> [Option<Local>; 2] {
 /// Returns the name that an event assigns on the way `Yes`, whatever it had before.
 pub(crate) fn name_assigned(event: Event) -> Option<Local> {
     match event {
-        Event::Copy { to, .. } => Some(to),
+        Event::Copy { to, .. } | Event::Read { to, .. } => Some(to),
         Event::Lend {
             to,
             is_optional,
@@ -60,6 +65,14 @@ pub(crate) fn name_assigned(event: Event) -> Option<Local> {
             Gives::Nothing => None,
             _ => into,
         },
+        _ => None,
+    }
+}
+
+/// Returns the field of which an event asks what it has.
+pub(crate) fn field_read(event: Event) -> Option<Field> {
+    match event {
+        Event::Read { cell, .. } | Event::Put { cell, .. } => Some(cell.field),
         _ => None,
     }
 }

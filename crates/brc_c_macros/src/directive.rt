@@ -47,8 +47,8 @@ fn action_of(symbols: &Symbols, name: &Lexeme) -> Action {
     }
 }
 
-/// The directives whose names are no keywords. The proof of a `match` over texts has a branch for each of their bytes, so
-/// they are a table.
+/// The directives whose names are no keywords. The proof of a `match` over texts has a branch for each of their bytes,
+/// so they are a table.
 const NAMES: &[(&[u8], Action)] = &[
     (b"ifdef", Action::Ifdef),
     (b"ifndef", Action::Ifndef),

@@ -1,5 +1,6 @@
 //! Which reference a fault is about, and how certain it is.
 
+use crate::cell_blame::{Place as CellPlace, left_cells, of_cell};
 use crate::finding::{Key, Wrong};
 use crate::level::{Level, Reservation};
 use crate::naming::parameter_of;
@@ -22,6 +23,8 @@ pub(crate) struct Blame {
     pub(crate) object: Option<ObjectId>,
     /// Where the reference was made, or where the section began.
     pub(crate) made: Option<NodeId>,
+    /// The field or variable that the event is about.
+    pub(crate) cell: Option<CellPlace>,
 }
 
 /// Returns what a fault is about: each reference that a function leaves is one.
@@ -44,12 +47,21 @@ pub(crate) fn blames_of(
                     local: None,
                     object: Some(id),
                     made: made_of(trail, Some(id)),
+                    cell: None,
                 })?;
             }
         }
-    } else {
-        blames.push(blame_of(trail, node, code))?;
+        return Ok(blames);
     }
+    if let Some(blame) = of_cell(trail, node, code) {
+        blames.push(blame)?;
+        return Ok(blames);
+    }
+    let left = left_cells(alloc, trail, node, code)?;
+    if !left.is_empty() {
+        return Ok(left);
+    }
+    blames.push(blame_of(trail, node, code))?;
     Ok(blames)
 }
 
@@ -77,6 +89,7 @@ fn blame_of(trail: &Trail, node: Node, code: CheckCode) -> Blame {
             local: None,
             object: None,
             made: trail.sections.last().copied(),
+            cell: None,
         },
         CheckCode::NotLocked => unprotected(trail, node),
         CheckCode::RunsOff => Blame {
@@ -86,6 +99,7 @@ fn blame_of(trail: &Trail, node: Node, code: CheckCode) -> Blame {
             local: None,
             object: None,
             made: None,
+            cell: None,
         },
         _ => of_reference(trail, node, code),
     }
@@ -108,6 +122,7 @@ fn unprotected(trail: &Trail, node: Node) -> Blame {
         local,
         object: None,
         made,
+        cell: None,
     }
 }
 
@@ -135,6 +150,7 @@ fn of_reference(trail: &Trail, node: Node, code: CheckCode) -> Blame {
         local,
         object,
         made,
+        cell: None,
     }
 }
 
@@ -143,6 +159,7 @@ fn local_of(event: Event) -> Option<Local> {
     match event {
         Event::Copy { to, .. } | Event::Lend { to, .. } => Some(to),
         Event::Call { into, .. } => into,
+        Event::Put { from, .. } => from,
         Event::Null(local)
         | Event::Use(local)
         | Event::UseOrNull(local)
@@ -205,7 +222,7 @@ pub(crate) fn level_of(
     if trail.store.object(id).singleton.is_some() {
         return Level::Warning(Reservation::BeforeImmortals);
     }
-    if is_parameter(graph, blame) && changes_count(blame) {
+    if blame.cell.is_none() && is_parameter(graph, blame) && changes_count(blame) {
         return Level::Warning(Reservation::UnlessMeant);
     }
     if is_ended_by_code(graph, trail, blame, id) {
@@ -267,7 +284,8 @@ fn changes_count(blame: &Blame) -> bool {
     }
 }
 
-/// Returns whether a call that may run other code has ended the object. `PyList_SetItem` itself releases what was there.
+/// Returns whether a call that may run other code has ended the object. `PyList_SetItem` itself releases what was
+/// there.
 fn is_ended_by_code(graph: &Graph, trail: &Trail, blame: &Blame, id: ObjectId) -> bool {
     if blame.code != CheckCode::EmptyUsed {
         return false;
@@ -288,5 +306,9 @@ fn is_ended_by_code(graph: &Graph, trail: &Trail, blame: &Blame, id: ObjectId) -
         }
         None => false,
     };
-    node.event == Event::EndItems && !is_setter
+    let is_end = matches!(
+        node.event,
+        Event::EndItems | Event::HandBack { runs_code: true }
+    );
+    is_end && !is_setter
 }

@@ -5,6 +5,7 @@ use crate::choices::path_notes;
 use crate::finding::Finding;
 use crate::level::Level;
 use crate::mending::mend_of;
+use crate::naming::{local_text, name_of};
 use crate::trail::{Trail, trail_of};
 use crate::wording::sentence;
 use brc_c_graph::Graph;
@@ -90,13 +91,33 @@ fn finding_of(
         code: blame.code,
         level: level_of(graph, trail, judged.rules, judged.has_lost, blame),
         place: blame.node.place,
+        name: reference_name(alloc, graph, trail, blame)?,
         text,
         others: Vec::new(alloc),
         path,
         mend,
         by_global_lock: judged.rules == Rules::GlobalLock,
         by_free_threaded: judged.rules == Rules::FreeThreaded,
+        suppressed: None,
     })
+}
+
+/// Returns the name in the source of what a fault is about.
+fn reference_name(
+    alloc: Global,
+    graph: &Graph,
+    trail: &Trail,
+    blame: &Blame,
+) -> Result<Option<String>, AllocError> {
+    let name = match (blame.object, blame.local) {
+        (Some(id), local) => name_of(graph, trail, id, local),
+        (None, Some(local)) => local_text(graph, local),
+        (None, None) => None,
+    };
+    match name {
+        Some(name) => Ok(Some(String::from_str(alloc, name)?)),
+        None => Ok(None),
+    }
 }
 
 /// Adds another fault of the same reference: the worst one, and of those the first, is reported.

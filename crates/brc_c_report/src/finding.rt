@@ -45,6 +45,8 @@ pub struct Finding {
     pub level: Level,
     /// The first place at which it shows.
     pub place: Place,
+    /// What the source calls the reference, if it has a name.
+    pub name: Option<String>,
     pub text: String,
     /// The other places, in order.
     pub others: Vec<Place>,
@@ -56,4 +58,6 @@ pub struct Finding {
     pub by_global_lock: bool,
     /// Whether it is at fault by the free-threaded rules.
     pub by_free_threaded: bool,
+    /// The reason for which a comment takes it away.
+    pub suppressed: Option<String>,
 }

@@ -3,6 +3,8 @@
 #![tactic(auto)]
 
 mod blame;
+mod cell_blame;
+mod cell_wording;
 mod choices;
 mod choosing;
 mod collecting;

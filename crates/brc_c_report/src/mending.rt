@@ -1,8 +1,9 @@
 //! What to write in place of what is at fault.
 
 use crate::blame::Blame;
+use crate::cell_wording::cell_mend;
 use crate::finding::Wrong;
-use crate::naming::{local_text, name_of, present_name, words_at};
+use crate::naming::{local_text, present_name, words_at, written_name};
 use crate::trail::Trail;
 use crate::wording::container_text;
 use brc_c_graph::Graph;
@@ -30,6 +31,9 @@ pub(crate) fn mend_of(
     trail: &Trail,
     blame: &Blame,
 ) -> Result<Option<String>, AllocError> {
+    if let Some(place) = &blame.cell {
+        return Ok(Some(cell_mend(alloc, graph, trail, blame, place)?));
+    }
     let text = match blame.wrong {
         Wrong::Lost => match blame.object {
             Some(id) => releasing(alloc, graph, trail, blame, id)?,
@@ -72,7 +76,7 @@ fn keeping(
     blame: &Blame,
     id: ObjectId,
 ) -> Result<String, AllocError> {
-    let name = name_of(graph, trail, id, blame.local).unwrap_or("..");
+    let name = written_name(graph, trail, id, blame.local);
     let is_release = matches!(blame.node.event, Event::Release(_));
     if blame.code == CheckCode::NotOwned {
         return match blame.node.event {

@@ -44,6 +44,25 @@ pub(crate) fn name_of<'a>(
     local_text(graph, trail.origin(id)?.name?)
 }
 
+/// Returns how the source may write the object: by a name, or by the field from which it was read.
+pub(crate) fn written_name<'a>(
+    graph: &'a Graph,
+    trail: &Trail,
+    id: ObjectId,
+    local: Option<Local>,
+) -> &'a str {
+    name_of(graph, trail, id, local).unwrap_or(read_from(graph, trail, id).unwrap_or(".."))
+}
+
+/// Returns the field or variable from which an object was read, in words.
+fn read_from<'a>(graph: &'a Graph, trail: &Trail, id: ObjectId) -> Option<&'a str> {
+    let node = graph.node(trail.origin(id)?.made)?;
+    match node.event {
+        Event::Read { .. } => Some(graph.words(node.words?)),
+        _ => None,
+    }
+}
+
 /// Returns how a report calls the object: by a name, or by what made it.
 pub(crate) fn object_text(
     alloc: Global,
@@ -69,12 +88,17 @@ pub(crate) fn maker_text(alloc: Global, graph: &Graph, made: NodeId) -> Result<S
     if let Some(name) = parameter_of(graph, node) {
         return format!(in alloc; "the argument {name}");
     }
+    if let Some(name) = stolen_parameter(graph, node) {
+        return format!(in alloc; "the argument {name}");
+    }
     let line = node.place.line;
     match node.words {
         Some(words) => {
             let words = graph.words(words);
             match node.event {
-                Event::Copy { .. } => format!(in alloc; "what was in {words} at line {line}"),
+                Event::Copy { .. } | Event::Read { .. } => {
+                    format!(in alloc; "what was in {words} at line {line}")
+                }
                 _ => format!(in alloc; "what {words} gave at line {line}"),
             }
         }
@@ -82,12 +106,23 @@ pub(crate) fn maker_text(alloc: Global, graph: &Graph, made: NodeId) -> Result<S
     }
 }
 
-/// Returns the parameter whose argument comes into the function at a node.
+/// Returns the parameter whose argument is lent to the function at a node.
 pub(crate) fn parameter_of(graph: &Graph, node: Node) -> Option<&str> {
-    let local = match node.event {
-        Event::Lend { to, .. } | Event::Copy { to, .. } => to,
-        _ => return None,
-    };
+    match node.event {
+        Event::Lend { to, .. } | Event::Copy { to, .. } => parameter_name(graph, to),
+        _ => None,
+    }
+}
+
+/// Returns the parameter of which the function steals the reference that comes into it at a node.
+fn stolen_parameter(graph: &Graph, node: Node) -> Option<&str> {
+    match (node.event, node.words) {
+        (Event::Call { into: Some(to), .. }, None) => parameter_name(graph, to),
+        _ => None,
+    }
+}
+
+fn parameter_name(graph: &Graph, local: Local) -> Option<&str> {
     let known = graph.local(local)?;
     if known.is_parameter {
         Some(graph.words(known.name?))

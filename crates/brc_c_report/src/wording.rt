@@ -1,6 +1,7 @@
 //! The sentence of a finding.
 
 use crate::blame::Blame;
+use crate::cell_wording::cell_sentence;
 use crate::finding::Wrong;
 use crate::naming::{line_of, local_text, maker_text, name_of, object_text};
 use crate::trail::Trail;
@@ -17,6 +18,9 @@ pub(crate) fn sentence(
     function: &str,
     blame: &Blame,
 ) -> Result<String, AllocError> {
+    if let Some(place) = &blame.cell {
+        return cell_sentence(alloc, graph, trail, function, blame, place);
+    }
     match blame.wrong {
         Wrong::Lost => match blame.object {
             Some(id) => lost(alloc, graph, trail, function, blame, id),

@@ -7,7 +7,7 @@ use crate::value::{Local, ObjectId, Value};
 
 impl Store {
     /// Returns whether a critical section of the object is open.
-    fn is_in_section(&self, id: ObjectId) -> bool {
+    pub(crate) fn is_in_section(&self, id: ObjectId) -> bool {
         self.sections.iter().any(|section| section.first == Some(id) || section.second == Some(id))
     }
 

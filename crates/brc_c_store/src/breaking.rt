@@ -1,4 +1,6 @@
 use crate::asking::{is_spent, is_unprotected, left_by};
+use crate::cell::Cell;
+use crate::cells::{handing, is_exposed, left_in, loses_cell};
 use crate::event::{Event, Gives, Source};
 use crate::object::Base;
 use crate::rules::Rules;
@@ -21,6 +23,8 @@ pub fn faults(rules: Rules, event: Event, store: &Store) -> Option<CheckCode> {
         | Event::HandOver(_)
         | Event::Assume(_)
         | Event::EndItems
+        | Event::DropCells(_)
+        | Event::FreeCells(_)
         | Event::Lock { .. }
         | Event::Detach
         | Event::Attach
@@ -44,6 +48,10 @@ pub fn faults(rules: Rules, event: Event, store: &Store) -> Option<CheckCode> {
         }
         Event::Give(local) | Event::GiveTo { local, .. } => giving(store, local),
         Event::Call { gives, into, .. } => calling(rules, store, gives, into),
+        Event::Read { cell, .. } => fault_if(is_exposed(rules, store, cell), CheckCode::NotLocked),
+        Event::Put { cell, from } => putting(rules, store, cell, from),
+        Event::HandBack { .. } => handing(store, None),
+        Event::ForgetCell(cell) => left_in(store, store.place_of(cell)?),
         Event::Unlock => fault_if(
             rules == Rules::FreeThreaded && store.sections.is_empty(),
             CheckCode::NotLocked,
@@ -94,13 +102,29 @@ fn giving(store: &Store, local: Local) -> Option<CheckCode> {
 
 fn giving_up(store: &Store, id: ObjectId) -> Option<CheckCode> {
     let object = store.object(id);
-    if !object.registers.is_empty() {
+    if object.is_last() {
+        // The object dies, and releases what its fields have.
+        handing(store, Some(id))
+    } else if !object.registers.is_empty() || object.base == Base::Field || store.is_in_cell(id) {
         None
     } else if is_spent(object) {
         Some(CheckCode::EmptyUsed)
     } else {
-        Some(CheckCode::NotOwned)
+        fault_if(!object.is_in_field, CheckCode::NotOwned)
     }
+}
+
+/// A cell is set without protection, what it had is lost, or nothing was assigned to what it gets.
+fn putting(rules: Rules, store: &Store, cell: Cell, from: Option<Local>) -> Option<CheckCode> {
+    if is_exposed(rules, store, cell) {
+        return Some(CheckCode::NotLocked);
+    }
+    if let Some(local) = from {
+        if store.value(local) == Value::Unset {
+            return Some(CheckCode::EmptyUsed);
+        }
+    }
+    fault_if(loses_cell(store, cell, from), CheckCode::StillOwns)
 }
 
 /// What is returned has to be the caller's afterwards.

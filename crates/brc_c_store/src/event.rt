@@ -1,3 +1,4 @@
+use crate::cell::{Cell, Field};
 use crate::signs::{Signs, Test};
 use crate::value::{Fact, Local, Singleton};
 
@@ -116,6 +117,26 @@ pub enum Event {
         lender: Option<Local>,
         is_optional: bool,
     },
+    /// Reads what a cell has: an object, or NULL.
+    Read {
+        cell: Cell,
+        to: Local,
+    },
+    /// Stores what a name has in a cell, or NULL.
+    Put {
+        cell: Cell,
+        from: Option<Local>,
+    },
+    /// Each cell gets the reference that it has to have: the function returns, or other code runs, which may set cells.
+    HandBack {
+        runs_code: bool,
+    },
+    /// The same of one cell, which another function may set.
+    ForgetCell(Cell),
+    /// What has the name of these cells may be another one: they are forgotten.
+    DropCells(Field),
+    /// An object's memory is given back, and its cells with it.
+    FreeCells(Local),
     /// Begins a critical section of one object or two.
     Lock {
         first: Option<Local>,

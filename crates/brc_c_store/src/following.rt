@@ -1,4 +1,5 @@
 use crate::event::{Calling, Choice, Event, Gives, Source};
+use crate::keeping::{forget_cell, free_cells, put, read};
 use crate::object::{Base, Object};
 use crate::register::RegisterSet;
 use crate::rules::Rules;
@@ -66,6 +67,19 @@ pub fn after(
             lender,
             is_optional,
         } => lend(&mut next, to, lender, is_optional)?,
+        Event::Read { cell, to } => read(&mut next, cell, to)?,
+        Event::Put { cell, from } => return put(next, cell, from),
+        Event::HandBack { runs_code } => {
+            if runs_code {
+                next.forget_cells();
+                next.end_fields();
+            } else {
+                next.hand_back();
+            }
+        }
+        Event::ForgetCell(cell) => forget_cell(&mut next, cell)?,
+        Event::DropCells(field) => next.drop_cells(field),
+        Event::FreeCells(local) => free_cells(&mut next, local),
         Event::Lock { first, second } => lock(rules, &mut next, first, second)?,
         Event::Unlock => unlock(rules, &mut next),
         Event::Detach => detach(&mut next),
@@ -309,7 +323,7 @@ fn part_of(next: &Store, lender: Local) -> Base {
         _ if !object.registers.is_empty() => Base::Part(id),
         Base::Part(_) => Base::Part(id),
         Base::Item(register) => Base::Item(register),
-        Base::Call | Base::Gone => Base::Call,
+        Base::Call | Base::Gone | Base::Field => Base::Call,
     }
 }
 

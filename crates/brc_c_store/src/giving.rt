@@ -9,10 +9,20 @@ impl Store {
     /// Takes a name's object for one, where it might be NULL.
     pub(crate) fn refine(&mut self, local: Local) {
         if let Value::Maybe(id) = self.value(local) {
-            for named in self.values.iter_mut() {
-                if named.value == Value::Maybe(id) {
-                    named.value = Value::Object(id);
-                }
+            self.take_for_object(id);
+        }
+    }
+
+    /// Takes what may be NULL for an object.
+    pub(crate) fn take_for_object(&mut self, id: ObjectId) {
+        for named in self.values.iter_mut() {
+            if named.value == Value::Maybe(id) {
+                named.value = Value::Object(id);
+            }
+        }
+        for touched in self.cells.iter_mut() {
+            if touched.value == Value::Maybe(id) {
+                touched.value = Value::Object(id);
             }
         }
     }
@@ -24,14 +34,27 @@ impl Store {
                 named.value = Value::Null;
             }
         }
+        for touched in self.cells.iter_mut() {
+            if touched.value == Value::Maybe(id) {
+                touched.value = Value::Null;
+                touched.is_owner = false;
+            }
+        }
         self.set_object(id, Object::GONE);
     }
 
     /// Gives one reference of the object up.
     pub(crate) fn give_up(&mut self, id: ObjectId) {
         let mut object = self.object(id);
-        if let Some(last) = object.registers.last() {
-            object.registers = object.registers.without(last);
+        match object.registers.last() {
+            Some(last) => object.registers = object.registers.without(last),
+            None => {
+                self.take_from_cell(id);
+                object.is_in_field = false;
+                if object.base == Base::Field && !self.is_in_cell(id) {
+                    object.base = Base::Gone;
+                }
+            }
         }
         if object.is_alive() {
             self.set_object(id, object);
@@ -45,6 +68,7 @@ impl Store {
             None => {
                 self.set_object(id, object);
                 self.end_parts(id);
+                self.hand_back_of(id);
             }
         }
     }

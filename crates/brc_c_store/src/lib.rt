@@ -6,9 +6,12 @@
 
 mod asking;
 mod breaking;
+mod cell;
+mod cells;
 mod event;
 mod following;
 mod giving;
+mod keeping;
 mod object;
 mod register;
 mod rules;
@@ -18,6 +21,8 @@ mod value;
 
 pub use asking::{is_unprotected, left_by};
 pub use breaking::faults;
+pub use cell::{Cell, Field, Owes, Touched};
+pub use cells::left_in;
 pub use event::{Calling, Choice, Event, Gives, Source};
 pub use following::{Next, after};
 pub use object::{Base, Object};

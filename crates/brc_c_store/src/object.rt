@@ -12,6 +12,8 @@ pub enum Base {
     Item(Register),
     /// That of another object, which lends it as long as it lives.
     Part(ObjectId),
+    /// That of a field, or of a variable that is there after the call, too.
+    Field,
 }
 
 /// An object that a function knows.
@@ -24,6 +26,8 @@ pub struct Object {
     pub is_fresh: bool,
     /// The container that has made a reference of its own.
     pub kept_by: Option<ObjectId>,
+    /// Whether the function has given a field a reference beside the one that it borrows, and may take it back once.
+    pub is_in_field: bool,
     pub singleton: Option<Singleton>,
     /// Whether something is assumed of it, so that a fault in it is possible only.
     pub is_assumed: bool,
@@ -36,6 +40,7 @@ impl Object {
         base: Base::Gone,
         is_fresh: false,
         kept_by: None,
+        is_in_field: false,
         singleton: None,
         is_assumed: false,
     };
@@ -45,6 +50,11 @@ impl Object {
         base: Base::Call,
         ..Object::GONE
     };
+
+    /// Returns whether the object dies if one more reference is given up.
+    pub(crate) fn is_last(self) -> bool {
+        self.registers.count() == 1 && self.base == Base::Gone && self.kept_by.is_none()
+    }
 
     /// Returns whether the function may use the object.
     pub fn is_alive(self) -> bool {

@@ -76,6 +76,17 @@ impl RegisterSet {
         last
     }
 
+    /// Returns how many registers the set has.
+    pub fn count(self) -> usize {
+        let mut count: usize = 0;
+        for number in FIRST..BEHIND {
+            if self.contains(Register(number)) {
+                count = count.saturating_add(1);
+            }
+        }
+        count
+    }
+
     /// Returns the registers that aren't in the set.
     pub fn others(self) -> RegisterSet {
         let mut others = RegisterSet::EMPTY;

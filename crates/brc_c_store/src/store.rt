@@ -1,3 +1,4 @@
+use crate::cell::Touched;
 use crate::object::{Base, Object};
 use crate::register::{Register, RegisterSet};
 use crate::rules::Rules;
@@ -31,6 +32,8 @@ pub struct Store {
     /// The names that have a value, by their numbers.
     pub values: Vec<Named>,
     pub objects: Vec<Object>,
+    /// The cells that were read or set.
+    pub cells: Vec<Touched>,
     /// The open critical sections, the innermost last. By the rules of a global lock there are none.
     pub sections: Vec<Section>,
     /// Registers of borrowed items whose objects are forgotten.
@@ -46,6 +49,7 @@ impl Store {
         Store {
             values: Vec::new(alloc),
             objects: Vec::new(alloc),
+            cells: Vec::new(alloc),
             sections: Vec::new(alloc),
             stale: RegisterSet::EMPTY,
             is_detached: false,
@@ -114,9 +118,22 @@ impl Store {
         self.set(local, Value::Object(id))
     }
 
-    /// Returns whether a name other than this one has the object.
+    /// Returns whether a name other than this one has the object, or a cell that is to get a reference to it.
     pub fn is_named_beside(&self, id: ObjectId, local: Local) -> bool {
         self.values.iter().any(|named| named.local != local && named.value.object() == Some(id))
+            || self.is_wanted(id)
+    }
+
+    /// Returns whether a name has the object.
+    pub fn is_named(&self, id: ObjectId) -> bool {
+        self.values
+            .iter()
+            .any(|named| named.value.object() == Some(id))
+    }
+
+    /// Returns whether a cell has the object without a reference of its own.
+    fn is_wanted(&self, id: ObjectId) -> bool {
+        self.cells.iter().any(|touched| !touched.is_owner && touched.value.object() == Some(id))
     }
 
     /// Returns the registers that own a reference.

@@ -1,0 +1,35 @@
+//! What is known where the paths of a function end.
+
+use crate::blocks::{Blocks, Source, explore};
+use crate::liveness::Liveness;
+use brc_c_graph::{Graph, NodeId};
+use brc_c_store::{Rules, Store};
+use std::alloc::{AllocError, Global};
+
+/// A node at which a path returns, and the store in which it does.
+#[derive(Debug, Drop)]
+pub struct Arrival {
+    pub node: NodeId,
+    pub store: Store,
+}
+
+/// Returns each return of a graph in each store in which a path reaches it, in no order, or `None` if there are too
+/// many blocks or references. A store knows the names that the graph asks for there.
+pub fn arrivals_of(
+    alloc: Global,
+    rules: Rules,
+    graph: &Graph,
+) -> Result<Option<Vec<Arrival>>, AllocError> {
+    let live = Liveness::of(alloc, graph)?;
+    let mut blocks = Blocks::new(alloc);
+    let source = Source {
+        alloc,
+        rules,
+        graph,
+        live: &live,
+    };
+    if explore(&source, &mut blocks)?.is_some() {
+        return Ok(None);
+    }
+    Ok(Some(blocks.arrivals(alloc, graph)?))
+}
