@@ -6,7 +6,7 @@ use crate::passing::{Passing, passed};
 use crate::reasons::FlowReason;
 use crate::stop::Stop;
 use brc_c_graph::NodeId;
-use brc_c_store::{Event, Local, Source};
+use brc_c_store::{Choice, Event, Local, Source};
 use brc_c_table::Takes;
 use brc_c_tree::ExpressionId;
 
@@ -25,16 +25,58 @@ impl<'a> Builder<'a> {
         }
         let mut failure = None;
         for (at, (id, operand)) in ids.iter().zip(operands.iter()).enumerate() {
-            if fails_for_null(passed(how, at)) {
-                failure = self.fail_for_null(*id, *operand, failure, site)?;
-                if let Passing::Table(Takes::BorrowedOrFails) = passed(how, at) {
-                    self.use_argument(Passing::Table(Takes::Borrowed), *operand, site)?;
-                }
+            if let (true, Passing::Table(takes)) = (
+                fails_for_null(passed(how, at)),
+                passed(how, at),
+            ) {
+                failure = self.pass_or_fail(takes, *id, *operand, failure, site)?;
             }
         }
         self.give_arguments(how, ids, operands, site)?;
         self.keep_arguments(how, operands, site)?;
         Ok(failure)
+    }
+
+    /// Passes an argument of which NULL makes the call fail. What the call steals it steals whether it fails or not.
+    fn pass_or_fail(
+        &mut self,
+        takes: Takes,
+        id: ExpressionId,
+        operand: Operand,
+        failure: Option<NodeId>,
+        site: Site,
+    ) -> Result<Option<NodeId>, Stop> {
+        if takes != Takes::StolenOrFails {
+            let failure = self.fail_for_null(id, operand, failure, site)?;
+            if takes == Takes::BorrowedOrFails {
+                self.use_argument(Passing::Table(Takes::Borrowed), operand, site)?;
+            }
+            return Ok(failure);
+        }
+        let failure = self.give_on_failure(operand, failure, site)?;
+        let failure = self.fail_for_null(id, operand, failure, site)?;
+        self.give_argument(operand, None, site)?;
+        Ok(failure)
+    }
+
+    /// Gives an argument away on the paths on which an argument before it has made the call fail. Returns where they
+    /// go on.
+    fn give_on_failure(
+        &mut self,
+        operand: Operand,
+        failure: Option<NodeId>,
+        site: Site,
+    ) -> Result<Option<NodeId>, Stop> {
+        let Some(node) = failure else {
+            return Ok(None);
+        };
+        let open = self.open;
+        self.resume(node, Choice::Yes);
+        self.give_argument(operand, None, site)?;
+        let end = self.meeting(site.place)?;
+        self.jump(end);
+        self.open = open;
+        Ok(Some(end))
     }
 
     /// Adds that arguments are given away, or are where the call stores something.
@@ -48,7 +90,7 @@ impl<'a> Builder<'a> {
         let container = container_of(operands);
         for (at, (id, operand)) in ids.iter().zip(operands.iter()).enumerate() {
             match passed(how, at) {
-                Passing::Table(Takes::Stolen | Takes::StolenOrFails) => {
+                Passing::Table(Takes::Stolen) => {
                     self.give_argument(*operand, None, site)?;
                 }
                 Passing::Table(Takes::StolenAndKept) => {

@@ -4,7 +4,7 @@ use crate::building::Builder;
 use crate::names::Kind;
 use crate::operand::{Operand, Want};
 use crate::stop::Stop;
-use brc_c_store::{Event, Local};
+use brc_c_store::{Cell, Event, Local};
 use brc_c_text::{Place, Symbol};
 use brc_c_tree::{Binary, Expression, ExpressionId};
 
@@ -43,6 +43,9 @@ impl<'a> Builder<'a> {
             let left = self.without_casts(left);
             let base = self.parts(left, depth)?;
             self.use_base(left, base)?;
+            if let Some(cell) = self.cell_at(left, base)? {
+                return self.store_in_cell(cell, left, right, value);
+            }
         }
         self.store(target, left, right, value)
     }
@@ -114,6 +117,24 @@ impl<'a> Builder<'a> {
                 self.stow(left, value, place)?;
                 Ok(value)
             }
+        }
+    }
+
+    fn store_in_cell(
+        &mut self,
+        cell: Cell,
+        left: ExpressionId,
+        right: ExpressionId,
+        value: Operand,
+    ) -> Result<Operand, Stop> {
+        let place = self.place_of(left);
+        if let Some(name) = self.assigned_name(left) {
+            self.forget(name, place)?;
+        }
+        let words = self.words_of(left)?;
+        match self.put(cell, right, value, place, words)? {
+            Some(local) => Ok(Operand::Object(local)),
+            None => Ok(Operand::Null),
         }
     }
 

@@ -48,9 +48,16 @@ impl<'a> Builder<'a> {
     fn borrow_assumed(&mut self, operands: &[Operand], site: Site) -> Result<(), Stop> {
         self.assume(site.words)?;
         for operand in operands {
-            if let Operand::Object(local) = *operand {
-                self.at_site(Event::UseOrNull(local), site)?;
-                self.at_site(Event::Assume(local), site)?;
+            match *operand {
+                Operand::Object(local) => {
+                    self.at_site(Event::UseOrNull(local), site)?;
+                    self.at_site(Event::Assume(local), site)?;
+                }
+                // It may give up what is there.
+                Operand::Address(local) => {
+                    self.at_site(Event::Assume(local), site)?;
+                }
+                _ => {}
             }
         }
         self.forget_memory(site.place)?;
@@ -109,7 +116,8 @@ impl<'a> Builder<'a> {
     }
 }
 
-const ASSUMED: Gives = Gives::New {
+/// What such a call makes.
+pub(crate) const ASSUMED: Gives = Gives::New {
     is_fresh: false,
     is_assumed: true,
 };

@@ -1,14 +1,20 @@
 //! The graph as it is made: a path is open at its end, and each event goes on with it.
 
+use crate::cells::PlainCell;
 use crate::elements::{Element, LentElement};
+use crate::entries::KeptArgument;
 use crate::facts::KnownCondition;
+use crate::habits::Habits;
 use crate::names::Variable;
+use crate::own::OwnFunctions;
+use crate::purpose::{Purpose, Returned};
 use crate::reasons::FlowReason;
 use crate::stop::{Stop, unread};
 use crate::surroundings::Program;
 use crate::traits::Traits;
+use crate::usage::Usage;
 use brc_c_graph::{Graph, LocalName, Node, NodeId, Ways, Words};
-use brc_c_store::{Choice, Event, Local, Source};
+use brc_c_store::{Cell, Choice, Event, Local, Source};
 use brc_c_table::Tables;
 use brc_c_text::{Place, Symbol, Symbols};
 use brc_c_tree::{ExpressionId, Function, Tree, TypeName};
@@ -69,6 +75,9 @@ pub(crate) struct Builder<'a> {
     pub(crate) symbols: &'a Symbols,
     pub(crate) types: &'a Types,
     pub(crate) tables: &'a Tables,
+    pub(crate) own: OwnFunctions<'a>,
+    pub(crate) purpose: Purpose<'a>,
+    pub(crate) usage: &'a Usage,
     pub(crate) function: &'a Function,
     pub(crate) tree: &'a Tree,
     /// The types of the expressions, and what else is known of them, by their places in the tree.
@@ -83,6 +92,12 @@ pub(crate) struct Builder<'a> {
     pub(crate) elements: Vec<Element>,
     pub(crate) mixed: HashSet<Symbol>,
     pub(crate) lent: Vec<LentElement>,
+    pub(crate) habits: Habits,
+    /// The fields that the function sets.
+    pub(crate) set_fields: HashSet<Symbol>,
+    /// The cells in memory that is no object's, and those that were read, by the places of their expressions.
+    pub(crate) plain_cells: Vec<PlainCell>,
+    pub(crate) cells_read: HashMap<usize, Cell>,
     pub(crate) conditions: Vec<KnownCondition>,
     pub(crate) singletons: Vec<KnownSingleton>,
     /// The variables of the blocks that are being read.
@@ -92,6 +107,10 @@ pub(crate) struct Builder<'a> {
     pub(crate) breaks: Vec<NodeId>,
     pub(crate) continues: Vec<NodeId>,
     pub(crate) switches: Vec<Switch>,
+    /// What the caller has passed, where it matters at the ends.
+    pub(crate) kept: Vec<KeptArgument>,
+    /// The ends, if the graph is made for a row.
+    pub(crate) returns: Vec<Returned>,
     /// Whether the function gives an object or NULL.
     pub(crate) gives_objects: bool,
     /// Whether some event is about an object.
@@ -105,6 +124,7 @@ impl<'a> Builder<'a> {
     pub(crate) fn new(
         alloc: Global,
         program: &Program<'a>,
+        purpose: Purpose<'a>,
         function: &'a Function,
         tree: &'a Tree,
     ) -> Result<Builder<'a>, AllocError> {
@@ -113,6 +133,9 @@ impl<'a> Builder<'a> {
             symbols: program.symbols,
             types: program.types,
             tables: program.tables,
+            own: program.own,
+            purpose,
+            usage: program.usage,
             function,
             tree,
             typed: types_of(alloc, program.types, function)?,
@@ -123,6 +146,10 @@ impl<'a> Builder<'a> {
             elements: Vec::new(alloc),
             mixed: HashSet::new(alloc),
             lent: Vec::new(alloc),
+            habits: Habits::NONE,
+            set_fields: HashSet::new(alloc),
+            plain_cells: Vec::new(alloc),
+            cells_read: HashMap::new(alloc),
             conditions: Vec::new(alloc),
             singletons: Vec::new(alloc),
             scope: Vec::new(alloc),
@@ -130,6 +157,8 @@ impl<'a> Builder<'a> {
             breaks: Vec::new(alloc),
             continues: Vec::new(alloc),
             switches: Vec::new(alloc),
+            kept: Vec::new(alloc),
+            returns: Vec::new(alloc),
             gives_objects: false,
             has_objects: false,
             graph: Graph::new(alloc),

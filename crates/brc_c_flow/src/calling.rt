@@ -1,45 +1,70 @@
-//! Calls of functions that the table has.
+//! Calls of functions of which something is known: by a table, or by their own bodies.
 
 use crate::building::Builder;
+use crate::callee::Callee;
 use crate::names::Variable;
 use crate::operand::{Operand, Site, Want};
-use crate::passing::Passing;
-use crate::results::{Outcome, failure};
+use crate::passing::{Passing, passed};
+use crate::results::Outcome;
 use crate::stop::Stop;
 use brc_c_graph::NodeId;
 use brc_c_store::{Calling, Choice, Event, Signs};
-use brc_c_table::{Gives, Row};
+use brc_c_table::{Gives, Takes};
 use brc_c_tree::ExpressionId;
 
 impl<'a> Builder<'a> {
-    /// Adds a call of a function that the table has, and returns what it gives.
-    pub(crate) fn table_call(
+    /// Adds a call of a function of which something is known, and returns what it gives.
+    pub(crate) fn known_call(
         &mut self,
-        row: &Row,
+        callee: Callee<'a>,
         ids: &[ExpressionId],
         operands: &[Operand],
         how: &[Passing],
         site: Site,
         want: Want,
     ) -> Result<Operand, Stop> {
+        if callee.own.is_none() {
+            return self.table_call(callee, ids, operands, how, site, want);
+        }
+        // A call without objects makes no function one that has something to judge.
+        let has_objects = self.has_objects;
+        let found = self.table_call(callee, ids, operands, how, site, want)?;
+        if found.object().is_none() && !operands.iter().any(|operand| touches(*operand)) {
+            self.has_objects = has_objects;
+        }
+        Ok(found)
+    }
+
+    /// Adds a call that does what a row says.
+    fn table_call(
+        &mut self,
+        callee: Callee<'a>,
+        ids: &[ExpressionId],
+        operands: &[Operand],
+        how: &[Passing],
+        site: Site,
+        want: Want,
+    ) -> Result<Operand, Stop> {
+        let row = callee.row;
         if row.gives == Gives::Free {
             return self.free(operands, site);
         }
         let failing = self.pass_arguments(how, ids, operands, site)?;
-        self.run(row, site)?;
+        self.assume_arguments(callee, operands, how, site)?;
+        self.run(callee, site)?;
         if row.name.as_slice() == b"Py_TYPE".as_slice() {
             // A heap type's instance owns a reference to its type: what is done with it isn't judged.
             return self.unknown(site.id, want);
         }
-        let outcome = self.outcome_of(row, operands, how, want)?;
-        self.ways(row, operands, how, &outcome, failing, site)?;
+        let outcome = self.outcome_of(callee, operands, how, want)?;
+        self.ways(callee, operands, how, &outcome, failing, site)?;
         Ok(outcome.value)
     }
 
     /// Adds the call itself, and what it leaves on each way after it. NULL among the arguments makes it fail, too.
     fn ways(
         &mut self,
-        row: &Row,
+        callee: Callee<'a>,
         operands: &[Operand],
         how: &[Passing],
         outcome: &Outcome,
@@ -53,7 +78,7 @@ impl<'a> Builder<'a> {
             calling,
         };
         let call = self.at_site(event, site)?;
-        self.succeed(row, operands, how, outcome, site)?;
+        self.succeed(callee, operands, how, outcome, site)?;
         if calling == Calling::Succeeds && failing.is_none() {
             return Ok(());
         }
@@ -65,7 +90,8 @@ impl<'a> Builder<'a> {
         if let Some(node) = failing {
             self.land(node);
         }
-        self.fail(operands, how, outcome, failure(row.fails), site)?;
+        self.steal_on_failure(operands, how, site)?;
+        self.fail(operands, how, outcome, callee.failure(), site)?;
         if calling == Calling::MayMiss {
             self.jump(end);
             self.resume(call, Choice::Missing);
@@ -75,9 +101,10 @@ impl<'a> Builder<'a> {
         Ok(())
     }
 
-    /// Adds that other code runs in a call, or that a container changes.
-    fn run(&mut self, row: &Row, site: Site) -> Result<(), Stop> {
-        if row.runs {
+    /// Adds that other code runs in a call, or that a container changes. A function of the program may set anything.
+    fn run(&mut self, callee: Callee<'a>, site: Site) -> Result<(), Stop> {
+        let row = callee.row;
+        if row.runs || callee.own.is_some() {
             self.forget_memory(site.place)?;
         }
         if row.runs || sets_items(row.name.as_slice()) {
@@ -86,13 +113,35 @@ impl<'a> Builder<'a> {
         Ok(())
     }
 
+    /// Adds that something is assumed of arguments by the function that is called, or of what it stores there.
+    fn assume_arguments(
+        &mut self,
+        callee: Callee<'a>,
+        operands: &[Operand],
+        how: &[Passing],
+        site: Site,
+    ) -> Result<(), Stop> {
+        for at in callee.assumed() {
+            if let Some(Operand::Object(local)) = operands.get(*at) {
+                self.at_site(Event::Assume(*local), site)?;
+            }
+        }
+        if callee.own.is_some() && stores_unknown(operands, how) {
+            self.assume(site.words)?;
+        }
+        Ok(())
+    }
+
     /// Adds that an object's memory is given back. A deallocator's own argument is lent to it: nothing is counted.
     fn free(&mut self, operands: &[Operand], site: Site) -> Result<Operand, Stop> {
         if let Some(Operand::Object(local)) = operands.first() {
+            if self.habits.has_cells {
+                self.at_site(Event::FreeCells(*local), site)?;
+            }
             let is_argument = self.variables.values().any(|variable: &Variable| {
                 variable.is_parameter && variable.local == Some(*local)
             });
-            let event = if is_argument {
+            let event = if is_argument || self.habits.is_deallocator {
                 Event::HandOver(*local)
             } else {
                 Event::Give(*local)
@@ -106,4 +155,25 @@ impl<'a> Builder<'a> {
 /// Returns whether the function replaces an item, so that what was borrowed may end.
 fn sets_items(name: &[u8]) -> bool {
     matches!(name, b"PyList_SetItem" | b"PyList_SET_ITEM")
+}
+
+/// Returns whether a call with this argument is about an object.
+fn touches(operand: Operand) -> bool {
+    match operand {
+        Operand::Object(_) | Operand::Address(_) | Operand::Singleton(_) => true,
+        Operand::Plain | Operand::Null | Operand::Number(_) | Operand::Counted(_) => false,
+    }
+}
+
+/// Returns whether a variable of objects is passed of which the function isn't known to store one.
+fn stores_unknown(operands: &[Operand], how: &[Passing]) -> bool {
+    for (at, operand) in operands.iter().enumerate() {
+        if let (Operand::Address(_), Passing::Table(Takes::NoObject)) = (
+            *operand,
+            passed(how, at),
+        ) {
+            return true;
+        }
+    }
+    false
 }

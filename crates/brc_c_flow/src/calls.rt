@@ -1,6 +1,7 @@
 //! Calls: what is called, and what its arguments are for.
 
 use crate::building::{Branches, Builder};
+use crate::callee::Callee;
 use crate::operand::{Operand, Site, Want};
 use crate::passing::{Passing, argument_want, passed};
 use crate::references::Counting;
@@ -76,15 +77,31 @@ impl<'a> Builder<'a> {
         }
     }
 
-    /// Returns the row of what is called.
-    pub(crate) fn row_of(&self, function: ExpressionId) -> Option<&'a Row> {
+    /// Returns what is known of what is called: by a table, or else by the function's own body.
+    pub(crate) fn callee_of(&self, function: ExpressionId) -> Option<Callee<'a>> {
         let tables = self.tables;
         let symbols = self.symbols;
-        match self.tree.expression(self.without_casts(function))? {
-            Expression::Name(name) => tables.row(symbols.text(name)),
-            Expression::Field { name, .. } => tables.field(symbols.text(name)),
-            _ => None,
+        let row = match self.tree.expression(self.without_casts(function))? {
+            Expression::Name(name) => match tables.row(symbols.text(name)) {
+                Some(row) => row,
+                None => return self.own_callee(name),
+            },
+            Expression::Field { name, .. } => tables.field(symbols.text(name))?,
+            _ => return None,
+        };
+        Some(Callee { row, own: None })
+    }
+
+    /// Returns what is known of a function of the program, unless a variable has its name.
+    fn own_callee(&self, name: Symbol) -> Option<Callee<'a>> {
+        if self.variable(name).is_some() {
+            return None;
         }
+        let own = self.own.row(name)?;
+        Some(Callee {
+            row: &own.row,
+            own: Some(own),
+        })
     }
 
     /// Returns what an argument of a call is for.
@@ -122,9 +139,9 @@ impl<'a> Builder<'a> {
             self.end(Event::Halt, site.place)?;
             return Ok(Operand::Plain);
         }
-        match self.row_of(function) {
-            Some(row) if how.len() == operands.len() => {
-                self.table_call(row, ids, operands, how, site, want)
+        match self.callee_of(function) {
+            Some(callee) if how.len() == operands.len() => {
+                self.known_call(callee, ids, operands, how, site, want)
             }
             _ => self.assumed_call(name, operands, site, want),
         }
@@ -133,7 +150,7 @@ impl<'a> Builder<'a> {
     /// Returns the words for what is called: the name of a function or of a field in the table, or all words.
     fn callee_words(&mut self, function: ExpressionId) -> Result<Words, Stop> {
         match self.tree.expression(self.without_casts(function)) {
-            Some(Expression::Field { name, .. }) if self.row_of(function).is_some() => {
+            Some(Expression::Field { name, .. }) if self.callee_of(function).is_some() => {
                 self.words_of_symbol(name)
             }
             _ => self.words_of(function),

@@ -129,6 +129,8 @@ impl<'a> Builder<'a> {
         let id = self.without_casts(id);
         let base = self.parts(id, inside)?;
         self.use_base(id, base)?;
+        let cell = self.cell_at(id, base)?;
+        self.forget_cell(cell, self.place_of(id))?;
         Ok(Operand::Plain)
     }
 

@@ -6,7 +6,7 @@ use crate::names::Kind;
 use crate::passing::{letter, may_be_null};
 use crate::references::Counting;
 use crate::stop::Stop;
-use brc_c_store::{Event, Fact};
+use brc_c_store::{Event, Fact, Field};
 use brc_c_text::{Place, Symbol};
 use brc_c_tree::{Binary, Expression, ExpressionId, List, Statement, Unary};
 use std::alloc::AllocError;
@@ -101,7 +101,8 @@ impl<'a> Builder<'a> {
         }
     }
 
-    fn find_tested_side(&mut self, id: ExpressionId) -> Result<(), AllocError> {
+    /// Notes a variable that is asked for.
+    pub(crate) fn find_tested_side(&mut self, id: ExpressionId) -> Result<(), AllocError> {
         let id = self.without_casts(id);
         let name = match self.tree.expression(id) {
             Some(Expression::Assign { left, .. }) => self.name_in(left),
@@ -227,7 +228,27 @@ impl<'a> Builder<'a> {
                 self.emit(Event::Forget(Fact(at)), place, None)?;
             }
         }
+        self.drop_plain_cells(name, place)?;
         self.lend_anew(name, place)
+    }
+
+    /// Cells whose words have the name may be other ones.
+    fn drop_plain_cells(&mut self, name: Symbol, place: Place) -> Result<(), Stop> {
+        for at in 0..self.plain_cells.len() {
+            if let Some(field) = self.plain_cell_with(at, name) {
+                self.emit(Event::DropCells(field), place, None)?;
+            }
+        }
+        Ok(())
+    }
+
+    fn plain_cell_with(&self, at: usize, name: Symbol) -> Option<Field> {
+        let (text, field) = self.plain_cell_by(at)?;
+        if mentions(text.as_bytes(), self.symbols.text(name)) {
+            Some(field)
+        } else {
+            None
+        }
     }
 
     fn speaks_of(&self, at: usize, name: Symbol) -> bool {
@@ -240,7 +261,7 @@ impl<'a> Builder<'a> {
         }
     }
 
-    /// Another function may set what conditions read.
+    /// Another function may set what conditions and cells have.
     pub(crate) fn forget_memory(&mut self, place: Place) -> Result<(), Stop> {
         for at in 0..self.conditions.len() {
             let is_open = match self.conditions.get(at) {
@@ -251,7 +272,7 @@ impl<'a> Builder<'a> {
                 self.emit(Event::Forget(Fact(at)), place, None)?;
             }
         }
-        Ok(())
+        self.hand_back(true, place)
     }
 }
 

@@ -1,4 +1,6 @@
 use crate::building::Builder;
+use crate::names::Kind;
+use crate::purpose::{ArgumentNames, Purpose, RowFlow};
 use crate::reasons::Unread;
 use crate::statements::STATEMENT_DEPTH;
 use crate::stop::Stop;
@@ -22,15 +24,16 @@ pub enum Flow {
 /// # Errors
 ///
 /// Only if memory is refused.
-pub fn flow_of(
+pub fn flow_of<'a>(
     alloc: Global,
-    program: &Program<'_>,
-    function: &Function,
+    program: &Program<'a>,
+    function: &'a Function,
 ) -> Result<Flow, AllocError> {
     let Body::Read(tree, whole) = &function.body else {
         return Ok(Flow::NoObjects);
     };
-    let mut builder = Builder::new(alloc, program, function, tree)?;
+    let purpose = Purpose::Verdict(program.own.row(function.name));
+    let mut builder = Builder::new(alloc, program, purpose, function, tree)?;
     match build(&mut builder, *whole) {
         Ok(()) => {}
         Err(Stop::Unread(why)) => return Ok(Flow::NotRead(why)),
@@ -43,13 +46,69 @@ pub fn flow_of(
     }
 }
 
+/// Returns the graph from which a function's row is made, or `None` if there is none.
+///
+/// # Errors
+///
+/// Only if memory is refused.
+pub fn row_flow_of<'a>(
+    alloc: Global,
+    program: &Program<'a>,
+    function: &'a Function,
+    is_helper: bool,
+) -> Result<Option<RowFlow>, AllocError> {
+    let Body::Read(tree, whole) = &function.body else {
+        return Ok(None);
+    };
+    let purpose = Purpose::Row { is_helper };
+    let mut builder = Builder::new(alloc, program, purpose, function, tree)?;
+    match build(&mut builder, *whole) {
+        Ok(()) => {}
+        Err(Stop::Unread(_)) => return Ok(None),
+        Err(Stop::NoMemory) => return Err(AllocError),
+    }
+    let arguments = arguments_of(&builder)?;
+    Ok(Some(RowFlow {
+        graph: builder.graph,
+        gives_objects: builder.gives_objects,
+        returns: builder.returns,
+        arguments,
+    }))
+}
+
+/// Returns the parameters of a graph.
+fn arguments_of(builder: &Builder<'_>) -> Result<Vec<ArgumentNames>, AllocError> {
+    let mut arguments = Vec::new(builder.alloc);
+    for (number, parameter) in builder.function.parameters.iter().enumerate() {
+        let mut found = ArgumentNames {
+            local: None,
+            kept: None,
+        };
+        if let Some(name) = parameter.name {
+            if let Some(variable) = builder.variable(name) {
+                if variable.kind == Kind::Object {
+                    found.local = variable.local;
+                }
+            }
+        }
+        for kept in builder.kept.iter() {
+            if kept.number == number {
+                found.kept = Some(kept.local);
+            }
+        }
+        arguments.push(found)?;
+    }
+    Ok(arguments)
+}
+
 /// Makes the graph of a function whose body is the statement.
 fn build(builder: &mut Builder<'_>, whole: StatementId) -> Result<(), Stop> {
     builder.find_variables()?;
     builder.promote_variables()?;
+    builder.find_habits()?;
     builder.find_conditions()?;
     builder.find_singled()?;
-    builder.find_result();
+    builder.find_result()?;
     builder.name_variables()?;
     builder.find_elements()?;
     let place = builder.function.place;

@@ -4,7 +4,7 @@ use crate::building::Builder;
 use crate::reasons::FlowReason;
 use crate::stop::{Stop, unread};
 use brc_c_graph::LocalName;
-use brc_c_store::{Event, Local, Source};
+use brc_c_store::{Event, Local};
 use brc_c_text::{Place, Symbol};
 use brc_c_tree::{Declaration, Statement, TypeName};
 
@@ -155,7 +155,7 @@ impl<'a> Builder<'a> {
     /// Adds what the caller lends: each parameter of objects has one, or NULL.
     pub(crate) fn lend_parameters(&mut self) -> Result<(), Stop> {
         let function = self.function;
-        for parameter in &function.parameters {
+        for (number, parameter) in function.parameters.iter().enumerate() {
             let Some(name) = parameter.name else {
                 continue;
             };
@@ -171,17 +171,12 @@ impl<'a> Builder<'a> {
             else {
                 continue;
             };
-            self.copy(to, Source::Null, function.place)?;
-            let event = Event::Lend {
-                to,
-                lender: None,
-                is_optional: true,
-            };
-            self.emit(event, function.place, None)?;
+            self.begin_parameter(number, to)?;
             // Of what a C library hands on nobody knows whose it is.
             if !self.types.is_object(self.symbols, type_name) {
                 self.emit(Event::Assume(to), function.place, None)?;
             }
+            self.keep_parameter(number, to)?;
         }
         Ok(())
     }

@@ -84,10 +84,10 @@ impl<'a> Builder<'a> {
         ids: &[ExpressionId],
     ) -> Result<Vec<Passing>, Stop> {
         let mut how = Vec::new(self.alloc);
-        let Some(row) = self.row_of(function) else {
+        let Some(callee) = self.callee_of(function) else {
             return Ok(how);
         };
-        self.find_passings(row, function, ids, &mut how)?;
+        self.find_passings(callee.row, function, ids, &mut how)?;
         // Another version of the function is called: nothing is known of it.
         if how.len() != ids.len() {
             how.clear();

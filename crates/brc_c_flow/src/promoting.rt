@@ -170,6 +170,6 @@ fn is_number(name: &[u8]) -> bool {
 fn is_foreign(name: &[u8]) -> bool {
     matches!(
         name,
-        b"FILE" | b"visitproc" | b"destructor" | b"Py_buffer" | b"PyThreadState" | b"Py_complex"
+        b"visitproc" | b"destructor" | b"Py_buffer" | b"PyThreadState" | b"Py_complex"
     )
 }

@@ -61,7 +61,7 @@ impl<'a> Builder<'a> {
         if let Some(variable) = self.variable(symbol) {
             return match (variable.kind, variable.local) {
                 (Kind::Object, Some(local)) => Ok(Operand::Object(local)),
-                (Kind::Static, _) => self.unknown(id, want),
+                (Kind::Static, _) => self.kept(id, symbol, want),
                 (Kind::Array | Kind::Objects, _) => Ok(Operand::Plain),
                 _ if want.is_object => self.unknown(id, want),
                 (_, Some(local)) => Ok(Operand::Counted(local)),
@@ -79,9 +79,19 @@ impl<'a> Builder<'a> {
             return Ok(Operand::Singleton(self.singleton(symbol, false)?));
         }
         if want.is_object || self.is_object(id) {
-            return self.unknown(id, want);
+            return self.kept(id, symbol, want);
         }
         Ok(Operand::Plain)
+    }
+
+    /// Reads a variable that is there after the call, too.
+    fn kept(&mut self, id: ExpressionId, symbol: Symbol, want: Want) -> Result<Operand, Stop> {
+        if self.is_object(id) {
+            if let Some(cell) = self.variable_cell(symbol)? {
+                return self.read_cell(id, cell);
+            }
+        }
+        self.unknown(id, want)
     }
 
     /// Returns an object of which nothing is known, or NULL.
@@ -113,6 +123,10 @@ impl<'a> Builder<'a> {
         let Some(name) = self.name_in(operand) else {
             return Ok(None);
         };
+        if self.is_object(operand) {
+            let cell = self.variable_cell(name)?;
+            self.forget_cell(cell, self.place_of(operand))?;
+        }
         let Some(variable) = self.variable(name) else {
             if self.is_object(operand) {
                 return Ok(Some(Operand::Plain));
@@ -142,7 +156,10 @@ impl<'a> Builder<'a> {
         if !want.is_object && !self.is_object(id) {
             return Ok(Operand::Plain);
         }
-        self.unknown(id, want)
+        match self.cell_at(id, base)? {
+            Some(cell) => self.read_cell(id, cell),
+            None => self.unknown(id, want),
+        }
     }
 
     /// Uses the object whose field is read or set.

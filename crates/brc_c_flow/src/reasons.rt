@@ -6,10 +6,8 @@ use std::alloc::{AllocError, Global};
 pub enum FlowReason {
     /// An expression has too many operands within each other.
     TooDeep,
-    /// What a field or a variable outside functions has is released, cleared or replaced.
+    /// What is in memory of which nothing is known is released, cleared or replaced.
     FieldGivenUp,
-    /// A reference is made to what a field or a variable outside functions has.
-    FieldTaken,
     /// The same of an element of an array, or of where a pointer points to.
     ElementCounted,
     /// A variable has the name of one around it.
@@ -58,7 +56,6 @@ fn plain_text(reason: FlowReason) -> &'static str {
     match reason {
         FlowReason::TooDeep => "an expression has too many operands within each other",
         FlowReason::FieldGivenUp => "a field's reference is given up",
-        FlowReason::FieldTaken => "a reference is made to what a field has",
         FlowReason::ElementCounted => "a reference is made to an element, or given up",
         FlowReason::OutOfPlace => "`break`, `continue` or `case` where it belongs to nothing",
         FlowReason::ReturnedAs => "an object is returned as something else",

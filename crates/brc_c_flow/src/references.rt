@@ -5,7 +5,7 @@ use crate::names::Kind;
 use crate::operand::{Operand, Site, Want};
 use crate::reasons::FlowReason;
 use crate::stop::Stop;
-use brc_c_store::{Event, Local, Source};
+use brc_c_store::{Cell, Event, Local, Source};
 use brc_c_tree::{Expression, ExpressionId, Unary};
 
 /// What is done to references.
@@ -61,7 +61,12 @@ impl Counting {
         }
     }
 
-    fn replaces(self) -> bool {
+    /// Returns whether a reference that the argument has is given up.
+    pub(crate) fn gives_up(self) -> bool {
+        self.replaces() || matches!(self, Counting::Release | Counting::ReleaseOrNull)
+    }
+
+    pub(crate) fn replaces(self) -> bool {
         matches!(
             self,
             Counting::Clear | Counting::Replace | Counting::ReplaceOrNull
@@ -81,8 +86,10 @@ impl<'a> Builder<'a> {
         let (Some(id), Some(operand)) = (ids.first(), operands.first()) else {
             return Err(self.stop_at(site.id, FlowReason::Expression));
         };
-        if let Some(reason) = refused(counting, self.origin(*id)) {
-            return Err(self.stop_at(*id, reason));
+        if self.cell_read(*id).is_none() {
+            if let Some(reason) = refused(counting, self.origin(*id)) {
+                return Err(self.stop_at(*id, reason));
+            }
         }
         let local = self.counted(*id, *operand)?;
         if counting.replaces() {
@@ -115,14 +122,15 @@ impl<'a> Builder<'a> {
         local: Local,
         site: Site,
     ) -> Result<(), Stop> {
-        let old = self.unnamed()?;
-        self.copy(old, Source::Local(local), site.place)?;
-        match (ids.get(1), operands.get(1)) {
-            (Some(id), Some(value)) => self.settle(*id, *value, Want::OBJECT.into(local))?,
-            _ => self.copy(local, Source::Null, site.place)?,
-        }
         let Some(id) = ids.first() else {
             return Ok(());
+        };
+        let old = match self.cell_read(*id) {
+            Some(cell) => {
+                self.replace_in_cell(cell, ids, operands, site)?;
+                local
+            }
+            None => self.replace_variable(ids, operands, local, site)?,
         };
         if counting.may_be_null() {
             let end = self.unless_null(*id, old)?;
@@ -131,6 +139,41 @@ impl<'a> Builder<'a> {
         } else {
             self.emit(Event::Release(old), site.place, Some(site.words))?;
         }
+        Ok(())
+    }
+
+    /// Gives a variable another value, and returns the name that has the one that it had.
+    fn replace_variable(
+        &mut self,
+        ids: &[ExpressionId],
+        operands: &[Operand],
+        local: Local,
+        site: Site,
+    ) -> Result<Local, Stop> {
+        let old = self.unnamed()?;
+        self.copy(old, Source::Local(local), site.place)?;
+        match (ids.get(1), operands.get(1)) {
+            (Some(id), Some(value)) => self.settle(*id, *value, Want::OBJECT.into(local))?,
+            _ => self.copy(local, Source::Null, site.place)?,
+        }
+        Ok(old)
+    }
+
+    /// Stores the second argument in a cell, or NULL.
+    fn replace_in_cell(
+        &mut self,
+        cell: Cell,
+        ids: &[ExpressionId],
+        operands: &[Operand],
+        site: Site,
+    ) -> Result<(), Stop> {
+        let id = ids.last().copied().unwrap_or(site.id);
+        let value = operands.get(1).copied().unwrap_or(Operand::Null);
+        let words = match ids.first() {
+            Some(first) => self.words_of(*first)?,
+            None => site.words,
+        };
+        self.put(cell, id, value, site.place, words)?;
         Ok(())
     }
 
@@ -178,7 +221,7 @@ impl<'a> Builder<'a> {
 fn refused(counting: Counting, origin: Origin) -> Option<FlowReason> {
     match (counting, origin) {
         (Counting::NewRef | Counting::NewRefOrNull, _) | (_, Origin::Variable) => None,
-        (Counting::Take | Counting::TakeOrNull, Origin::Kept) => Some(FlowReason::FieldTaken),
+        (Counting::Take | Counting::TakeOrNull, Origin::Kept) => None,
         (_, Origin::Kept) => Some(FlowReason::FieldGivenUp),
         (_, Origin::Element) => Some(FlowReason::ElementCounted),
         (_, Origin::Value) if counting.replaces() => Some(FlowReason::Expression),

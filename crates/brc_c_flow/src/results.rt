@@ -1,12 +1,14 @@
 //! What a call of the table gives, and what it leaves on each way after it.
 
 use crate::arguments::container_of;
+use crate::assumed::ASSUMED;
 use crate::building::Builder;
+use crate::callee::Callee;
 use crate::operand::{Operand, Site, Want};
 use crate::passing::{Passing, passed};
 use crate::stop::Stop;
 use brc_c_store::{Calling, Choice, Event, Gives, Local, Signs, Source};
-use brc_c_table::{Fails, Gives as Given, Row, Takes};
+use brc_c_table::{Fails, Gives as Given, Takes};
 
 /// What a call gives, and the name that it goes into.
 #[derive(Clone, Copy)]
@@ -14,6 +16,8 @@ pub(crate) struct Outcome {
     pub(crate) gives: Gives,
     pub(crate) into: Option<Local>,
     pub(crate) calling: Calling,
+    /// Whether the function has a body in the program: it may store an object where nothing says so.
+    pub(crate) is_own: bool,
     /// What the call's expression has afterwards.
     pub(crate) value: Operand,
 }
@@ -22,18 +26,20 @@ impl<'a> Builder<'a> {
     /// Returns what a call gives.
     pub(crate) fn outcome_of(
         &mut self,
-        row: &Row,
+        callee: Callee<'a>,
         operands: &[Operand],
         how: &[Passing],
         want: Want,
     ) -> Result<Outcome, Stop> {
+        let row = callee.row;
         let mut outcome = Outcome {
             gives: Gives::Nothing,
             into: None,
             calling: calling_of(row.fails),
+            is_own: callee.own.is_some(),
             value: Operand::Plain,
         };
-        match gives_of(row, operands) {
+        match gives_of(callee, operands) {
             Some(gives) => {
                 let into = self.destination(want)?;
                 outcome.gives = gives;
@@ -44,7 +50,7 @@ impl<'a> Builder<'a> {
                     outcome.calling = Calling::Succeeds;
                 }
             }
-            None => outcome.value = self.number_of(row, operands, want)?,
+            None => outcome.value = self.number_of(callee, operands, want)?,
         }
         if outcome.into.is_none() {
             give_first_out(row.fails, operands, how, &mut outcome);
@@ -53,11 +59,16 @@ impl<'a> Builder<'a> {
     }
 
     /// Returns what a call has that makes no object: a number, if it matters.
-    fn number_of(&mut self, row: &Row, operands: &[Operand], want: Want) -> Result<Operand, Stop> {
-        match row.gives {
+    fn number_of(
+        &mut self,
+        callee: Callee<'a>,
+        operands: &[Operand],
+        want: Want,
+    ) -> Result<Operand, Stop> {
+        match callee.row.gives {
             Given::Null => Ok(Operand::Null),
             Given::Same { argument } => Ok(operand_at(operands, argument)),
-            Given::Number if row.fails != Fails::Never => match want.into {
+            Given::Number if callee.has_signs() => match want.into {
                 Some(local) if !want.is_object => Ok(Operand::Counted(local)),
                 _ if want.is_asked => Ok(Operand::Counted(self.unnamed()?)),
                 _ => Ok(Operand::Plain),
@@ -69,7 +80,7 @@ impl<'a> Builder<'a> {
     /// Adds what a call leaves that succeeds.
     pub(crate) fn succeed(
         &mut self,
-        row: &Row,
+        callee: Callee<'a>,
         operands: &[Operand],
         how: &[Passing],
         outcome: &Outcome,
@@ -91,7 +102,7 @@ impl<'a> Builder<'a> {
                 _ => {}
             }
         }
-        self.set_number(outcome, success(row.fails), site)
+        self.set_number(outcome, callee.success(), site)
     }
 
     fn lend(
@@ -136,6 +147,9 @@ impl<'a> Builder<'a> {
                 };
                 self.store_out(gives, local, site)
             }
+            (Takes::NoObject, Operand::Address(local)) if outcome.is_own => {
+                self.store_or_null(ASSUMED, local, site)
+            }
             (Takes::StolenOnSuccess, _) => self.give_argument(operand, None, site),
             (Takes::KeptOnSuccess, _) => self.give_argument(operand, container, site),
             _ => Ok(()),
@@ -162,13 +176,28 @@ impl<'a> Builder<'a> {
                     Passing::Table(Takes::Out | Takes::InOut | Takes::InOutOrNull),
                     Operand::Address(local),
                 ) => self.copy(local, Source::Null, site.place)?,
-                (Passing::Table(Takes::StolenOnFailure), _) if signs != Signs::ZERO => {
-                    self.give_argument(*operand, None, site)?;
+                (Passing::Table(Takes::NoObject), Operand::Address(local)) if outcome.is_own => {
+                    self.copy(local, Source::Null, site.place)?;
                 }
                 _ => {}
             }
         }
         self.set_number(outcome, signs, site)
+    }
+
+    /// Gives away what a call steals that fails.
+    pub(crate) fn steal_on_failure(
+        &mut self,
+        operands: &[Operand],
+        how: &[Passing],
+        site: Site,
+    ) -> Result<(), Stop> {
+        for (at, operand) in operands.iter().enumerate() {
+            if let Passing::Table(Takes::StolenOnFailure) = passed(how, at) {
+                self.give_argument(*operand, None, site)?;
+            }
+        }
+        Ok(())
     }
 
     fn set_number(&mut self, outcome: &Outcome, signs: Signs, site: Site) -> Result<(), Stop> {
@@ -218,9 +247,9 @@ pub(crate) const MADE: Gives = Gives::New {
 };
 
 /// Returns whose the object is that a call gives, if it gives one.
-fn gives_of(row: &Row, operands: &[Operand]) -> Option<Gives> {
-    match row.gives {
-        Given::New => Some(MADE),
+fn gives_of(callee: Callee<'_>, operands: &[Operand]) -> Option<Gives> {
+    match callee.row.gives {
+        Given::New => Some(callee.made()),
         Given::Item { argument } => match operand_at(operands, argument) {
             Operand::Object(local) => Some(Gives::Item(local)),
             _ => Some(Gives::Lent),
@@ -275,24 +304,5 @@ fn calling_of(fails: Fails) -> Calling {
         Fails::Never => Calling::Succeeds,
         Fails::Missing => Calling::MayMiss,
         _ => Calling::MayFail,
-    }
-}
-
-/// Returns the signs of a number that says that the call succeeded.
-fn success(fails: Fails) -> Signs {
-    match fails {
-        Fails::Negative => Signs::ZERO,
-        Fails::Less => Signs::ZERO_OR_ABOVE,
-        Fails::Zero | Fails::Missing => Signs::ABOVE,
-        Fails::Null | Fails::Maybe | Fails::Never => Signs::ALL,
-    }
-}
-
-/// Returns the signs of a number that says that the call failed.
-pub(crate) fn failure(fails: Fails) -> Signs {
-    match fails {
-        Fails::Negative | Fails::Less | Fails::Missing => Signs::MINUS_ONE,
-        Fails::Zero => Signs::ZERO,
-        Fails::Null | Fails::Maybe | Fails::Never => Signs::ALL,
     }
 }

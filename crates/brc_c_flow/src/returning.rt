@@ -4,15 +4,18 @@ use crate::building::Builder;
 use crate::expressions::EXPRESSION_DEPTH;
 use crate::operand::{Operand, Want};
 use crate::promoting::is_basic;
+use crate::purpose::{Purpose, Returned, ReturnedValue};
 use crate::reasons::FlowReason;
 use crate::stop::{Stop, unread};
-use brc_c_store::{Calling, Event, Gives, Local};
+use brc_c_store::{Calling, Comparison, Event, Gives, Local, Signs, Test};
+use brc_c_table::Fails;
 use brc_c_text::Place;
 use brc_c_tree::{ExpressionId, Statement};
+use std::alloc::AllocError;
 
 impl<'a> Builder<'a> {
     /// Finds whether the function gives an object: by its type, or since it returns one.
-    pub(crate) fn find_result(&mut self) {
+    pub(crate) fn find_result(&mut self) -> Result<(), AllocError> {
         let result = self.function.result;
         let name = self.symbols.text(result.symbol);
         let is_struct = result.stars == 1 && !result.is_function && !is_basic(name);
@@ -24,6 +27,32 @@ impl<'a> Builder<'a> {
             || name == b"PyMODINIT_FUNC".as_slice()
             || (is_struct && returns_object);
         self.has_objects = self.has_objects || self.gives_objects;
+        self.find_returned()
+    }
+
+    /// Notes the variables whose numbers are returned, where their signs matter.
+    fn find_returned(&mut self) -> Result<(), AllocError> {
+        if self.gives_objects || !self.asks_numbers() {
+            return Ok(());
+        }
+        let tree = self.tree;
+        for (statement, _) in tree.statements() {
+            if let Statement::Return(Some(value)) = *statement {
+                self.find_tested_side(value)?;
+            }
+        }
+        Ok(())
+    }
+
+    /// Returns whether it matters which sign a returned number has.
+    fn asks_numbers(&self) -> bool {
+        match self.purpose {
+            Purpose::Row { .. } => true,
+            Purpose::Verdict(own) => match own {
+                Some(own) => own.row.fails != Fails::Never,
+                None => false,
+            },
+        }
     }
 
     pub(crate) fn return_statement(
@@ -32,14 +61,19 @@ impl<'a> Builder<'a> {
         place: Place,
     ) -> Result<(), Stop> {
         let Some(id) = value else {
-            return self.end(Event::ReturnPlain, place);
+            return self.end_call(Event::ReturnPlain, ReturnedValue::Nothing, place);
         };
         if !self.gives_objects {
-            let found = self.value(id, Want::NOTHING, EXPRESSION_DEPTH)?;
+            let want = if self.asks_numbers() {
+                Want::ASKED
+            } else {
+                Want::NOTHING
+            };
+            let found = self.value(id, want, EXPRESSION_DEPTH)?;
             if found.object().is_some() {
                 return Err(unread(place, FlowReason::ReturnedAs));
             }
-            return self.end(Event::ReturnPlain, place);
+            return self.return_number(found, place);
         }
         let found = self.value(id, Want::ASKED_OBJECT, EXPRESSION_DEPTH)?;
         let local = match found {
@@ -49,9 +83,91 @@ impl<'a> Builder<'a> {
             _ => Some(self.returned(id)?),
         };
         match local {
-            Some(local) => self.end(Event::Return(local), place),
-            None => self.end(Event::ReturnPlain, place),
+            Some(local) => self.return_object(local, place),
+            None => self.return_none(found, place),
         }
+    }
+
+    /// Adds the end of a function that gives NULL, or the definition of a module.
+    fn return_none(&mut self, found: Operand, place: Place) -> Result<(), Stop> {
+        let is_null = found.is_null();
+        self.return_arguments(is_null, place)?;
+        let value = if is_null {
+            ReturnedValue::Null
+        } else {
+            ReturnedValue::Singleton
+        };
+        self.end_call(Event::ReturnPlain, value, place)
+    }
+
+    /// Adds the ends of a function that gives what a name has.
+    fn return_object(&mut self, local: Local, place: Place) -> Result<(), Stop> {
+        if !self.hands_back() {
+            return self.end_with(local, place);
+        }
+        let branches = self.branches(place)?;
+        self.ask(Event::Null(local), place, None, branches)?;
+        self.land(branches.holds);
+        self.return_arguments(true, place)?;
+        self.end_with(local, place)?;
+        self.land(branches.fails);
+        self.return_arguments(false, place)?;
+        self.end_with(local, place)
+    }
+
+    /// What a helper gives that it only borrows is the caller's to know.
+    fn end_with(&mut self, local: Local, place: Place) -> Result<(), Stop> {
+        let gives_borrowed = match self.purpose {
+            Purpose::Verdict(Some(own)) => own.gives_borrowed(),
+            _ => false,
+        };
+        if !gives_borrowed {
+            return self.end_call(Event::Return(local), ReturnedValue::Object(local), place);
+        }
+        self.emit(Event::UseOrNull(local), place, None)?;
+        self.end_call(Event::ReturnPlain, ReturnedValue::Nothing, place)
+    }
+
+    /// Adds the ends of a function that gives a number.
+    fn return_number(&mut self, found: Operand, place: Place) -> Result<(), Stop> {
+        let value = match found {
+            Operand::Counted(local) => ReturnedValue::Counted(local),
+            _ => ReturnedValue::Number(found.signs()),
+        };
+        let test = self.failure_test();
+        match (test, value) {
+            (Some(test), ReturnedValue::Counted(of)) if self.hands_back() => {
+                let branches = self.branches(place)?;
+                self.ask(Event::Sign { of, test }, place, None, branches)?;
+                self.land(branches.holds);
+                self.return_arguments(true, place)?;
+                self.end_call(Event::ReturnPlain, value, place)?;
+                self.land(branches.fails);
+                self.return_arguments(false, place)?;
+                self.end_call(Event::ReturnPlain, value, place)
+            }
+            (Some(test), ReturnedValue::Number(signs)) => {
+                self.return_arguments(signs.that(test, false).is_empty(), place)?;
+                self.end_call(Event::ReturnPlain, value, place)
+            }
+            _ => self.end_call(Event::ReturnPlain, value, place),
+        }
+    }
+
+    /// Returns which numbers say that the function itself failed.
+    fn failure_test(&self) -> Option<Test> {
+        let Purpose::Verdict(Some(own)) = self.purpose else {
+            return None;
+        };
+        let comparison = match own.row.fails {
+            Fails::Negative => Comparison::Less,
+            Fails::Zero => Comparison::Equal,
+            _ => return None,
+        };
+        Some(Test {
+            comparison,
+            constant: 0,
+        })
     }
 
     /// Returns whether the function begins a module, by giving its definition.
@@ -77,13 +193,36 @@ impl<'a> Builder<'a> {
         Ok(into)
     }
 
+    /// Adds the end of a call, at which the function gives a value.
+    pub(crate) fn end_call(
+        &mut self,
+        event: Event,
+        value: ReturnedValue,
+        place: Place,
+    ) -> Result<(), Stop> {
+        self.hand_back(false, place)?;
+        let node = self.emit(event, place, None)?;
+        self.open = None;
+        if let Purpose::Verdict(_) = self.purpose {
+            return Ok(());
+        }
+        self.returns.push(Returned { node, value })?;
+        if let ReturnedValue::Counted(local) = value {
+            self.graph.keep_at(node, local)?;
+        }
+        for kept in self.kept.iter() {
+            self.graph.keep_at(node, kept.local)?;
+        }
+        Ok(())
+    }
+
     /// Adds the end of the function's block.
     pub(crate) fn finish(&mut self) -> Result<(), Stop> {
-        let event = if self.gives_objects {
-            Event::End
+        let place = self.function.end;
+        if self.gives_objects {
+            self.end(Event::End, place)
         } else {
-            Event::ReturnPlain
-        };
-        self.end(event, self.function.end)
+            self.end_call(Event::ReturnPlain, ReturnedValue::Number(Signs::ALL), place)
+        }
     }
 }

@@ -4,6 +4,7 @@ use crate::building::Builder;
 use crate::expressions::EXPRESSION_DEPTH;
 use crate::names::{Kind, Variable};
 use crate::operand::{Operand, Want};
+use crate::purpose::ReturnedValue;
 use crate::reasons::FlowReason;
 use crate::stop::{Stop, unread};
 use brc_c_store::{Event, Local, Source};
@@ -191,7 +192,10 @@ impl<'a> Builder<'a> {
             | Known::ReturnTrue
             | Known::ReturnFalse
             | Known::ReturnNotImplemented
-            | Known::ReturnRichCompare => self.end(Event::ReturnPlain, place),
+            | Known::ReturnRichCompare => {
+                self.return_arguments(false, place)?;
+                self.end_call(Event::ReturnPlain, ReturnedValue::Singleton, place)
+            }
             Known::Unreachable => self.end(Event::Halt, place),
             // These do nothing with references.
             Known::Visit | Known::TrashcanBegin | Known::TrashcanEnd | Known::Head => Ok(()),

@@ -1,3 +1,5 @@
+use crate::own::OwnFunctions;
+use crate::usage::Usage;
 use brc_c_table::Tables;
 use brc_c_text::Symbols;
 use brc_c_types::Types;
@@ -8,4 +10,6 @@ pub struct Program<'a> {
     pub symbols: &'a Symbols,
     pub types: &'a Types,
     pub tables: &'a Tables,
+    pub own: OwnFunctions<'a>,
+    pub usage: &'a Usage,
 }

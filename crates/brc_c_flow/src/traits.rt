@@ -129,6 +129,14 @@ impl<'a> Builder<'a> {
         }
     }
 
+    /// Returns whether the expression at a place has an object.
+    pub(crate) fn has_object_at(&self, at: usize) -> bool {
+        match self.traits.get(at) {
+            Some(found) => found.is_object,
+            None => false,
+        }
+    }
+
     fn has_object_type(&self, at: usize) -> bool {
         match self.typed.get(at) {
             Some(Some(found)) => self.types.is_object(self.symbols, *found),

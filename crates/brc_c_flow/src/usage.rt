@@ -1,0 +1,163 @@
+//! What the functions of a source do with fields, with variables outside them, and with each other.
+
+use crate::references::Counting;
+use brc_c_text::{Symbol, Symbols};
+use brc_c_tree::{Body, Expression, ExpressionId, List, SourceTree, Statement, Tree};
+use std::alloc::{AllocError, Global};
+use std::collections::HashSet;
+
+/// How many casts of one expression are passed.
+const CAST_LIMIT: usize = 64;
+
+/// What is known of a source beside its declarations.
+#[derive(Drop)]
+pub struct Usage {
+    /// The fields and variables whose references some function gives up.
+    released: HashSet<Symbol>,
+    /// The functions that are called by their names.
+    called: HashSet<Symbol>,
+    /// Whether some function gives the memory of objects back.
+    frees: bool,
+}
+
+impl Usage {
+    /// Returns what the functions of a source do.
+    pub fn of(alloc: Global, symbols: &Symbols, source: &SourceTree) -> Result<Usage, AllocError> {
+        let mut usage = Usage {
+            released: HashSet::new(alloc),
+            called: HashSet::new(alloc),
+            frees: false,
+        };
+        for function in source.functions.iter() {
+            if let Body::Read(tree, _) = &function.body {
+                usage.add_calls(symbols, tree)?;
+                usage.add_assigned(tree)?;
+            }
+        }
+        Ok(usage)
+    }
+
+    /// Returns whether nobody gives up what a field of this name has, so that it seems to own nothing.
+    pub(crate) fn owns_nothing(&self, field: Symbol) -> bool {
+        self.frees && !self.is_released(field)
+    }
+
+    pub(crate) fn is_released(&self, name: Symbol) -> bool {
+        self.released.contains(&name)
+    }
+
+    pub(crate) fn is_called(&self, function: Symbol) -> bool {
+        self.called.contains(&function)
+    }
+
+    fn add_calls(&mut self, symbols: &Symbols, tree: &Tree) -> Result<(), AllocError> {
+        for (expression, _) in tree.expressions() {
+            if let Expression::Call {
+                function,
+                arguments,
+            } = *expression
+            {
+                self.add_call(symbols, tree, function, arguments)?;
+            }
+        }
+        Ok(())
+    }
+
+    fn add_call(
+        &mut self,
+        symbols: &Symbols,
+        tree: &Tree,
+        function: ExpressionId,
+        arguments: List,
+    ) -> Result<(), AllocError> {
+        match tree.expression(function) {
+            Some(Expression::Name(name)) => {
+                self.called.insert(name)?;
+                let text = symbols.text(name);
+                self.frees = self.frees || is_freeing(text);
+                let releases = match Counting::of(text) {
+                    Some(counting) => counting.gives_up(),
+                    None => false,
+                };
+                if let (true, Some(first)) = (releases, tree.operands(arguments).first()) {
+                    self.add_released(tree, *first)?;
+                }
+            }
+            Some(Expression::Field { name, .. }) => {
+                self.frees = self.frees || is_freeing(symbols.text(name));
+            }
+            _ => {}
+        }
+        Ok(())
+    }
+
+    fn add_released(&mut self, tree: &Tree, id: ExpressionId) -> Result<(), AllocError> {
+        if let Some(name) = place_name(tree, id) {
+            self.released.insert(name)?;
+        }
+        Ok(())
+    }
+
+    /// What goes into a variable whose reference is given up is given up, too.
+    fn add_assigned(&mut self, tree: &Tree) -> Result<(), AllocError> {
+        for (expression, _) in tree.expressions() {
+            if let Expression::Assign {
+                operator: None,
+                left,
+                right,
+            } = *expression
+            {
+                self.add_copied(tree, place_name(tree, left), right)?;
+            }
+        }
+        for (statement, _) in tree.statements() {
+            if let Statement::Declare(list) = statement {
+                for declared in tree.declarations(*list) {
+                    if let Some(value) = declared.value {
+                        self.add_copied(tree, Some(declared.name), value)?;
+                    }
+                }
+            }
+        }
+        Ok(())
+    }
+
+    fn add_copied(
+        &mut self,
+        tree: &Tree,
+        to: Option<Symbol>,
+        value: ExpressionId,
+    ) -> Result<(), AllocError> {
+        match to {
+            Some(to) if self.released.contains(&to) => self.add_released(tree, value),
+            _ => Ok(()),
+        }
+    }
+}
+
+/// Returns the name of a variable or a field.
+fn place_name(tree: &Tree, id: ExpressionId) -> Option<Symbol> {
+    let mut found = id;
+    for _turn in 0..CAST_LIMIT {
+        match tree.expression(found)? {
+            Expression::Cast { operand, .. } => found = operand,
+            Expression::Name(name) | Expression::Field { name, .. } => return Some(name),
+            _ => return None,
+        }
+    }
+    None
+}
+
+/// The functions that give the memory of an object back.
+const FREEING: [&[u8]; 6] = [
+    b"tp_free",
+    b"PyObject_Del",
+    b"PyObject_DEL",
+    b"PyObject_GC_Del",
+    b"PyObject_Free",
+    b"PyObject_FREE",
+];
+
+pub(crate) fn is_freeing(name: &[u8]) -> bool {
+    FREEING.iter().any(|known| *known == name)
+}

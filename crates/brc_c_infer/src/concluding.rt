@@ -1,0 +1,38 @@
+use crate::file::{File, Files};
+use crate::records::records_of;
+use crate::rows::row_from;
+use brc_c_flow::{OwnFunctions, OwnRow, Program, row_flow_of};
+use brc_c_image::arrivals_of;
+use brc_c_store::Rules;
+use brc_c_tree::Function;
+use std::alloc::AllocError;
+
+/// Returns the row of a function by its body and by the rows of others, or `None` if it isn't read or never returns.
+pub(crate) fn conclude(
+    files: &Files<'_>,
+    file: File<'_>,
+    own: OwnFunctions<'_>,
+    function: &Function,
+    is_helper: bool,
+) -> Result<Option<OwnRow>, AllocError> {
+    let alloc = files.alloc;
+    let program = Program {
+        symbols: files.symbols,
+        types: file.types,
+        tables: files.tables,
+        own,
+        usage: file.usage,
+    };
+    let Some(flow) = row_flow_of(alloc, &program, function, is_helper)? else {
+        return Ok(None);
+    };
+    let Some(arrivals) = arrivals_of(alloc, Rules::GlobalLock, &flow.graph)? else {
+        return Ok(None);
+    };
+    let records = records_of(alloc, &flow, arrivals.as_slice())?;
+    if records.is_empty() {
+        return Ok(None);
+    }
+    let row = row_from(files, function, &flow, records.as_slice(), is_helper)?;
+    Ok(Some(row))
+}
