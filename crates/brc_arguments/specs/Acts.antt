@@ -1,5 +1,5 @@
 -- The outputs and the status of `act`, for any words of a command line.
-use Rattle.std.specs.Prelude.{◌≡◌, ◌⊎◌, ℕ, Bool, true, ◌||◌, List, map, codes, Option}
+use Rattle.std.specs.Prelude.{◌≡◌, ◌⊎◌, ℕ, Bool, true, false, ◌||◌, List, [], ◌∷◌, map, codes, Option}
 use Rattle.std.specs.Str.{bytes_eq}
 use Rattle.std.specs.Borrow.{Bor}
 use Rattle.brc_lang.specs.Written.{AppendsBeginning}
@@ -20,8 +20,8 @@ pub record IsDoneAsking (gives : List ℕ → List ℕ → Type 0) (paint : Pain
   pub done : IsDone (HasReport gives paint asked) old new err_old err_new
 
 -- the command line asks for one report, and it stops for a reason
-pub record IsStoppedAsking (gives : List ℕ → List ℕ → Type 0) (lacks : List ℕ → Type 0)
-    (paint : Paint) (old new err_old err_new : Option (List ℕ)) (status : ℕ) : Type 0 where
+pub record IsStoppedAsking (gives : List ℕ → List ℕ → Type 0) (lacks : List ℕ → Type 0) (paint : Paint)
+    (old new err_old err_new : Option (List ℕ)) (status : ℕ) : Type 0 where
   pub asked : Asked
   pub stopped : IsStopped (IsReason gives lacks asked) (ProgramLeaves gives paint asked) old new err_old err_new status
 
@@ -44,13 +44,18 @@ pub record EndsAskingUnchecked (asks : Bool) (gives : List ℕ → List ℕ → 
   pub asked : Unchecked
   pub ended : EndsUnchecked gives lacks asked old new err_old err_new status
 
--- the word asks for the judgement of C files
+-- the command's name asks for the judgement of C files
 abbrev pub asks_for_c : List ℕ → Bool
-asks_for_c word = bytes_eq word (codes "c")
+asks_for_c name = bytes_eq name (codes "c")
 
--- the command line may ask for it, by one of its words; what is written then is left open
+-- it holds of the command's name, the word after the program's own
+abbrev pub of_command : {A : Type 0} → (A → Bool) → List A → Bool
+of_command holds (_ ∷ name ∷ _) = holds name
+of_command holds _ = false
+
+-- the command is that one; what is written then is left open
 pub record EndsAskingForC (asks_c : Bool) : Type 0 where
-  pub word : asks_c ≡ true
+  pub command : asks_c ≡ true
 
 -- the command line is wrong or asks for help, and the status is 2; or memory was refused, and the status is 3
 abbrev pub IsRefused : Option (List ℕ) → Option (List ℕ) → ℕ → Type 0

@@ -1,7 +1,7 @@
 ghost use Rattle.std.specs.Prelude.{◌≡◌, ◌≢◌, ◌≤◌};
 ghost use Rattle.std.specs.List.{list_any};
 ghost use Rattle.brc_report.specs.declared.paint.Paint.TheVariants.{Plain};
-ghost use Rattle.brc_arguments.specs.Acts.{Ends, Stops, IsRefused, asks_for_c, asks_for_run};
+ghost use Rattle.brc_arguments.specs.Acts.{Ends, Stops, IsRefused, asks_for_c, asks_for_run, of_command};
 ghost use Rattle.clap.specs.Words.{kind_of};
 ghost use Rattle.clap.specs.declared.error.kind.ErrorKind.TheVariants.{OutOfMemory};
 
@@ -40,11 +40,11 @@ pub fn act<R: System, S: AsStr, L: Load + Save, W: Write, E: Write>(
 ) -> u8
     ensures known { result ≤ 3 }
     ensures done { result ≡ 0 → Ends (list_any (λ word. asks_for_run (S.text word)) words.now)
-        (list_any (λ word. asks_for_c (S.text word)) words.now)
+        (of_command (λ name. asks_for_c (S.text name)) words.now)
         (L.may_give load.old) (L.may_lack load.old) Plain (W.contents out.old) (W.contents out.new)
         (E.contents err.old) (E.contents err.new) result }
     ensures stopped { result ≢ 0 → Stops (list_any (λ word. asks_for_run (S.text word)) words.now)
-        (list_any (λ word. asks_for_c (S.text word)) words.now)
+        (of_command (λ name. asks_for_c (S.text name)) words.now)
         (L.may_give load.old) (L.may_lack load.old) Plain (W.contents out.old) (W.contents out.new)
         (E.contents err.old) (E.contents err.new) result }
 {
@@ -63,11 +63,11 @@ pub fn act_on<R: System, S: AsStr, L: Load + Save, T: Terminal, W: Write, E: Wri
 ) -> u8
     ensures known { result ≤ 3 }
     ensures done { result ≡ 0 → Ends (list_any (λ word. asks_for_run (S.text word)) words.now)
-        (list_any (λ word. asks_for_c (S.text word)) words.now)
+        (of_command (λ name. asks_for_c (S.text name)) words.now)
         (L.may_give load.old) (L.may_lack load.old) (T.paint_of terminal.old)
         (W.contents out.old) (W.contents out.new) (E.contents err.old) (E.contents err.new) result }
     ensures stopped { result ≢ 0 → Stops (list_any (λ word. asks_for_run (S.text word)) words.now)
-        (list_any (λ word. asks_for_c (S.text word)) words.now)
+        (of_command (λ name. asks_for_c (S.text name)) words.now)
         (L.may_give load.old) (L.may_lack load.old) (T.paint_of terminal.old)
         (W.contents out.old) (W.contents out.new) (E.contents err.old) (E.contents err.new) result }
 {
@@ -81,8 +81,8 @@ pub fn act_on<R: System, S: AsStr, L: Load + Save, T: Terminal, W: Write, E: Wri
             Some(Request::Unchecked(asked)) if any_asks_for_run(words) => {
                 execute_unchecked(alloc, &asked, load, terminal, out, err)
             }
-            // Nor another word for this command.
-            Some(Request::C(asked)) if any_asks_for_c(words) => {
+            // Nor another word for this command, or another place of it.
+            Some(Request::C(asked)) if command_asks_for_c(words) => {
                 judge_c(alloc, &asked, load, out, err)
             }
             _ => {
@@ -132,18 +132,19 @@ fn asks_for_run(word: &[u8]) -> bool
     word == schedule || word == unchecked
 }
 
-/// Returns whether one of the words asks for the judgement of C files.
-fn any_asks_for_c<S: AsStr>(words: &[S]) -> bool
-    ensures { result ≡ list_any (λ word. asks_for_c (S.text word)) words.now }
+/// Returns whether the command is the judgement of C files.
+fn command_asks_for_c<S: AsStr>(words: &[S]) -> bool
+    ensures { result ≡ of_command (λ name. asks_for_c (S.text name)) words.now }
 {
-    words
-        .iter()
-        .any(|word| asks_for_c(word.as_str().as_bytes()))
+    match words {
+        [_, name, ..] => asks_for_c(name.as_str().as_bytes()),
+        _ => false,
+    }
 }
 
-fn asks_for_c(word: &[u8]) -> bool
-    ensures { result ≡ asks_for_c word.now }
+fn asks_for_c(name: &[u8]) -> bool
+    ensures { result ≡ asks_for_c name.now }
 {
-    let name: &[u8] = b"c";
-    word == name
+    let c: &[u8] = b"c";
+    name == c
 }

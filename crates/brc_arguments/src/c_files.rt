@@ -1,7 +1,8 @@
 //! The command over C files, and its options.
 
 use crate::request::Request;
-use brc_c_program::{Asked, AskedRules};
+use brc_c_program::{Asked, AskedFormat, AskedRules};
+use brc_command::VERSION;
 use clap::{Arg, ArgAction, ArgMatches, Command};
 use std::alloc::{AllocError, Global};
 
@@ -11,6 +12,13 @@ const RULES: &[&str] = &["both", GIL, FREE_THREADED];
 const GIL: &str = "gil";
 
 const FREE_THREADED: &str = "free-threaded";
+
+/// The formats that can be asked for.
+const FORMATS: &[&str] = &["text", JSON, SARIF];
+
+const JSON: &str = "json";
+
+const SARIF: &str = "sarif";
 
 pub fn c_command<'a>(alloc: Global) -> Result<Command<'a>, AllocError> {
     let command = Command::new(alloc, "c")
@@ -57,6 +65,13 @@ fn with_reading<'a>(alloc: Global, command: Command<'a>) -> Result<Command<'a>, 
                 .value_name("NAME[=VALUE]")
                 .action(ArgAction::Append)
                 .help("A macro that is defined before each file"),
+        )?
+        .arg(
+            Arg::new(alloc, "api")
+                .long("api")
+                .value_name("FILE")
+                .action(ArgAction::Append)
+                .help("A table of functions, whose rows come before those of the C API's own one"),
         )
 }
 
@@ -83,7 +98,16 @@ fn with_switches<'a>(alloc: Global, command: Command<'a>) -> Result<Command<'a>,
             alloc,
             "module",
             "Also shows the modules that are written for the functions",
-        ))
+        )
+        .conflicts_with("format")?)?
+        .arg(
+            Arg::new(alloc, "format")
+                .long("format")
+                .value_name("FORMAT")
+                .value_parser(FORMATS)
+                .default_value("text")
+                .help("What is written: text for people, JSON objects, or a SARIF document"),
+        )
 }
 
 fn switch<'a>(alloc: Global, name: &'a str, help: &'a str) -> Arg<'a> {
@@ -99,14 +123,25 @@ pub fn c_of<'m>(c: &'m ArgMatches<'_>) -> Request<'m> {
         files: c.get_strs("FILE").unwrap_or(&[]),
         function: c.get_str("function"),
         rules: rules_of(c),
+        format: format_of(c),
+        version: VERSION,
         folders: c.get_strs("folder").unwrap_or(&[]),
         macros: c.get_strs("macro").unwrap_or(&[]),
+        tables: c.get_strs("api").unwrap_or(&[]),
         shows_possible: c.get_flag("possible"),
         denies_warnings: c.get_flag("deny-warnings"),
         denies_assumed: c.get_flag("deny-assumed"),
         allows_not_read: c.get_flag("allow-not-read"),
         shows_modules: c.get_flag("module"),
     })
+}
+
+fn format_of(c: &ArgMatches) -> AskedFormat {
+    match c.get_str("format") {
+        Some(JSON) => AskedFormat::Json,
+        Some(SARIF) => AskedFormat::Sarif,
+        _ => AskedFormat::Text,
+    }
 }
 
 fn rules_of(c: &ArgMatches) -> AskedRules {

@@ -6,6 +6,17 @@ pub enum AskedRules {
     FreeThreaded,
 }
 
+/// The form in which a command writes what is found.
+#[derive(Clone, Copy, Debug, PartialEq, Eq)]
+pub enum AskedFormat {
+    /// Lines for people, as a compiler writes them.
+    Text,
+    /// A JSON object on each line.
+    Json,
+    /// One document of SARIF.
+    Sarif,
+}
+
 /// What a command asks for.
 #[derive(Clone, Copy, Debug)]
 pub struct Asked<'a> {
@@ -14,10 +25,15 @@ pub struct Asked<'a> {
     /// The name of the functions that are judged, or `None` for all.
     pub function: Option<&'a str>,
     pub rules: AskedRules,
+    pub format: AskedFormat,
+    /// The version of the program, which a document of SARIF names.
+    pub version: &'a str,
     /// Where headers in quotes are looked for that aren't beside the file.
     pub folders: &'a [&'a str],
     /// Macros, as `NAME` or `NAME=VALUE`.
     pub macros: &'a [&'a str],
+    /// The files of further tables, whose rows come before those of the program's own one.
+    pub tables: &'a [&'a str],
     /// Whether findings are shown in which something is assumed.
     pub shows_possible: bool,
     /// Whether warnings count as errors do.

@@ -1,7 +1,8 @@
 use crate::asked::Asked;
 use crate::seen::Seen;
-use brc_c_report::Level;
-use std::alloc::AllocError;
+use brc_c_report::{Finding, Level};
+use serde_json::{Map, Value, put};
+use std::alloc::{AllocError, Global};
 
 /// How many functions and findings there are.
 #[derive(Clone, Copy, Debug)]
@@ -16,6 +17,8 @@ pub(crate) struct Counts {
     errors: u64,
     warnings: u64,
     possible: u64,
+    /// The findings that comments take away, of each level.
+    suppressed: u64,
     /// Whether a function has an obstacle.
     has_obstacle: bool,
 }
@@ -42,6 +45,7 @@ impl Counts {
         errors: 0,
         warnings: 0,
         possible: 0,
+        suppressed: 0,
         has_obstacle: false,
     };
 
@@ -54,11 +58,7 @@ impl Counts {
         let errors = self.errors;
         let warnings = self.warnings;
         for finding in seen.findings.iter() {
-            match finding.level {
-                Level::Error => add_one(&mut self.errors),
-                Level::Warning(_) => add_one(&mut self.warnings),
-                Level::Possible => add_one(&mut self.possible),
-            }
+            self.add_finding(finding);
         }
         add_one(&mut self.functions);
         if seen.obstacle.is_some() {
@@ -78,6 +78,22 @@ impl Counts {
         }
     }
 
+    fn add_finding(&mut self, finding: &Finding) {
+        if finding.suppressed.is_some() {
+            return add_one(&mut self.suppressed);
+        }
+        match finding.level {
+            Level::Error => add_one(&mut self.errors),
+            Level::Warning(_) => add_one(&mut self.warnings),
+            Level::Possible => add_one(&mut self.possible),
+        }
+    }
+
+    /// Counts a warning about something else than a function.
+    pub(crate) fn add_warning(&mut self) {
+        add_one(&mut self.warnings);
+    }
+
     /// Returns the status of a command with these counts.
     pub(crate) fn status(&self, asked: &Asked<'_>) -> Status {
         if self.has_obstacle && !asked.allows_not_read {
@@ -90,6 +106,27 @@ impl Counts {
         } else {
             Status::NoError
         }
+    }
+
+    /// Returns the counts as an object.
+    pub(crate) fn value(&self, alloc: Global) -> Result<Value, AllocError> {
+        let counts = [
+            ("assumed", self.assumed),
+            ("at_fault", self.at_fault),
+            ("errors", self.errors),
+            ("functions", self.functions),
+            ("not_read", self.not_read),
+            ("possible", self.possible),
+            ("right", self.right),
+            ("suppressed", self.suppressed),
+            ("warned", self.warned),
+            ("warnings", self.warnings),
+        ];
+        let mut members = Map::new(alloc);
+        for (name, count) in counts {
+            put(&mut members, alloc, name, Value::from(count))?;
+        }
+        Ok(Value::Object(members))
     }
 
     /// Appends the line of the counts. A part that is 0 is left out, but for the right functions, errors and warnings.
@@ -116,6 +153,7 @@ impl Counts {
         if self.possible > 0 && !shows_possible {
             text.push_str(" (--possible)")?;
         }
+        add_part(text, self.suppressed, "suppressed")?;
         text.push_str("\n")?;
         Ok(())
     }

@@ -17,6 +17,8 @@ use std::alloc::AllocError;
 pub(crate) struct Judging<'a> {
     pub(crate) known: &'a Known,
     pub(crate) unit: &'a Unit,
+    /// The number of its file among those that are read.
+    pub(crate) file: usize,
     pub(crate) rules: Rules,
     /// Whether these rules are asked for, and so a function that isn't read by them has no verdict.
     pub(crate) counts: bool,
@@ -38,10 +40,18 @@ pub(crate) fn judge(
         }
         return Ok(());
     }
+    if known.own.is_unsettled(judging.file, function.name) {
+        if counts {
+            seen.hinder(function.place, String::from_str(alloc, UNSETTLED)?);
+        }
+        return Ok(());
+    }
     let program = Program {
         symbols: &known.symbols,
         types: &judging.unit.types,
         tables: &known.tables,
+        own: known.own.functions(judging.file),
+        usage: &judging.unit.usage,
     };
     match flow_of(alloc, &program, function)? {
         Flow::NoObjects => Ok(()),
@@ -108,6 +118,8 @@ fn add_verdict(
         }
     }
 }
+
+const UNSETTLED: &str = "a recursion without a fixed point";
 
 const UNCONFIRMED: &str =
     "the checker doesn't confirm what is found of it, which is a fault of brc";

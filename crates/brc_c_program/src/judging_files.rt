@@ -1,14 +1,17 @@
-//! All files of a command, one after another.
+//! All files of a command: they are one program.
 
-use crate::asked::Asked;
+use crate::asked::{Asked, AskedRules};
 use crate::counts::{Counts, Status};
 use crate::files::Files;
-use crate::modules::add_modules;
+use crate::inferring::own_of;
 use crate::pairs::{FreeReading, Pair, Readings, judge_pair};
+use crate::report::Report;
 use crate::seen::Seen;
 use crate::sources::Sources;
+use crate::suppressions::{Suppression, suppress, suppressions_in};
+use crate::tables::read_tables;
 use crate::unit::{Known, Unit, UnitFault, read_unit};
-use crate::writing::add_lines;
+use brc_c_infer::Own;
 use brc_c_macros::MacroFault;
 use brc_c_store::Rules;
 use brc_c_table::Tables;
@@ -19,7 +22,7 @@ use std::alloc::{AllocError, Global};
 /// What a command says of its files.
 #[derive(Drop)]
 pub struct Judgement {
-    /// The lines about functions, and last the counts.
+    /// What is found of functions, and last the counts, in the format that is asked for.
     pub text: String,
     /// The lines about files that can't be read.
     pub errors: String,
@@ -31,49 +34,73 @@ pub struct Judgement {
 struct Work<'f, 'a, F: Files> {
     known: Known,
     sources: Sources<'f, 'a, F>,
+    /// The comments of the present file that take findings away.
+    suppressions: Vec<Suppression>,
     counts: Counts,
-    text: String,
+    report: Report,
     errors: String,
 }
 
-/// Judges the functions of a command's files. Returns an error only if memory is refused.
+/// Judges the functions of a command's files, unless one of its tables isn't read. Returns an error only if memory is
+/// refused.
 pub fn judge_files<F: Files>(
     alloc: Global,
     asked: &Asked<'_>,
     files: &mut F,
 ) -> Result<Judgement, AllocError> {
-    let Ok(tables) = Tables::new(alloc) else {
-        return Err(AllocError);
-    };
+    let mut errors = String::new(alloc);
+    let tables = read_tables(alloc, asked.tables, files, &mut errors)?;
+    if !errors.is_empty() {
+        return Ok(Judgement {
+            text: String::new(alloc),
+            errors,
+            status: Status::NotRead,
+        });
+    }
+    judge_by(alloc, asked, files, tables)
+}
+
+/// Judges the functions by the tables.
+fn judge_by<F: Files>(
+    alloc: Global,
+    asked: &Asked<'_>,
+    files: &mut F,
+    tables: Tables,
+) -> Result<Judgement, AllocError> {
     let mut work = Work {
         known: Known {
             alloc,
             symbols: Symbols::new(alloc)?,
             tables,
+            own: Own::new(alloc),
         },
         sources: Sources::new(alloc, files, asked.folders),
+        suppressions: Vec::new(alloc),
         counts: Counts::NONE,
-        text: String::new(alloc),
+        report: Report::new(alloc),
         errors: String::new(alloc),
     };
-    for path in asked.files {
-        work.judge_file(asked, path)?;
+    let readings = work.read_files(asked)?;
+    work.infer(readings.as_slice())?;
+    for read in readings.iter() {
+        work.judge_readings(asked, read)?;
+        work.complain(asked, read)?;
     }
     work.end(asked)
 }
 
 impl<F: Files> Work<'_, '_, F> {
     fn end(self, asked: &Asked<'_>) -> Result<Judgement, AllocError> {
+        let alloc = self.known.alloc;
         let Work {
             known: _,
             sources: _,
+            suppressions: _,
             counts,
-            text,
+            report,
             errors,
         } = self;
-        let mut text = text;
         let mut errors = errors;
-        counts.add_line(&mut text, asked.shows_possible)?;
         if let Some(name) = asked.function {
             if !counts.has_functions() {
                 write!(errors, "no function {name}\n")?;
@@ -84,6 +111,7 @@ impl<F: Files> Work<'_, '_, F> {
         } else {
             Status::NotRead
         };
+        let text = report.end(alloc, asked, &counts, errors.is_empty())?;
         Ok(Judgement {
             text,
             errors,
@@ -91,14 +119,45 @@ impl<F: Files> Work<'_, '_, F> {
         })
     }
 
-    fn judge_file(&mut self, asked: &Asked<'_>, path: &str) -> Result<(), AllocError> {
+    /// Reads all files, before any function is judged: each file knows the functions of the others.
+    fn read_files(&mut self, asked: &Asked<'_>) -> Result<Vec<Readings>, AllocError> {
+        let mut readings = Vec::new(self.known.alloc);
+        for path in asked.files {
+            let file = readings.len();
+            if let Some(read) = self.read_file(asked, path, file)? {
+                readings.push(read)?;
+            }
+        }
+        Ok(readings)
+    }
+
+    /// Finds what the functions of all files do for those that call them.
+    fn infer(&mut self, readings: &[Readings]) -> Result<(), AllocError> {
+        self.known.own = own_of(&self.known, readings)?;
+        Ok(())
+    }
+
+    /// Reads a file, or says why it isn't read.
+    fn read_file(
+        &mut self,
+        asked: &Asked<'_>,
+        path: &str,
+        file: usize,
+    ) -> Result<Option<Readings>, AllocError> {
         let number = self.sources.number_of(path)?;
         let Some(bytes) = self.sources.bytes_of(path)? else {
-            return write!(self.errors, "{path}: unreadable file\n");
+            write!(self.errors, "{path}: unreadable file\n")?;
+            return Ok(None);
         };
-        match self.readings_of(asked, bytes.as_slice(), number) {
-            Ok(readings) => self.judge_readings(asked, &readings),
-            Err(fault) => self.refuse(path, fault),
+        match self.readings_of(asked, bytes.as_slice(), number, file) {
+            Ok(readings) => {
+                self.note_comments(bytes.as_slice(), number)?;
+                Ok(Some(readings))
+            }
+            Err(fault) => {
+                self.refuse(path, fault)?;
+                Ok(None)
+            }
         }
     }
 
@@ -107,6 +166,7 @@ impl<F: Files> Work<'_, '_, F> {
         asked: &Asked<'_>,
         bytes: &[u8],
         number: usize,
+        file: usize,
     ) -> Result<Readings, UnitFault> {
         let locked = self.unit(asked, bytes, number, Rules::GlobalLock)?;
         let free = if !asked.asks_for_free_threaded() {
@@ -118,6 +178,7 @@ impl<F: Files> Work<'_, '_, F> {
         };
         Ok(Readings {
             number,
+            file,
             locked,
             free,
         })
@@ -140,6 +201,14 @@ impl<F: Files> Work<'_, '_, F> {
         )
     }
 
+    /// Notes the comments of a file that take findings away.
+    fn note_comments(&mut self, bytes: &[u8], number: usize) -> Result<(), AllocError> {
+        for suppression in suppressions_in(self.known.alloc, bytes, number)? {
+            self.suppressions.push(suppression)?;
+        }
+        Ok(())
+    }
+
     /// Says why a file isn't read.
     fn refuse(&mut self, path: &str, fault: UnitFault) -> Result<(), AllocError> {
         match fault {
@@ -149,6 +218,33 @@ impl<F: Files> Work<'_, '_, F> {
             UnitFault::Text(fault) => write!(self.errors, "{path}: {fault}\n"),
             UnitFault::Macro(fault) => write!(self.errors, "{path}: {fault}\n"),
         }
+    }
+
+    /// Says what is wrong with the comments of a file that take findings away. Of those that take nothing away it can
+    /// be said only if all functions are judged, by both sets of rules.
+    fn complain(&mut self, asked: &Asked<'_>, readings: &Readings) -> Result<(), AllocError> {
+        if asked.function.is_some() {
+            return Ok(());
+        }
+        let counts = asked.rules == AskedRules::Both;
+        for suppression in self.suppressions.iter_mut() {
+            if suppression.place.source != readings.number {
+                continue;
+            }
+            suppression.excuse(readings.locked.lost.as_slice());
+            if let FreeReading::Own(free) = &readings.free {
+                suppression.excuse(free.lost.as_slice());
+            }
+            if let Some(words) = suppression.complaint(counts) {
+                self.counts.add_warning();
+                let alloc = self.known.alloc;
+                let place = suppression.place;
+                let sources = self.sources.names();
+                self.report
+                    .add_complaint(alloc, asked, sources, place, words)?;
+            }
+        }
+        Ok(())
     }
 
     /// Judges the functions of a file, in their order.
@@ -214,19 +310,12 @@ impl<F: Files> Work<'_, '_, F> {
         let name = String::from_utf8_lossy(alloc, bytes)?;
         let mut seen = Seen::new(alloc, asked.shows_modules);
         judge_pair(&self.known, asked, readings, pair, &mut seen)?;
+        suppress(alloc, self.suppressions.as_mut_slice(), function, &mut seen)?;
         self.counts.add(&seen);
         let sources = self.sources.names();
-        let place = function.place;
-        let text = &mut self.text;
-        add_lines(text, asked, sources, name.as_str(), place, &seen)?;
-        add_modules(
-            alloc,
-            text,
-            sources,
-            name.as_str(),
-            place,
-            seen.modules.as_slice(),
-        )
+        let name = name.as_str();
+        self.report
+            .add_seen(alloc, asked, sources, name, function.place, &seen)
     }
 }
 

@@ -3,18 +3,23 @@
 #![tactic(auto)]
 
 mod asked;
+mod comment_words;
 mod counts;
 mod files;
+mod inferring;
 mod judging;
 mod judging_files;
 mod modules;
 mod pairs;
+mod report;
 mod seen;
 mod sources;
+mod suppressions;
+mod tables;
 mod unit;
 mod writing;
 
-pub use asked::{Asked, AskedRules};
+pub use asked::{Asked, AskedFormat, AskedRules};
 pub use counts::Status;
 pub use files::Files;
 pub use judging_files::{Judgement, judge_files};

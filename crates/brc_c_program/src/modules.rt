@@ -2,6 +2,7 @@
 
 use crate::seen::Seen;
 use brc_c_judge::Verdict;
+use brc_c_objects::About;
 use brc_c_report::add_place;
 use brc_c_store::Rules;
 use brc_c_text::Place;
@@ -41,21 +42,20 @@ fn note(alloc: Global, rules: Rules, text: &[u8], seen: &mut Seen) -> Result<(),
 
 /// Appends the modules of a function, which is at this place.
 pub(crate) fn add_modules(
-    alloc: Global,
     text: &mut String,
-    sources: &[String],
-    name: &str,
+    about: &About<'_>,
     place: Place,
     modules: &[Written],
 ) -> Result<(), AllocError> {
+    let name = about.function.unwrap_or("");
     for written in modules {
         let rules = match written.rules {
             Rules::GlobalLock => "a global lock",
             Rules::FreeThreaded => "free threads",
         };
-        add_place(text, sources, place)?;
+        add_place(text, about.sources, place)?;
         write!(text, "note: the module of {name} by the rules of {rules}\n")?;
-        let lines = String::from_utf8_lossy(alloc, written.text.as_slice())?;
+        let lines = String::from_utf8_lossy(about.alloc, written.text.as_slice())?;
         text.push_str(lines.as_str())?;
     }
     Ok(())

@@ -21,8 +21,10 @@ pub(crate) enum FreeReading {
 /// latter only is a warning, so the former are always needed.
 #[derive(Drop)]
 pub(crate) struct Readings {
-    /// The number of the file.
+    /// The number of the file among the sources.
     pub(crate) number: usize,
+    /// Its number among the files that are read.
+    pub(crate) file: usize,
     pub(crate) locked: Unit,
     pub(crate) free: FreeReading,
 }
@@ -57,6 +59,7 @@ pub(crate) fn judge_pair(
         let judging = Judging {
             known,
             unit: &readings.locked,
+            file: readings.file,
             rules: Rules::GlobalLock,
             counts: asked.asks_for_global_lock(),
         };
@@ -66,6 +69,7 @@ pub(crate) fn judge_pair(
         let judging = Judging {
             known,
             unit,
+            file: readings.file,
             rules: Rules::FreeThreaded,
             counts: true,
         };

@@ -2,14 +2,17 @@
 
 use crate::files::Files;
 use crate::sources::Sources;
+use brc_c_flow::Usage;
+use brc_c_infer::{Own, Uses, uses_of};
 use brc_c_macros::{Lost, MacroFault, Macros, preprocess};
 use brc_c_read::{TypeNames, read_source};
 use brc_c_store::Rules;
 use brc_c_table::Tables;
-use brc_c_text::{Lexeme, LexemeKind, Symbols, TextFault, lexemes_of, scan};
+use brc_c_text::{Lexeme, LexemeKind, Symbol, Symbols, TextFault, lexemes_of, scan};
 use brc_c_tree::{Function, SourceTree};
 use brc_c_types::{Types, cast_result};
 use std::alloc::{AllocError, AllocFailed, Global};
+use std::collections::HashSet;
 
 /// Why a file isn't read at all.
 #[derive(Clone, Copy, Debug, PartialEq, Eq)]
@@ -36,6 +39,11 @@ impl<T: Drop> From<AllocFailed<T>> for UnitFault {
 pub(crate) struct Unit {
     pub(crate) tree: SourceTree,
     pub(crate) types: Types,
+    /// How the functions are used that the file declares.
+    pub(crate) uses: Uses,
+    /// Macros that take a function from a table of functions.
+    pub(crate) casts: HashSet<Symbol>,
+    pub(crate) usage: Usage,
     /// What is left out for want of a name.
     pub(crate) lost: Vec<Lost>,
 }
@@ -46,6 +54,8 @@ pub(crate) struct Known {
     pub(crate) alloc: Global,
     pub(crate) symbols: Symbols,
     pub(crate) tables: Tables,
+    /// What is known of the functions of the program, once all files are read.
+    pub(crate) own: Own,
 }
 
 /// Reads a file, whose bytes these are, by a set of rules. `defined` are macros, as `NAME` or `NAME=VALUE`.
@@ -66,11 +76,22 @@ pub(crate) fn read_unit<F: Files>(
     };
     let mut names = TypeNames::new(alloc, &mut known.symbols)?;
     let tree = read_source(alloc, &known.symbols, &mut names, done.lexemes.as_slice())?;
+    let usage = Usage::of(alloc, &known.symbols, &tree)?;
     let mut types = Types::new(alloc, &tree)?;
-    add_casts(&mut types, &done.macros, done.lexemes.as_slice())?;
+    let mut casts = HashSet::new(alloc);
+    add_casts(
+        &mut types,
+        &mut casts,
+        &done.macros,
+        done.lexemes.as_slice(),
+    )?;
+    let uses = uses_of(alloc, &tree, done.lexemes.as_slice())?;
     Ok(Unit {
         tree,
         types,
+        uses,
+        casts,
+        usage,
         lost: done.lost,
     })
 }
@@ -132,7 +153,12 @@ fn keep(known: &Known, macros: &mut Macros, lexemes: &[Lexeme]) -> Result<(), Al
 }
 
 /// Adds what functions give that macros take from tables of functions.
-fn add_casts(types: &mut Types, macros: &Macros, lexemes: &[Lexeme]) -> Result<(), AllocError> {
+fn add_casts(
+    types: &mut Types,
+    casts: &mut HashSet<Symbol>,
+    macros: &Macros,
+    lexemes: &[Lexeme],
+) -> Result<(), AllocError> {
     for lexeme in lexemes {
         if lexeme.kind == LexemeKind::Name && types.result_of(lexeme.symbol).is_none() {
             if let Some(found) = macros.find(lexeme.symbol) {
@@ -140,6 +166,7 @@ fn add_casts(types: &mut Types, macros: &Macros, lexemes: &[Lexeme]) -> Result<(
                     let body = macros.body(&found)?;
                     if let Some(given) = cast_result(body.as_slice()) {
                         types.add_result(lexeme.symbol, given)?;
+                        casts.insert(lexeme.symbol)?;
                     }
                 }
             }
