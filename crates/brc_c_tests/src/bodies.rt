@@ -1,4 +1,5 @@
-use crate::reading::bodies_of;
+use crate::reading::{bodies_of, same};
+use std::alloc::Global;
 use std::test::Fail;
 
 /// The body of a function with the parameters `a` and `b`, and the text of its tree.
@@ -158,22 +159,32 @@ const NOT_READ: [(&str, &str); 23] = [
     ("sizeof (a", "2:1 a brace or a parenthesis isn't closed"),
 ];
 
+/// Fails unless the body has this tree.
+fn body(alloc: Global, body: &str, wanted: &str) -> Result<(), Fail> {
+    let source = format!(in alloc; "static int f(PyObject *a, int b) {{ {body} }}")?;
+    let found = bodies_of(alloc, source.as_bytes())?;
+    same(body, found.as_str().trim_end(), wanted)
+}
+
+/// Fails unless the body isn't read, for this reason, and the function after it is.
+fn body_not_read(alloc: Global, body: &str, wanted: &str) -> Result<(), Fail> {
+    let source = format!(in alloc;
+        "int f(int a) {{\n{body}\n}}\nint g(void)\n{{\nreturn 1;\n}}\n"
+    )?;
+    let found = bodies_of(alloc, source.as_bytes())?;
+    let (first, second) = found.as_str().split_once('\n').unwrap_or(("", ""));
+    same(body, first, wanted)?;
+    same(body, second, "{ return 1; }\n")
+}
+
 /// Each function after one that isn't read is read.
 #[test]
 fn bodies(rt: HostRuntime) -> Result<(), Fail> {
-    let alloc = rt.alloc();
-    for (body, wanted) in ROWS {
-        let source = format!(in alloc; "static int f(PyObject *a, int b) {{ {body} }}")?;
-        let found = bodies_of(alloc, source.as_bytes())?;
-        assert_eq!(rt; found.as_str().trim_end(), wanted, "{body}");
+    for (source, wanted) in &ROWS {
+        body(rt.alloc(), source, wanted)?;
     }
-    for (body, wanted) in NOT_READ {
-        let source = format!(in alloc;
-            "int f(int a) {{\n{body}\n}}\nint g(void)\n{{\nreturn 1;\n}}\n"
-        )?;
-        let found = bodies_of(alloc, source.as_bytes())?;
-        let wanted = format!(in alloc; "{wanted}\n{{ return 1; }}\n")?;
-        assert_eq!(rt; found, wanted, "{body}");
+    for (source, wanted) in &NOT_READ {
+        body_not_read(rt.alloc(), source, wanted)?;
     }
     Ok(())
 }

@@ -1,4 +1,4 @@
-//! Tests of the reader of C: tokens, macros, and the trees of functions.
+//! Tests of the reader of C: tokens, macros, the trees of functions, types, and the table of the C API.
 #![tactic(auto)]
 
 #[cfg(test)]
@@ -15,6 +15,10 @@ mod random;
 mod reading;
 #[cfg(test)]
 mod rendering;
+#[cfg(test)]
+mod statement_texts;
+#[cfg(test)]
+mod table;
 #[cfg(test)]
 mod tokens;
 #[cfg(test)]

@@ -1,4 +1,4 @@
-use crate::reading::{bodies_of, preprocessed};
+use crate::reading::{bodies_of, preprocessed, same};
 use brc_c_text::Symbols;
 use brc_c_tree::FUNCTION_LIMIT;
 use std::alloc::{AllocError, Global};
@@ -12,53 +12,55 @@ fn repeat(into: &mut String, text: &str, times: usize) -> Result<(), AllocError>
     Ok(())
 }
 
-/// Returns a function whose body has a text this often, one in the middle, and another text as often.
-fn nested(
-    alloc: Global,
-    before: &str,
-    middle: &str,
-    behind: &str,
-    times: usize,
-) -> Result<String, AllocError> {
+/// What a body repeats: a text, behind one in the middle another text as often, and what it ends with. Then how often
+/// it may, and why it isn't read one time more.
+type Repeated = (
+    [&'static str; 2],
+    &'static str,
+    &'static str,
+    usize,
+    &'static str,
+);
+
+const ROWS: [Repeated; 6] = [
+    (["{", "}"], ";", "", 63, "nested more than 64 deep"),
+    (["if (a) ", ""], ";", "", 63, "nested more than 64 deep"),
+    (["a;", ""], "", "", 16383, "more than 32768 tokens"),
+    (["(", ")"], "a", ";", 63, "nested more than 64 deep"),
+    (["f(", ")"], "a", ";", 63, "nested more than 64 deep"),
+    (["a[", "]"], "1", ";", 63, "nested more than 64 deep"),
+];
+
+/// Returns a function whose body has the texts this often.
+fn nested(alloc: Global, row: &Repeated, times: usize) -> Result<String, AllocError> {
     let mut source = String::from_str(alloc, "int f(int a) {\n")?;
-    repeat(&mut source, before, times)?;
-    source.push_str(middle)?;
-    repeat(&mut source, behind, times)?;
+    repeat(&mut source, row.0[0], times)?;
+    source.push_str(row.1)?;
+    repeat(&mut source, row.0[1], times)?;
+    source.push_str(row.2)?;
     source.push_str("\n}\n")?;
     Ok(source)
 }
 
-/// What a body repeats, how often it may, and why it isn't read one time more.
-const ROWS: [(&str, &str, &str, usize, &str); 3] = [
-    ("{", ";", "}", 63, "nested more than 64 deep"),
-    ("if (a) ", ";", "", 63, "nested more than 64 deep"),
-    ("a;", "", "", 16383, "more than 32768 tokens"),
-];
-
-/// What is repeated around an expression 63 times at most.
-const AROUND: [(&str, &str, &str); 3] = [("(", "a", ")"), ("f(", "a", ")"), ("a[", "1", "]")];
+/// Returns whether a body that has the texts this often is read. Fails if it isn't, and for another reason.
+fn is_read(alloc: Global, row: &Repeated, times: usize) -> Result<bool, Fail> {
+    let source = nested(alloc, row, times)?;
+    let found = bodies_of(alloc, source.as_bytes())?;
+    let text = found.as_str().trim_end();
+    if !text.starts_with("{") && !text.ends_with(row.4) {
+        return Err(Fail::new(format_args!("{text}")));
+    }
+    Ok(text.starts_with("{"))
+}
 
 #[test]
 fn sizes(rt: HostRuntime) -> Result<(), Fail> {
-    let alloc = rt.alloc();
-    for (before, middle, behind, times, why) in ROWS {
-        let source = nested(alloc, before, middle, behind, times)?;
-        let found = bodies_of(alloc, source.as_bytes())?;
-        assert!(rt; found.as_str().starts_with("{"), "{before} {times}");
-        let source = nested(alloc, before, middle, behind, times.saturating_add(1))?;
-        let found = bodies_of(alloc, source.as_bytes())?;
-        assert!(rt; found.as_str().trim_end().ends_with(why), "{found}");
-    }
-    for (before, middle, behind) in AROUND {
-        for (times, is_read) in [(63, true), (64, false)] {
-            let source = nested(alloc, before, middle, behind, times)?;
-            let found = bodies_of(alloc, source.as_bytes())?;
-            assert_eq!(rt;
-                !found.as_str().trim_end().ends_with("64 deep"),
-                is_read,
-                "{before} {times}"
-            );
-        }
+    for row in &ROWS {
+        assert!(rt; is_read(rt.alloc(), row, row.3)?, "{row:?}");
+        assert!(rt;
+            !is_read(rt.alloc(), row, row.3.saturating_add(1))?,
+            "{row:?}"
+        );
     }
     Ok(())
 }
@@ -83,32 +85,59 @@ fn included(alloc: Global) -> Result<usize, Fail> {
     Ok(done.lexemes.len())
 }
 
-#[test]
-fn many(rt: HostRuntime) -> Result<(), Fail> {
-    let alloc = rt.alloc();
-    // `else if` isn't nested, nor are operators.
+/// Returns a long function, in which neither `else if` nor operators are nested, and one function more than are read.
+fn many_functions(alloc: Global) -> Result<String, AllocError> {
     let mut source = String::from_str(alloc, "int f(int a) { ")?;
     repeat(&mut source, "if (a) ; else ", 300)?;
     source.push_str("a = ")?;
     repeat(&mut source, "!a && a ? a : ", 300)?;
     source.push_str("a; }\n")?;
     repeat(&mut source, "int g(void) { }\n", FUNCTION_LIMIT)?;
+    Ok(source)
+}
+
+/// Returns how many functions there are, and how many of them are read before the first one that is one too many.
+fn functions_read(alloc: Global) -> Result<[usize; 2], Fail> {
+    let source = many_functions(alloc)?;
     let found = bodies_of(alloc, source.as_bytes())?;
-    assert_eq!(rt; found.as_str().lines().count(), FUNCTION_LIMIT + 1);
-    for (at, line) in found.as_str().lines().enumerate() {
-        let is_over = line.ends_with("more than 512 functions in a file");
-        assert_eq!(rt; is_over, at == FUNCTION_LIMIT);
+    let mut all: usize = 0;
+    let mut read: usize = 0;
+    for line in found.as_str().lines() {
+        if all == read && !line.ends_with("more than 512 functions in a file") {
+            read = read.saturating_add(1);
+        }
+        all = all.saturating_add(1);
     }
-    let found = bodies_of(alloc, GROWING.as_bytes())?;
-    let is_long = found
-        .as_str()
-        .ends_with("more than 32768 tokens\n{ return 1; }\n");
-    assert!(rt; is_long, "{found}");
-    let found = bodies_of(alloc, EMPTY.as_bytes())?;
+    Ok([all, read])
+}
+
+/// Fails unless the bodies of a text's functions end so.
+fn bodies_end(alloc: Global, source: &str, wanted: &str) -> Result<(), Fail> {
+    let found = bodies_of(alloc, source.as_bytes())?;
+    if found.as_str().ends_with(wanted) {
+        return Ok(());
+    }
+    same(source, found.as_str(), wanted)
+}
+
+/// Fails unless the bodies of a text's functions are these.
+fn bodies_are(alloc: Global, source: &str, wanted: &str) -> Result<(), Fail> {
+    let found = bodies_of(alloc, source.as_bytes())?;
+    same(source, found.as_str(), wanted)
+}
+
+#[test]
+fn many(rt: HostRuntime) -> Result<(), Fail> {
+    let alloc = rt.alloc();
     assert_eq!(rt;
-        found.as_str(),
-        "8:16 a macro makes too much before `A`\n{ return 1; }\n"
+        functions_read(alloc)?,
+        [FUNCTION_LIMIT + 1, FUNCTION_LIMIT]
     );
     assert_eq!(rt; included(alloc)?, 64);
-    Ok(())
+    bodies_end(alloc, GROWING, "more than 32768 tokens\n{ return 1; }\n")?;
+    bodies_are(
+        alloc,
+        EMPTY,
+        "8:16 a macro makes too much before `A`\n{ return 1; }\n",
+    )
 }

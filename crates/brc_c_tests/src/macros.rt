@@ -1,15 +1,14 @@
-use crate::reading::preprocessed;
+use crate::reading::{preprocessed, same};
+use brc_c_macros::Preprocessed;
 use brc_c_text::Symbols;
-use std::alloc::Global;
+use std::alloc::{AllocError, Global};
 use std::test::Fail;
 
-/// Returns the lexemes that are left of a source, with a blank after each.
-fn left_of(alloc: Global, source: &str) -> Result<Vec<u8>, Fail> {
-    let mut symbols = Symbols::new(alloc)?;
-    let done = preprocessed(alloc, &mut symbols, source.as_bytes())?;
+/// Returns the lexemes that are left of a source, with a blank after each, and the names that were lost.
+fn left_of(alloc: Global, symbols: &Symbols, done: &Preprocessed) -> Result<Vec<u8>, AllocError> {
     let mut all = Vec::new(alloc);
     for lexeme in &done.lexemes {
-        all.extend_from_slice(lexeme.text(&symbols))?;
+        all.extend_from_slice(lexeme.text(symbols))?;
         all.push(b' ')?;
     }
     for lost in &done.lost {
@@ -18,6 +17,14 @@ fn left_of(alloc: Global, source: &str) -> Result<Vec<u8>, Fail> {
         all.push(b' ')?;
     }
     Ok(all)
+}
+
+/// Fails unless this is left of the source.
+fn leaves(alloc: Global, source: &str, wanted: &str) -> Result<(), Fail> {
+    let mut symbols = Symbols::new(alloc)?;
+    let done = preprocessed(alloc, &mut symbols, source.as_bytes())?;
+    let left = left_of(alloc, &symbols, &done)?;
+    same(source, str::from_utf8(left.as_slice())?, wanted)
 }
 
 const ROWS: [(&str, &str); 24] = [
@@ -61,11 +68,8 @@ const ROWS: [(&str, &str); 24] = [
 
 #[test]
 fn rows(rt: HostRuntime) -> Result<(), Fail> {
-    let alloc = rt.alloc();
-    for (source, wanted) in ROWS {
-        let left = left_of(alloc, source)?;
-        let left = str::from_utf8(left.as_slice())?;
-        assert_eq!(rt; left, wanted, "{source:?}");
+    for (source, wanted) in &ROWS {
+        leaves(rt.alloc(), source, wanted)?;
     }
     Ok(())
 }

@@ -1,68 +1,60 @@
-use crate::reading::read;
-use crate::rendering::type_text;
+use crate::reading::{read, same};
+use crate::rendering::{add_pieces, add_type, spelled};
 use brc_c_text::{Symbol, Symbols};
-use brc_c_tree::{SourceTree, TypeName};
-use std::alloc::Global;
+use brc_c_tree::{Parameter, Record, SourceTree, TypeName};
+use std::alloc::{AllocError, Global};
 use std::test::Fail;
 
 /// Returns what a source declares outside functions, and the heads of its functions.
-fn declared(alloc: Global, symbols: &Symbols, tree: &SourceTree) -> Result<String, Fail> {
+fn declared(alloc: Global, symbols: &Symbols, tree: &SourceTree) -> Result<String, AllocError> {
     let mut text = String::new(alloc);
-    add_records(alloc, symbols, &mut text, tree)?;
-    add_names(alloc, symbols, &mut text, tree)?;
-    add_heads(alloc, symbols, &mut text, tree)?;
+    add_records(symbols, &mut text, tree)?;
+    add_names(symbols, &mut text, tree)?;
+    add_heads(symbols, &mut text, tree)?;
     Ok(text)
 }
 
-fn add_records(
-    alloc: Global,
-    symbols: &Symbols,
-    text: &mut String,
-    tree: &SourceTree,
-) -> Result<(), Fail> {
+fn add_records(symbols: &Symbols, text: &mut String, tree: &SourceTree) -> Result<(), AllocError> {
     for named in &tree.record_names {
         let name = spelled(symbols, named.name);
         let stars = named.stars;
         write!(text, "record {name}/{stars}")?;
         if let Some(record) = tree.records.get(named.record) {
-            let object = if record.is_object { " object" } else { "" };
-            write!(text, "{object}")?;
-            for field in &record.fields {
-                let name = spelled(symbols, field.name);
-                let of = type_text(alloc, symbols, field.type_name)?;
-                write!(text, " {name}:{of}")?;
-            }
+            add_record(symbols, text, record)?;
         }
         text.push_str("; ")?;
     }
     Ok(())
 }
 
-fn add_names(
-    alloc: Global,
-    symbols: &Symbols,
-    text: &mut String,
-    tree: &SourceTree,
-) -> Result<(), Fail> {
+fn add_record(symbols: &Symbols, text: &mut String, record: &Record) -> Result<(), AllocError> {
+    text.push_str(if record.is_object { " object" } else { "" })?;
+    for field in &record.fields {
+        let name = spelled(symbols, field.name);
+        add_pieces(text, [" ", name, ":", "", "", "", "", ""])?;
+        add_type(text, symbols, field.type_name)?;
+    }
+    Ok(())
+}
+
+fn add_names(symbols: &Symbols, text: &mut String, tree: &SourceTree) -> Result<(), AllocError> {
     for alias in &tree.aliases {
-        add(alloc, symbols, text, "alias", alias.name, alias.type_name)?;
+        add(symbols, text, "alias ", alias.name, alias.type_name)?;
     }
     for prototype in &tree.prototypes {
         add(
-            alloc,
             symbols,
             text,
-            "prototype",
+            "prototype ",
             prototype.name,
             prototype.result,
         )?;
     }
     for variable in &tree.variables {
         add(
-            alloc,
             symbols,
             text,
-            "variable",
+            "variable ",
             variable.name,
             variable.type_name,
         )?;
@@ -70,45 +62,46 @@ fn add_names(
     Ok(())
 }
 
-fn add_heads(
-    alloc: Global,
-    symbols: &Symbols,
-    text: &mut String,
-    tree: &SourceTree,
-) -> Result<(), Fail> {
+fn add_heads(symbols: &Symbols, text: &mut String, tree: &SourceTree) -> Result<(), AllocError> {
     for function in &tree.functions {
-        let symbol = if function.is_static {
-            "static"
+        let word = if function.is_static {
+            "static "
         } else {
-            "function"
+            "function "
         };
-        add(alloc, symbols, text, symbol, function.name, function.result)?;
+        add(symbols, text, word, function.name, function.result)?;
         for parameter in &function.parameters {
-            let name = parameter.name.map_or("-", |name| spelled(symbols, name));
-            let of = type_text(alloc, symbols, parameter.type_name)?;
-            let more = if parameter.is_variadic { "..." } else { "" };
-            write!(text, "({name}:{of}{more}) ")?;
+            add_parameter(symbols, text, parameter)?;
         }
     }
     Ok(())
 }
 
+fn add_parameter(
+    symbols: &Symbols,
+    text: &mut String,
+    parameter: &Parameter,
+) -> Result<(), AllocError> {
+    let name = match parameter.name {
+        Some(name) => spelled(symbols, name),
+        None => "-",
+    };
+    add_pieces(text, ["(", name, ":", "", "", "", "", ""])?;
+    add_type(text, symbols, parameter.type_name)?;
+    text.push_str(if parameter.is_variadic { "...) " } else { ") " })
+}
+
 fn add(
-    alloc: Global,
     symbols: &Symbols,
     text: &mut String,
     what: &str,
     name: Symbol,
     of: TypeName,
-) -> Result<(), Fail> {
+) -> Result<(), AllocError> {
     let name = spelled(symbols, name);
-    let of = type_text(alloc, symbols, of)?;
-    write!(text, "{what} {name}:{of}; ")?;
-    Ok(())
-}
-
-fn spelled(symbols: &Symbols, symbol: Symbol) -> &str {
-    str::from_utf8(symbols.text(symbol)).unwrap_or("?")
+    add_pieces(text, [what, name, ":", "", "", "", "", ""])?;
+    add_type(text, symbols, of)?;
+    text.push_str("; ")
 }
 
 const ROWS: [(&str, &str); 22] = [
@@ -197,19 +190,18 @@ const ROWS: [(&str, &str); 22] = [
     ("UNKNOWN(x)\nint f(void) { }", "function f:int; "),
 ];
 
-/// Returns what a text declares.
-fn declared_in(alloc: Global, source: &str) -> Result<String, Fail> {
+/// Fails unless this is what a text declares.
+fn declares(alloc: Global, source: &str, wanted: &str) -> Result<(), Fail> {
     let mut symbols = Symbols::new(alloc)?;
     let tree = read(alloc, &mut symbols, source.as_bytes())?;
-    declared(alloc, &symbols, &tree)
+    let found = declared(alloc, &symbols, &tree)?;
+    same(source, found.as_str(), wanted)
 }
 
 #[test]
 fn rows(rt: HostRuntime) -> Result<(), Fail> {
-    let alloc = rt.alloc();
-    for (source, wanted) in ROWS {
-        let found = declared_in(alloc, source)?;
-        assert_eq!(rt; found.as_str(), wanted, "{source}");
+    for (source, wanted) in &ROWS {
+        declares(rt.alloc(), source, wanted)?;
     }
     Ok(())
 }

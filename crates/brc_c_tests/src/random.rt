@@ -5,23 +5,15 @@ use brc_c_text::{Symbols, scan};
 use std::alloc::Global;
 use std::test::Fail;
 
-/// Numbers that look random.
-#[derive(Drop)]
-struct Numbers {
-    state: u64,
-}
-
-impl Numbers {
-    fn below(&mut self, end: usize) -> usize
-        requires { 0 < end }
-        ensures { result < end }
-    {
-        self.state = self
-            .state
-            .wrapping_mul(6364136223846793005)
-            .wrapping_add(1442695040888963407);
-        ((self.state >> 33) as usize) % end
-    }
+/// Returns a number below the end that looks random, and goes on.
+fn below(state: &mut u64, end: usize) -> usize
+    requires { 0 < end }
+    ensures { result < end }
+{
+    *state = state
+        .wrapping_mul(6364136223846793005)
+        .wrapping_add(1442695040888963407);
+    ((*state >> 33) as usize) % end
 }
 
 const PIECES: [&str; 40] = [
@@ -67,34 +59,23 @@ const PIECES: [&str; 40] = [
     " */",
 ];
 
-#[test]
-fn pieces(rt: HostRuntime) -> Result<(), Fail> {
-    let alloc = rt.alloc();
-    let mut numbers = Numbers { state: 1 };
-    for _time in 0..300 {
-        let mut source = String::from_str(alloc, "int f(int a) {")?;
-        for _piece in 0..60 {
-            let at = numbers.below(PIECES.len());
-            source.push_str(PIECES[at])?;
-        }
-        source.push_str("\n}\nint last(void)\n{\n}\n")?;
-        check(alloc, source.as_bytes())?;
+/// Reads a function of random pieces.
+fn reads_pieces(alloc: Global, state: &mut u64) -> Result<(), Fail> {
+    let mut source = String::from_str(alloc, "int f(int a) {")?;
+    for _piece in 0..60 {
+        source.push_str(PIECES[below(state, PIECES.len())])?;
     }
-    Ok(())
+    source.push_str("\n}\nint last(void)\n{\n}\n")?;
+    check(alloc, source.as_bytes())
 }
 
-#[test]
-fn bytes(rt: HostRuntime) -> Result<(), Fail> {
-    let alloc = rt.alloc();
-    let mut numbers = Numbers { state: 7 };
-    for _time in 0..300 {
-        let mut source = Vec::new(alloc);
-        for _byte in 0..80 {
-            source.push((numbers.below(256) & 255) as u8)?;
-        }
-        check(alloc, source.as_slice())?;
+/// Reads random bytes.
+fn reads_bytes(alloc: Global, state: &mut u64) -> Result<(), Fail> {
+    let mut source = Vec::new(alloc);
+    for _byte in 0..80 {
+        source.push((below(state, 256) & 255) as u8)?;
     }
-    Ok(())
+    check(alloc, source.as_slice())
 }
 
 /// Reads a source, and looks at its tokens.
@@ -102,5 +83,23 @@ fn check(alloc: Global, source: &[u8]) -> Result<(), Fail> {
     let mut symbols = Symbols::new(alloc)?;
     read(alloc, &mut symbols, source)?;
     scan(alloc, source)?;
+    Ok(())
+}
+
+#[test]
+fn pieces(rt: HostRuntime) -> Result<(), Fail> {
+    let mut state = 1;
+    for _time in 0..300 {
+        reads_pieces(rt.alloc(), &mut state)?;
+    }
+    Ok(())
+}
+
+#[test]
+fn bytes(rt: HostRuntime) -> Result<(), Fail> {
+    let mut state = 7;
+    for _time in 0..300 {
+        reads_bytes(rt.alloc(), &mut state)?;
+    }
     Ok(())
 }

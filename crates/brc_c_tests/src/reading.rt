@@ -8,11 +8,15 @@ use brc_c_tree::SourceTree;
 use std::alloc::{AllocError, Global};
 use std::test::Fail;
 
-/// Two headers: `a.h`, and `self.h`, which includes itself.
+/// The headers of `HEADERS`.
 #[derive(Drop)]
 pub struct TwoHeaders;
 
-const HEADER: &[u8] = b"#define SIX 6\nheader;\n";
+/// Two headers: `a.h`, and `self.h`, which includes itself.
+const HEADERS: [(&[u8], &[u8]); 2] = [
+    (b"a.h", b"#define SIX 6\nheader;\n"),
+    (b"self.h", b"y\n#include \"self.h\"\n"),
+];
 
 impl Headers for TwoHeaders {
     fn load(
@@ -21,13 +25,22 @@ impl Headers for TwoHeaders {
         _from: usize,
         bytes: &mut Vec<u8>,
     ) -> Result<Option<usize>, AllocError> {
-        match name {
-            b"a.h" => bytes.extend_from_slice(HEADER)?,
-            b"self.h" => bytes.extend_from_slice(b"y\n#include \"self.h\"\n")?,
-            _ => return Ok(None),
+        for (known, text) in &HEADERS {
+            if *known == name {
+                bytes.extend_from_slice(text)?;
+                return Ok(Some(1));
+            }
         }
-        Ok(Some(1))
+        Ok(None)
     }
+}
+
+/// Fails, and says what was found for which source, unless that is what is wanted.
+pub fn same(source: &str, found: &str, wanted: &str) -> Result<(), Fail> {
+    if found == wanted {
+        return Ok(());
+    }
+    Err(Fail::new(format_args!("found {found:?}, where {wanted:?} is wanted, in {source:?}")))
 }
 
 /// Preprocesses a text.
@@ -54,14 +67,15 @@ pub fn read(alloc: Global, symbols: &mut Symbols, source: &[u8]) -> Result<Sourc
 pub fn bodies_of(alloc: Global, source: &[u8]) -> Result<String, Fail> {
     let mut symbols = Symbols::new(alloc)?;
     let tree = read(alloc, &mut symbols, source)?;
-    body_lines(alloc, &symbols, &tree)
+    Ok(body_lines(alloc, &symbols, &tree)?)
 }
 
-fn body_lines(alloc: Global, symbols: &Symbols, tree: &SourceTree) -> Result<String, Fail> {
+fn body_lines(alloc: Global, symbols: &Symbols, tree: &SourceTree) -> Result<String, AllocError> {
     let mut lines = String::new(alloc);
     for function in &tree.functions {
         let body = body_text(alloc, symbols, function)?;
-        write!(lines, "{body}\n")?;
+        lines.push_str(body.as_str())?;
+        lines.push('\n')?;
     }
     Ok(lines)
 }

@@ -1,8 +1,27 @@
-//! Trees as texts: expressions in parentheses, statements in words.
+//! Trees as texts: expressions in parentheses, statements in words. A text is a row of pieces; what isn't there before
+//! (a list, a type, the name of an operator) is made first.
 
+use crate::statement_texts::statement_texts;
 use brc_c_text::{Symbol, Symbols};
-use brc_c_tree::{Body, Expression, Function, List, Statement, Tree, TypeName, reason_text};
+use brc_c_tree::{Body, Expression, ExpressionId, Function, List, Tree, TypeName, reason_text};
 use std::alloc::{AllocError, Global};
+
+/// The pieces of a text. Where a text has fewer, the rest is empty.
+pub type Pieces<'t> = [&'t str; 8];
+
+/// Appends the pieces.
+pub fn add_pieces(text: &mut String, pieces: Pieces<'_>) -> Result<(), AllocError> {
+    for piece in &pieces {
+        text.push_str(piece)?;
+    }
+    Ok(())
+}
+
+pub fn joined(alloc: Global, pieces: Pieces<'_>) -> Result<String, AllocError> {
+    let mut text = String::new(alloc);
+    add_pieces(&mut text, pieces)?;
+    Ok(text)
+}
 
 /// Returns the text of a function's body, or the place and the reason for which it isn't read.
 pub fn body_text(
@@ -11,11 +30,7 @@ pub fn body_text(
     function: &Function,
 ) -> Result<String, AllocError> {
     match &function.body {
-        Body::Read(tree, whole) => {
-            let expressions = expression_texts(alloc, symbols, tree)?;
-            let statements = statement_texts(alloc, symbols, tree, expressions.as_slice())?;
-            String::from_str(alloc, at(statements.as_slice(), whole.index()))
-        }
+        Body::Read(tree, whole) => tree_text(alloc, symbols, tree, whole.index()),
         Body::NotRead(why) => {
             let line = why.place.line;
             let column = why.place.column;
@@ -25,26 +40,52 @@ pub fn body_text(
     }
 }
 
-fn at(texts: &[String], index: usize) -> &str {
+fn tree_text(
+    alloc: Global,
+    symbols: &Symbols,
+    tree: &Tree,
+    whole: usize,
+) -> Result<String, AllocError> {
+    let expressions = expression_texts(alloc, symbols, tree)?;
+    let statements = statement_texts(alloc, symbols, tree, expressions.as_slice())?;
+    String::from_str(alloc, at(statements.as_slice(), whole))
+}
+
+pub fn at(texts: &[String], index: usize) -> &str {
     match texts.get(index) {
         Some(text) => text.as_str(),
         None => "?",
     }
 }
 
-fn spelled(symbols: &Symbols, symbol: Symbol) -> &str {
-    str::from_utf8(symbols.text(symbol)).unwrap_or("?")
+/// Returns the text of an expression that may be left out.
+pub fn at_some(texts: &[String], expression: Option<ExpressionId>) -> &str {
+    match expression {
+        Some(id) => at(texts, id.index()),
+        None => "",
+    }
 }
 
-/// Returns the text of a type: its symbol and its stars.
-pub fn type_text(alloc: Global, symbols: &Symbols, of: TypeName) -> Result<String, AllocError> {
-    let mut text = String::from_str(alloc, spelled(symbols, of.symbol))?;
+/// Returns the text of a symbol.
+pub fn spelled(symbols: &Symbols, symbol: Symbol) -> &str {
+    match str::from_utf8(symbols.text(symbol)) {
+        Ok(text) => text,
+        Err(_) => "?",
+    }
+}
+
+/// Appends the text of a type: its symbol and its stars.
+pub fn add_type(text: &mut String, symbols: &Symbols, of: TypeName) -> Result<(), AllocError> {
+    text.push_str(spelled(symbols, of.symbol))?;
     for _star in 0..of.stars {
         text.push('*')?;
     }
-    if of.is_function {
-        text.push_str("()")?;
-    }
+    text.push_str(if of.is_function { "()" } else { "" })
+}
+
+fn type_text(alloc: Global, symbols: &Symbols, of: TypeName) -> Result<String, AllocError> {
+    let mut text = String::new(alloc);
+    add_type(&mut text, symbols, of)?;
     Ok(text)
 }
 
@@ -69,35 +110,37 @@ fn expression_text(
     texts: &[String],
     expression: &Expression,
 ) -> Result<String, AllocError> {
+    let made = made_text(alloc, symbols, tree, texts, expression)?;
+    joined(
+        alloc,
+        value_pieces(symbols, texts, expression, made.as_str()),
+    )
+}
+
+/// Returns what the text of an expression has beside the texts of its operands: its list, its type, or the name of its
+/// operator.
+fn made_text(
+    alloc: Global,
+    symbols: &Symbols,
+    tree: &Tree,
+    texts: &[String],
+    expression: &Expression,
+) -> Result<String, AllocError> {
     match *expression {
-        Expression::Name(symbol)
-        | Expression::Number(symbol)
-        | Expression::Character(symbol)
-        | Expression::Text(symbol) => String::from_str(alloc, spelled(symbols, symbol)),
-        Expression::Call {
-            function,
-            arguments,
-        } => {
-            let function = at(texts, function.index());
-            let arguments = operands_text(alloc, tree, texts, arguments)?;
-            format!(in alloc; "{function}({arguments})")
-        }
-        Expression::Values(list) => {
-            let values = operands_text(alloc, tree, texts, list)?;
-            format!(in alloc; "{{{values}}}")
-        }
-        Expression::Cast { to, operand } => {
-            let to = type_text(alloc, symbols, to)?;
-            let operand = at(texts, operand.index());
-            format!(in alloc; "[{to}]{operand}")
-        }
-        Expression::SizeOf => String::from_str(alloc, "sizeof"),
-        Expression::Opaque => String::from_str(alloc, "opaque"),
-        _ => operator_text(alloc, symbols, texts, expression),
+        Expression::Call { arguments, .. } => operands_text(alloc, tree, texts, arguments),
+        Expression::Values(list) => operands_text(alloc, tree, texts, list),
+        Expression::Cast { to, .. } => type_text(alloc, symbols, to),
+        Expression::Unary { operator, .. } => format!(in alloc; "{operator:?}"),
+        Expression::Binary { operator, .. } => format!(in alloc; "{operator:?}"),
+        Expression::Assign {
+            operator: Some(operator),
+            ..
+        } => format!(in alloc; "{operator:?}"),
+        _ => Ok(String::new(alloc)),
     }
 }
 
-fn operands_text(
+pub fn operands_text(
     alloc: Global,
     tree: &Tree,
     texts: &[String],
@@ -105,39 +148,57 @@ fn operands_text(
 ) -> Result<String, AllocError> {
     let mut text = String::new(alloc);
     for operand in tree.operands(list) {
-        if !text.is_empty() {
-            text.push_str(", ")?;
-        }
+        text.push_str(if text.is_empty() { "" } else { ", " })?;
         text.push_str(at(texts, operand.index()))?;
     }
     Ok(text)
 }
 
-/// Returns the text of an operator with its operands.
-fn operator_text(
-    alloc: Global,
-    symbols: &Symbols,
-    texts: &[String],
+/// Returns the pieces of a value that isn't an operator's.
+fn value_pieces<'t>(
+    symbols: &'t Symbols,
+    texts: &'t [String],
     expression: &Expression,
-) -> Result<String, AllocError> {
+    made: &'t str,
+) -> Pieces<'t> {
     match *expression {
-        Expression::Unary { operator, operand } => {
-            let operand = at(texts, operand.index());
-            format!(in alloc; "({operator:?} {operand})")
+        Expression::Name(symbol)
+        | Expression::Number(symbol)
+        | Expression::Character(symbol)
+        | Expression::Text(symbol) => [spelled(symbols, symbol), "", "", "", "", "", "", ""],
+        Expression::Call { function, .. } => {
+            let function = at(texts, function.index());
+            [function, "(", made, ")", "", "", "", ""]
         }
-        Expression::Binary {
-            operator,
-            left,
-            right,
-        } => {
+        Expression::Values(_) => ["{", made, "}", "", "", "", "", ""],
+        Expression::Cast { operand, .. } => {
+            let operand = at(texts, operand.index());
+            ["[", made, "]", operand, "", "", "", ""]
+        }
+        Expression::SizeOf => ["sizeof", "", "", "", "", "", "", ""],
+        Expression::Opaque => ["opaque", "", "", "", "", "", "", ""],
+        _ => operator_pieces(symbols, texts, expression, made),
+    }
+}
+
+/// Returns the pieces of an operator with its operands.
+fn operator_pieces<'t>(
+    symbols: &'t Symbols,
+    texts: &'t [String],
+    expression: &Expression,
+    made: &'t str,
+) -> Pieces<'t> {
+    match *expression {
+        Expression::Unary { operand, .. } => {
+            ["(", made, " ", at(texts, operand.index()), ")", "", "", ""]
+        }
+        Expression::Binary { left, right, .. } => {
             let left = at(texts, left.index());
-            let right = at(texts, right.index());
-            format!(in alloc; "({left} {operator:?} {right})")
+            ["(", left, " ", made, " ", at(texts, right.index()), ")", ""]
         }
         Expression::Comma { left, right } => {
             let left = at(texts, left.index());
-            let right = at(texts, right.index());
-            format!(in alloc; "({left}, {right})")
+            ["(", left, ", ", at(texts, right.index()), ")", "", "", ""]
         }
         Expression::Conditional {
             condition,
@@ -147,41 +208,41 @@ fn operator_text(
             let condition = at(texts, condition.index());
             let then = at(texts, then.index());
             let otherwise = at(texts, otherwise.index());
-            format!(in alloc; "({condition} ? {then} : {otherwise})")
+            ["(", condition, " ? ", then, " : ", otherwise, ")", ""]
         }
-        _ => place_text(alloc, symbols, texts, expression),
+        _ => place_pieces(symbols, texts, expression, made),
     }
 }
 
-/// Returns the text of what reads or writes a place.
-fn place_text(
-    alloc: Global,
-    symbols: &Symbols,
-    texts: &[String],
+/// Returns the pieces of what reads or writes a place.
+fn place_pieces<'t>(
+    symbols: &'t Symbols,
+    texts: &'t [String],
     expression: &Expression,
-) -> Result<String, AllocError> {
+    made: &'t str,
+) -> Pieces<'t> {
     match *expression {
         Expression::Step {
             is_up,
             is_before,
             operand,
-        } => step_text(alloc, is_up, is_before, at(texts, operand.index())),
-        Expression::Assign {
-            operator,
-            left,
-            right,
-        } => {
+        } => step_pieces(is_up, is_before, at(texts, operand.index())),
+        Expression::Assign { left, right, .. } => {
             let left = at(texts, left.index());
-            let right = at(texts, right.index());
-            match operator {
-                None => format!(in alloc; "({left} = {right})"),
-                Some(operator) => format!(in alloc; "({left} {operator:?}= {right})"),
-            }
+            [
+                "(",
+                left,
+                " ",
+                made,
+                "= ",
+                at(texts, right.index()),
+                ")",
+                "",
+            ]
         }
         Expression::Index { array, index } => {
             let array = at(texts, array.index());
-            let index = at(texts, index.index());
-            format!(in alloc; "{array}[{index}]")
+            [array, "[", at(texts, index.index()), "]", "", "", "", ""]
         }
         Expression::Field {
             object,
@@ -189,167 +250,18 @@ fn place_text(
             is_arrow,
         } => {
             let object = at(texts, object.index());
-            let name = spelled(symbols, name);
             let dot = if is_arrow { "->" } else { "." };
-            format!(in alloc; "{object}{dot}{name}")
+            [object, dot, spelled(symbols, name), "", "", "", "", ""]
         }
-        _ => String::from_str(alloc, "?"),
+        _ => ["?", "", "", "", "", "", "", ""],
     }
 }
 
-fn step_text(
-    alloc: Global,
-    is_up: bool,
-    is_before: bool,
-    operand: &str,
-) -> Result<String, AllocError> {
+fn step_pieces(is_up: bool, is_before: bool, operand: &str) -> Pieces<'_> {
     let sign = if is_up { "++" } else { "--" };
     if is_before {
-        format!(in alloc; "({sign}{operand})")
+        ["(", sign, operand, ")", "", "", "", ""]
     } else {
-        format!(in alloc; "({operand}{sign})")
-    }
-}
-
-/// Returns the texts of all statements. Each comes after its parts.
-fn statement_texts(
-    alloc: Global,
-    symbols: &Symbols,
-    tree: &Tree,
-    expressions: &[String],
-) -> Result<Vec<String>, AllocError> {
-    let mut texts = Vec::new(alloc);
-    for (statement, _) in tree.statements() {
-        let text = statement_text(
-            alloc,
-            symbols,
-            tree,
-            expressions,
-            texts.as_slice(),
-            statement,
-        )?;
-        texts.push(text)?;
-    }
-    Ok(texts)
-}
-
-fn statement_text(
-    alloc: Global,
-    symbols: &Symbols,
-    tree: &Tree,
-    expressions: &[String],
-    texts: &[String],
-    statement: &Statement,
-) -> Result<String, AllocError> {
-    match *statement {
-        Statement::Block(list) => {
-            let mut text = String::from_str(alloc, "{")?;
-            for id in tree.body(list) {
-                let inner = at(texts, id.index());
-                write!(text, " {inner}")?;
-            }
-            text.push_str(" }")?;
-            Ok(text)
-        }
-        Statement::Declare(list) => declared_text(alloc, symbols, tree, expressions, list),
-        Statement::Known { known, arguments } => {
-            let arguments = operands_text(alloc, tree, expressions, arguments)?;
-            format!(in alloc; "{known:?}({arguments});")
-        }
-        Statement::For {
-            first,
-            condition,
-            next,
-            body,
-        } => {
-            let first = first.map_or("", |id| at(texts, id.index()));
-            let condition = condition.map_or("", |id| at(expressions, id.index()));
-            let next = next.map_or("", |id| at(expressions, id.index()));
-            let body = at(texts, body.index());
-            format!(in alloc; "for ({first} {condition}; {next}) {body}")
-        }
-        _ => short_text(alloc, symbols, expressions, texts, statement),
-    }
-}
-
-fn declared_text(
-    alloc: Global,
-    symbols: &Symbols,
-    tree: &Tree,
-    expressions: &[String],
-    list: List,
-) -> Result<String, AllocError> {
-    let mut text = String::new(alloc);
-    for declared in tree.declarations(list) {
-        let of = type_text(alloc, symbols, declared.type_name)?;
-        let name = spelled(symbols, declared.name);
-        let symbol = if declared.is_static { "static" } else { "let" };
-        write!(text, "{symbol} {of} {name}")?;
-        if let Some(value) = declared.value {
-            let value = at(expressions, value.index());
-            write!(text, " = {value}")?;
-        }
-        text.push(';')?;
-    }
-    Ok(text)
-}
-
-fn short_text(
-    alloc: Global,
-    symbols: &Symbols,
-    expressions: &[String],
-    texts: &[String],
-    statement: &Statement,
-) -> Result<String, AllocError> {
-    let (symbol, value, body) = match *statement {
-        Statement::Expression(value) => ("", Some(value), None),
-        Statement::While { condition, body } => ("while ", Some(condition), Some(body)),
-        Statement::DoWhile { body, condition } => ("do-while ", Some(condition), Some(body)),
-        Statement::Switch { value, body } => ("switch ", Some(value), Some(body)),
-        Statement::If {
-            condition,
-            then,
-            ..
-        } => ("if ", Some(condition), Some(then)),
-        Statement::Case(value) => ("case ", Some(value), None),
-        Statement::Return(value) => ("return ", value, None),
-        _ => return name_text(alloc, symbols, statement),
-    };
-    let value = value.map_or("", |id| at(expressions, id.index()));
-    let Some(body) = body else {
-        return format!(in alloc; "{symbol}{value};");
-    };
-    let body = at(texts, body.index());
-    match *statement {
-        Statement::If {
-            otherwise: Some(otherwise),
-            ..
-        } => {
-            let otherwise = at(texts, otherwise.index());
-            format!(in alloc; "{symbol}{value} {body} else {otherwise}")
-        }
-        _ => format!(in alloc; "{symbol}{value} {body}"),
-    }
-}
-
-/// Returns the text of a statement without expressions.
-fn name_text(
-    alloc: Global,
-    symbols: &Symbols,
-    statement: &Statement,
-) -> Result<String, AllocError> {
-    match *statement {
-        Statement::Label(name) => {
-            let name = spelled(symbols, name);
-            format!(in alloc; "{name}:")
-        }
-        Statement::Goto(name) => {
-            let name = spelled(symbols, name);
-            format!(in alloc; "goto {name};")
-        }
-        Statement::Default => String::from_str(alloc, "default;"),
-        Statement::Break => String::from_str(alloc, "break;"),
-        Statement::Continue => String::from_str(alloc, "continue;"),
-        _ => String::from_str(alloc, "?"),
+        ["(", operand, sign, ")", "", "", "", ""]
     }
 }

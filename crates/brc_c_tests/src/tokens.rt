@@ -1,25 +1,40 @@
-use brc_c_text::{TextFault, Token, TokenKind, scan};
-use std::alloc::Global;
+use crate::reading::same;
+use brc_c_text::{Comment, TextFault, Token, TokenKind, scan};
+use std::alloc::{AllocError, Global};
 use std::test::Fail;
 
-/// Returns the tokens of a source, each by a letter for its kind, its text, its line and its column.
-fn tokens_of(alloc: Global, source: &[u8]) -> Result<String, Fail> {
+/// Appends a token: a letter for its kind, its text, its line and its column.
+fn add_token(
+    alloc: Global,
+    all: &mut String,
+    source: &[u8],
+    token: &Token,
+) -> Result<(), AllocError> {
+    let text = String::from_utf8_lossy(alloc, token.text(source))?;
+    let kind = letter_of(token);
+    let line = token.line;
+    let column = token.column;
+    write!(all, "{kind}{text}@{line}:{column} ")
+}
+
+/// Fails unless these are the tokens of a source, and behind them its comments.
+fn has_tokens(alloc: Global, source: &[u8], wanted: &str) -> Result<(), Fail> {
     let scanned = scan(alloc, source)?;
     let mut all = String::new(alloc);
     for token in &scanned.tokens {
-        let kind = letter_of(token);
-        let text = String::from_utf8_lossy(alloc, token.text(source))?;
-        let line = token.line;
-        let column = token.column;
-        write!(all, "{kind}{text}@{line}:{column} ")?;
+        add_token(alloc, &mut all, source, token)?;
     }
     for comment in &scanned.comments {
-        let line = comment.line;
-        let last = comment.last_line;
-        let length = comment.end.saturating_sub(comment.start);
-        write!(all, "/*{length}@{line}-{last} ")?;
+        add_comment(&mut all, comment)?;
     }
-    Ok(all)
+    same(wanted, all.as_str(), wanted)
+}
+
+fn add_comment(all: &mut String, comment: &Comment) -> Result<(), AllocError> {
+    let line = comment.line;
+    let last = comment.last_line;
+    let length = comment.end.saturating_sub(comment.start);
+    write!(all, "/*{length}@{line}-{last} ")
 }
 
 fn letter_of(token: &Token) -> char {
@@ -63,20 +78,22 @@ const ROWS: [(&[u8], &str); 18] = [
     (b"\r\n\t x", "nx@2:3 "),
 ];
 
+/// Returns why a source of this many letters isn't scanned, or `None` if it is.
+fn fault_of(alloc: Global, letters: usize) -> Result<Option<TextFault>, AllocError> {
+    let mut long = Vec::new(alloc);
+    long.resize(letters, b'a')?;
+    match scan(alloc, long.as_slice()) {
+        Ok(_) => Ok(None),
+        Err(fault) => Ok(Some(fault)),
+    }
+}
+
 #[test]
 fn rows(rt: HostRuntime) -> Result<(), Fail> {
-    let alloc = rt.alloc();
-    for (source, wanted) in ROWS {
-        let found = tokens_of(alloc, source)?;
-        assert_eq!(rt; found.as_str(), wanted);
+    for (source, wanted) in &ROWS {
+        has_tokens(rt.alloc(), source, wanted)?;
     }
-    let mut long = Vec::new(alloc);
-    long.resize(1048577, b'a')?;
-    assert_eq!(rt;
-        scan(alloc, long.as_slice()).err(),
-        Some(TextFault::TooLong)
-    );
-    long.pop();
-    assert!(rt; scan(alloc, long.as_slice()).is_ok());
+    assert_eq!(rt; fault_of(rt.alloc(), 1048577)?, Some(TextFault::TooLong));
+    assert_eq!(rt; fault_of(rt.alloc(), 1048576)?, None);
     Ok(())
 }

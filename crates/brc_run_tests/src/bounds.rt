@@ -1,12 +1,17 @@
 //! Many workers that a bound stops wherever they are, and a million locks of one list.
 
-use crate::runs::{Open, Run, THREE_OPEN, after, report_of};
+use crate::runs::{Counts, Open, Run, THREE_OPEN, report_of};
+use brc_run::System;
+use std::alloc::Global;
 
-/// The modules, and how many runs of each there are.
-const MODULES: [(&[u8], u64); 2] = [(SHARED, 1000), (THREE_OPEN, 300)];
+/// The modules that are stopped.
+const MODULES: [&[u8]; 2] = [SHARED, THREE_OPEN];
 
 /// The greatest bound. The calls of a worker begin more instructions.
 const MOST_STEPS: u64 = 50;
+
+/// How often each module meets each bound.
+const ROUNDS: u64 = 4;
 
 /// Stores a new list in the root, and then a number in the list that it finds there, which may be another worker's.
 const SHARED: &[u8] =
@@ -19,21 +24,20 @@ const SAME_IN_BOTH: &[u8] =
     b"module 3\nstatic 5 6\nfunc f\ntake v1 0\nlock v1\nfetch v2 v1 0 else @8\nput v1 1 v2 else @4\nunlock v1\n\
     drop v2\ndrop v1\nfail\nunlock v1\ndrop v1\nfail\nend\n";
 
+/// Lets 32 workers call the module, and stops each at the bound. Returns the report's numbers.
+fn stopped<R: System>(rt: &R, alloc: Global, text: &[u8], steps: u64) -> Counts {
+    let run: Run = (32, 8, 4, steps);
+    report_of(rt, alloc, text, run, &[], &[], &Open).unwrap_or([0; 7])
+}
+
 #[test]
 fn workers_that_are_stopped_leave_nothing(rt: HostRuntime) {
-    let mut number = 0;
-    for (text, runs) in MODULES {
-        for _ in 0..runs {
-            number = after(number);
-            let steps = (number >> 33) % (MOST_STEPS + 1);
-            let run: Run = (32, 8, 4, steps);
-            let counts = report_of(&rt, rt.alloc(), text, run, &[], &[], &Open);
-            let created = counts.unwrap_or([0; 7])[2];
-            assert_eq!(rt;
-                counts,
-                Some([32, 0, created, created, 0, 0, 0]),
-                "{steps} steps"
-            );
+    for text in MODULES {
+        for number in 0..ROUNDS * (MOST_STEPS + 1) {
+            let steps = number % (MOST_STEPS + 1);
+            let counts = stopped(&rt, rt.alloc(), text, steps);
+            let created = counts[2];
+            assert_eq!(rt; counts, [32, 0, created, created, 0, 0, 0], "{steps} steps");
         }
     }
 }

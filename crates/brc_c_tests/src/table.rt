@@ -1,8 +1,14 @@
-use brc_c_table::{Fails, Gives, RowFault, Table, Tables, Takes};
+//! The table of the C API: a row and a fault of each sort, and the table that the program carries with it.
+
+use brc_c_table::{Fails, Gives, RowFault, Table, TableFault, Tables, Takes};
+use std::alloc::{AllocError, Global};
 use std::test::Fail;
 
+/// The words after a name, and what they say.
+type Sort = (&'static [u8], Gives, &'static [Takes], Fails, bool);
+
 /// The words after the name in a row of each sort, and what they say.
-const ROWS: [(&[u8], Gives, &[Takes], Fails, bool); 20] = [
+const ROWS: [Sort; 20] = [
     (b"new . null pure", Gives::New, &[], Fails::Null, false),
     (
         b"item 1 b- null runs",
@@ -139,22 +145,33 @@ const ROWS: [(&[u8], Gives, &[Takes], Fails, bool); 20] = [
     ),
 ];
 
+/// Whether the row of the function `f` says this, and the one of the field `f` nothing.
+fn says(table: &Table, wanted: &Sort) -> bool {
+    let (Some(row), Some(field)) = (table.row(b"f"), table.field(b"f")) else {
+        return false;
+    };
+    row.name.as_slice() == b"f".as_slice()
+        && row.gives == wanted.1
+        && row.takes.as_slice() == wanted.2
+        && row.fails == wanted.3
+        && row.runs == wanted.4
+        && field.gives == Gives::Void
+        && table.len() == 2
+}
+
+/// Whether a row with these words says what it should.
+fn is_read_so(alloc: Global, wanted: &Sort) -> Result<bool, Fail> {
+    let mut text = Vec::from_slice(alloc, b"\n# c\nf ")?;
+    text.extend_from_slice(wanted.0)?;
+    text.extend_from_slice(b"\n->f void . none pure\n")?;
+    let table = Table::read(alloc, text.as_slice())?;
+    Ok(says(&table, wanted))
+}
+
 #[test]
 fn rows_of_each_sort(rt: HostRuntime) -> Result<(), Fail> {
-    for (words, gives, takes, fails, runs) in ROWS {
-        let mut text = Vec::from_slice(rt.alloc(), b"\n# c\nf ")?;
-        text.extend_from_slice(words)?;
-        text.extend_from_slice(b"\n->f void . none pure\n")?;
-        let table = Table::read(rt.alloc(), text.as_slice())?;
-        let row = table.row(b"f").ok_or("no row")?;
-        assert_eq!(rt; row.name.as_slice(), b"f".as_slice());
-        assert_eq!(rt; row.gives, gives);
-        assert_eq!(rt; row.takes.as_slice(), takes);
-        assert_eq!(rt; row.fails, fails);
-        assert_eq!(rt; row.runs, runs);
-        let field = table.field(b"f").ok_or("no field")?;
-        assert_eq!(rt; field.gives, Gives::Void);
-        assert_eq!(rt; table.len(), 2);
+    for wanted in &ROWS {
+        assert!(rt; is_read_so(rt.alloc(), wanted)?, "{:?}", wanted.0);
     }
     Ok(())
 }
@@ -193,39 +210,49 @@ const FAULTS: [(&[u8], u64, RowFault); 26] = [
     (b"f new . null pure\ng new . null pure", 2, RowFault::CutOff),
 ];
 
+/// The line at fault of a text that isn't read, and its fault.
+fn fault_of(alloc: Global, text: &[u8]) -> Option<(u64, RowFault)> {
+    match Table::read(alloc, text) {
+        Ok(_) => None,
+        Err(found) => Some((found.line, found.fault)),
+    }
+}
+
+/// What is at fault in a text with a byte that stands there this often.
+fn fault_of_long(
+    alloc: Global,
+    before: &[u8],
+    byte: u8,
+    times: usize,
+    behind: &[u8],
+) -> Result<Option<(u64, RowFault)>, AllocError> {
+    let mut text = Vec::from_slice(alloc, before)?;
+    for _ in 0..times {
+        text.push(byte)?;
+    }
+    text.extend_from_slice(behind)?;
+    Ok(fault_of(alloc, text.as_slice()))
+}
+
 #[test]
 fn faults_of_each_sort(rt: HostRuntime) -> Result<(), Fail> {
-    for (text, line, fault) in FAULTS {
-        match Table::read(rt.alloc(), text) {
-            Ok(_) => return Err("it was read")?,
-            Err(found) => {
-                assert_eq!(rt; found.line, line);
-                assert_eq!(rt; found.fault, fault);
-            }
-        }
+    let alloc = rt.alloc();
+    for (text, line, fault) in &FAULTS {
+        assert_eq!(rt; fault_of(alloc, text), Some((*line, *fault)), "{text:?}");
     }
-    let mut text = Vec::from_slice(rt.alloc(), b"f new ")?;
-    for _ in 0..128 {
-        text.push(b'b')?;
-    }
-    text.extend_from_slice(b" null pure\n")?;
-    let found = Table::read(rt.alloc(), text.as_slice())
-        .err()
-        .ok_or("it was read")?;
-    assert_eq!(rt; found.fault, RowFault::TooManyArguments);
-    let mut text = Vec::from_slice(rt.alloc(), b"#")?;
-    for _ in 0..255 {
-        text.push(b'-')?;
-    }
-    text.push(b'\n')?;
-    let found = Table::read(rt.alloc(), text.as_slice())
-        .err()
-        .ok_or("it was read")?;
-    assert_eq!(rt; found.fault, RowFault::LongLine);
+    let long = [
+        fault_of_long(alloc, b"f new ", b'b', 128, b" null pure\n")?,
+        fault_of_long(alloc, b"#", b'-', 255, b"\n")?,
+    ];
+    let wanted = [
+        Some((1, RowFault::TooManyArguments)),
+        Some((1, RowFault::LongLine)),
+    ];
+    assert_eq!(rt; long, wanted);
     Ok(())
 }
 
-/// Names of functions and of a field, with what the manual says of them.
+/// Names of functions, with what the manual says of them.
 const NAMES: [(&[u8], Gives, &[Takes]); 3] = [
     (
         b"PyList_GetItem",
@@ -244,41 +271,80 @@ const NAMES: [(&[u8], Gives, &[Takes]); 3] = [
     ),
 ];
 
+/// What a function gives by the tables, or a field.
+fn given(tables: &Tables, name: &[u8], is_field: bool) -> Option<Gives> {
+    let row = if is_field {
+        tables.field(name)?
+    } else {
+        tables.row(name)?
+    };
+    Some(row.gives)
+}
+
+/// Whether the tables say of each of these names what the manual says.
+fn has_names(tables: &Tables) -> bool {
+    for (name, gives, takes) in &NAMES {
+        let Some(row) = tables.row(name) else {
+            return false;
+        };
+        if row.gives != *gives || row.takes.as_slice() != *takes {
+            return false;
+        }
+    }
+    true
+}
+
+fn add(alloc: Global, tables: &mut Tables, text: &[u8]) -> Result<(), Fail> {
+    let table = Table::read(alloc, text)?;
+    Ok(tables.add(table)?)
+}
+
+/// Whether the program's table has the names, and what `tp_alloc` gives by it, as a function and as a field.
+fn carried(alloc: Global) -> Result<(bool, [Option<Gives>; 2]), TableFault> {
+    let tables = Tables::new(alloc)?;
+    let gives = [
+        given(&tables, b"tp_alloc", false),
+        given(&tables, b"tp_alloc", true),
+    ];
+    Ok((has_names(&tables), gives))
+}
+
+/// What functions and fields give once rows of a user's are added.
+fn with_own_rows(alloc: Global) -> Result<[Option<Gives>; 4], Fail> {
+    let mut tables = Tables::new(alloc)?;
+    add(
+        alloc,
+        &mut tables,
+        b"PyList_New lent - none pure\n->tp_alloc null -- none pure\n",
+    )?;
+    add(
+        alloc,
+        &mut tables,
+        b"PyList_New null - none pure\nmine new . null pure\n",
+    )?;
+    Ok([
+        given(&tables, b"PyList_New", false),
+        given(&tables, b"mine", false),
+        given(&tables, b"tp_alloc", true),
+        given(&tables, b"tp_free", true),
+    ])
+}
+
+/// How many rows the program's table has.
+fn carried_rows(alloc: Global) -> Result<usize, TableFault> {
+    Ok(Table::of_the_c_api(alloc)?.len())
+}
+
 #[test]
 fn the_users_rows_come_first(rt: HostRuntime) -> Result<(), Fail> {
-    let own = Table::of_the_c_api(rt.alloc())?;
-    assert_eq!(rt; own.len(), 1140);
-    let mut tables = Tables::new(rt.alloc())?;
-    for (name, gives, takes) in NAMES {
-        let row = tables.row(name).ok_or("no row")?;
-        assert_eq!(rt; row.gives, gives);
-        assert_eq!(rt; row.takes.as_slice(), takes);
-    }
-    assert!(rt; tables.row(b"tp_alloc").is_none());
-    assert_eq!(rt;
-        tables.field(b"tp_alloc").ok_or("no field")?.gives,
-        Gives::New
-    );
-    tables.add(Table::read(
-        rt.alloc(),
-        b"PyList_New lent - none pure\n->tp_alloc null -- none pure\n",
-    )?)?;
-    tables.add(Table::read(
-        rt.alloc(),
-        b"PyList_New null - none pure\nmine new . null pure\n",
-    )?)?;
-    assert_eq!(rt;
-        tables.row(b"PyList_New").ok_or("no row")?.gives,
-        Gives::Lent
-    );
-    assert_eq!(rt; tables.row(b"mine").ok_or("no row")?.gives, Gives::New);
-    assert_eq!(rt;
-        tables.field(b"tp_alloc").ok_or("no field")?.gives,
-        Gives::Null
-    );
-    assert_eq!(rt;
-        tables.field(b"tp_free").ok_or("no field")?.gives,
-        Gives::Free
-    );
+    assert_eq!(rt; carried_rows(rt.alloc())?, 1140);
+    assert_eq!(rt; carried(rt.alloc())?, (true, [None, Some(Gives::New)]));
+    let wanted = [
+        Some(Gives::Lent),
+        Some(Gives::New),
+        Some(Gives::Null),
+        Some(Gives::Free),
+    ];
+    assert_eq!(rt; with_own_rows(rt.alloc())?, wanted);
     Ok(())
 }
