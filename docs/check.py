@@ -15,6 +15,7 @@ from pathlib import Path
 sys.dont_write_bytecode = True
 import api_table
 import cases
+import c_pages
 import language
 import proved
 import rules
@@ -162,7 +163,7 @@ def main():
     faults += [f"docs/lists/PROVED.md: {fault}" for fault in proved.PART.faults()]
     faults += [f"docs/lists/RULES.md: {fault}" for fault in rules.faults()]
     faults += [f"docs/lists/WRONG_BODIES.md: {fault}" for fault in wrong_bodies.faults()]
-    faults += [*api_table.faults(), *cases.faults(), *language.faults()]
+    faults += [*api_table.faults(), *c_pages.faults(), *cases.faults(), *language.faults()]
     print(*faults, f"{len(faults)} faults", sep="\n")
     return 1 if faults else 0
 
