@@ -208,7 +208,7 @@ impl<'a> Builder<'a> {
         Ok(())
     }
 
-    /// Returns a node at which paths may meet. No path comes to it yet.
+    /// Returns a new node at which paths may meet. No path leads to it.
     pub(crate) fn meeting(&mut self, place: Place) -> Result<NodeId, Stop> {
         Ok(
             self.graph.add_node(Node {

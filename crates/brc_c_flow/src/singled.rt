@@ -1,4 +1,4 @@
-//! Singletons that the function itself assigns: who has one of them has it from there.
+//! Singletons that the function itself assigns. Only from there can a name have one of them.
 
 use crate::building::Builder;
 use crate::constants::is_plain_singleton;
