@@ -55,6 +55,7 @@ mod Living
 mod Agreeing
 mod Guarding
 mod Spares
+mod NoneAbout
 mod Splitting
 mod GivenHands
 mod Joining

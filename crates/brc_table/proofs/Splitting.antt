@@ -1,55 +1,37 @@
 -- Main gives out a worker's hand, with one of its references to the root, and the rule holds again.
-use Rattle.std.proofs.Common.{◌≡◌, ◌≢◌, ℕ, ◌+◌, ◌<◌, ◌≤◌, Bool, true, false, cond, Option, List, [], ◌∷◌, ◌++◌, length, set, inl, inr, Some, refl, sym, ap, ◌∙◌, subst, arith, None}
-use Rattle.std.specs.Prelude.{◌==◌, ◌||◌, ◌&&◌, nat_lt, count_by, slice_get, All}
+use Rattle.std.proofs.Common.{◌≡◌, ◌≢◌, ℕ, ◌+◌, ◌<◌, ◌≤◌, Bool, true, false, Option, List, [], ◌∷◌, ◌++◌, length, set, inl, inr, Some, refl, sym, ap, ◌∙◌, subst, arith, None}
+use Rattle.std.specs.Prelude.{◌==◌, ◌||◌, ◌&&◌, nat_lt, slice_get, All}
 use Rattle.std.proofs.lemmas.Bool.{cases_Bool, eq-eqb, lt-leb, false≢true}
 use Rattle.std.proofs.lemmas.Bool.Decides.{eqb_tells}
 use Rattle.std.proofs.lemmas.List.{length-set}
-use Rattle.std.proofs.lemmas.List.Sums.{sum_by-append, sum_by-cons, length-filter}
 use mathlib.Core.Option.{some, some-injective}
 use lib.ListN.{get_elem?}
 use Rattle.atomic_table.specs.Table.{State, Splits}
 use Rattle.atomic_table.proofs.Lists.{at_set, set_else, at_longer, at_last}
 use Rattle.brc_model.specs.declared.duty.Holding.TheVariants.{ByVariable, AsCaller}
-use Rattle.brc_model.specs.declared.duty.Duty.{Duty}
 use Rattle.brc_model.specs.declared.address.Address.TheVariants.{KindOf, Cell, Field}
 use Rattle.brc_model.specs.declared.layout.Layout.{Layout}
 use Rattle.brc_model.specs.Layout.{first_immortal_list, first_number, is_immortal_row, IsCounted, root_row}
 use Rattle.brc_model.specs.AbstractState.{PassOn, ByThread}
-use Rattle.brc_model.specs.References.{one_if, reference_of}
+use Rattle.brc_model.specs.References.{reference_of}
 use Rattle.brc_model.specs.Accounts.{Account, Accounts, HoldsNone}
 use Rattle.brc_model.specs.Machine.{Machine, idle_actor, with_moves}
-use Rattle.brc_model.specs.OpenWork.{is_about, about_of}
-use Rattle.brc_model.specs.Counting.{Counts, HasNoneAbout, MayGiveUp, with_account, with_one_less, with_one_more}
+use Rattle.brc_model.specs.Counting.{Counts, MayGiveUp, with_account, with_one_less, with_one_more}
 use Rattle.brc_model.specs.CountingLaws.{ReferencesAreHandedOver}
 use Rattle.brc_table.specs.Plan.{Plan}
 use Rattle.brc_table.specs.declared.view.View.{View}
 use Rattle.brc_table.specs.Views.{holds, is_given, giving, worker_view}
 use Rattle.brc_table.specs.Rule.{Guards, IsGone, Stands}
 use Rattle.brc_table.specs.Homes.{TableStands}
+use Rattle.brc_table.proofs.NoneAbout.{has_none}
 use Rattle.brc_table.proofs.FirstHand.{is_first}
 use Rattle.brc_table.proofs.FieldsKept.{fields_kept, fields_longer}
 use Rattle.brc_table.specs.KnownWords.{knows_kind, known_cell, has_started, started_word, knows_gone}
 use Rattle.brc_table.specs.Threads.{thread_word, ThreadsStand}
-use Rattle.brc_table.specs.Hands.{HasNoWork}
 use Rattle.brc_table.specs.Giving.{MayGive}
 use Rattle.brc_table.proofs.Lists.{set_view, at_end}
 use Rattle.brc_table.proofs.Picked.{count_more, count_less}
 use Rattle.brc_table.proofs.Accounts.{with_account_same, with_account_other}
-
--- ---- work
-
--- No duty of a thread is about the row, if none of all its work is.
-none_about : (x : ℕ) (agenda aside : List Duty) → count_by (is_about x) (agenda ++ aside) ≡ 0
-    → one_if (about_of x agenda) + count_by (is_about x) aside ≡ 0
-none_about x [] aside none = omega (arith, none)
-none_about x (d ∷ rest) aside none =
-    let counted : Duty → ℕ = λ e. cond (is_about x e) 1 0 in
-    omega (arith, none, sum_by-cons counted d (rest ++ aside), sum_by-append counted rest aside)
-
-has_none : (v : View) (x : ℕ) → HasNoWork v x → HasNoneAbout v.actor x
-has_none v x free =
-    none_about x v.actor.agenda v.actor.aside (sym (length-filter (is_about x) (v.actor.agenda ++ v.actor.aside))
-    ∙ ap length free)
 
 -- ---- the hands afterwards
 
