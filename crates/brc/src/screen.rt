@@ -10,7 +10,7 @@ use std::time::{Clock, Duration, Instant};
 /// How long a command stays silent, in milliseconds: a short one is over before anybody wonders.
 const SILENCE: u64 = 2000;
 
-/// How long a number of steps or calls is shown at least, in milliseconds.
+/// How long a number of steps, calls or functions is shown at least, in milliseconds.
 const PAUSE: u64 = 500;
 
 /// After how many calls a run may say again how far it is.
@@ -108,6 +108,17 @@ impl<R: Eprint + Clock + Sync> Terminal for Screen<'_, R> {
     fn visited(&mut self, states: u64) {
         if self.watched {
             self.show(states, "states");
+        }
+    }
+
+    fn judged(&mut self, functions: u64) {
+        if self.watched {
+            let what = if functions == 1 {
+                "function"
+            } else {
+                "functions"
+            };
+            self.show(functions, what);
         }
     }
 

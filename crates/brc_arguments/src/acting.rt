@@ -83,7 +83,7 @@ pub fn act_on<R: System, S: AsStr, L: Load + Save, T: Terminal, W: Write, E: Wri
             }
             // Nor another word for this command, or another place of it.
             Some(Request::C(asked)) if command_asks_for_c(words) => {
-                judge_c(alloc, &asked, load, out, err)
+                judge_c(alloc, &asked, load, terminal, out, err)
             }
             _ => {
                 let _ = write_bytes(b"error: a command is required\n", err);

@@ -4,17 +4,19 @@ ghost use Rattle.std.specs.Prelude.{ℕ, List};
 
 use brc_c_program::Files;
 use brc_c_text::FILE_LIMIT;
-use brc_command::{Load, LoadError};
+use brc_command::{Load, LoadError, Terminal};
+use brc_report::Paint;
 use std::alloc::{AllocError, Global};
 
-/// The files of a loader.
+/// The files of a loader, for a command before a terminal.
 #[derive(Drop)]
-pub(crate) struct Loaded<'l, L: Load> {
+pub(crate) struct Loaded<'l, L: Load, T: Terminal> {
     pub(crate) alloc: Global,
     pub(crate) load: &'l mut L,
+    pub(crate) terminal: &'l mut T,
 }
 
-impl<L: Load> Files for Loaded<'_, L> {
+impl<L: Load, T: Terminal> Files for Loaded<'_, L, T> {
     fn read(&mut self, path: &str, bytes: &mut Vec<u8>) -> Result<bool, AllocError> {
         match load_whole(self.alloc, path, self.load) {
             Ok(loaded) => {
@@ -24,6 +26,14 @@ impl<L: Load> Files for Loaded<'_, L> {
             Err(LoadError::Unreadable) => Ok(false),
             Err(LoadError::NoMemory) => Err(AllocError),
         }
+    }
+
+    fn paint(&self) -> Paint {
+        self.terminal.paint()
+    }
+
+    fn judged(&mut self, functions: u64) {
+        self.terminal.judged(functions);
     }
 }
 

@@ -49,6 +49,11 @@ impl Counts {
         has_obstacle: false,
     };
 
+    /// Returns how many functions were counted.
+    pub(crate) fn functions(&self) -> u64 {
+        self.functions
+    }
+
     pub(crate) fn has_functions(&self) -> bool {
         self.functions > 0
     }

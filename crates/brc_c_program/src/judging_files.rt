@@ -74,10 +74,10 @@ fn judge_by<F: Files>(
             tables,
             own: Own::new(alloc),
         },
+        report: Report::new(alloc, files.paint()),
         sources: Sources::new(alloc, files, asked.folders),
         suppressions: Vec::new(alloc),
         counts: Counts::NONE,
-        report: Report::new(alloc),
         errors: String::new(alloc),
     };
     let readings = work.read_files(asked)?;
@@ -312,6 +312,7 @@ impl<F: Files> Work<'_, '_, F> {
         judge_pair(&self.known, asked, readings, pair, &mut seen)?;
         suppress(alloc, self.suppressions.as_mut_slice(), function, &mut seen)?;
         self.counts.add(&seen);
+        self.sources.judged(self.counts.functions());
         let sources = self.sources.names();
         let name = name.as_str();
         self.report

@@ -3,9 +3,10 @@
 use crate::seen::Seen;
 use brc_c_judge::Verdict;
 use brc_c_objects::About;
-use brc_c_report::add_place;
+use brc_c_report::{LineKind, add_head};
 use brc_c_store::Rules;
 use brc_c_text::Place;
+use brc_report::Paint;
 use std::alloc::{AllocError, Global};
 
 /// The module of a function by a set of rules.
@@ -43,6 +44,7 @@ fn note(alloc: Global, rules: Rules, text: &[u8], seen: &mut Seen) -> Result<(),
 /// Appends the modules of a function, which is at this place.
 pub(crate) fn add_modules(
     text: &mut String,
+    paint: Paint,
     about: &About<'_>,
     place: Place,
     modules: &[Written],
@@ -53,8 +55,8 @@ pub(crate) fn add_modules(
             Rules::GlobalLock => "a global lock",
             Rules::FreeThreaded => "free threads",
         };
-        add_place(text, about.sources, place)?;
-        write!(text, "note: the module of {name} by the rules of {rules}\n")?;
+        add_head(text, paint, about.sources, place, LineKind::Note)?;
+        write!(text, "the module of {name} by the rules of {rules}\n")?;
         let lines = String::from_utf8_lossy(about.alloc, written.text.as_slice())?;
         text.push_str(lines.as_str())?;
     }

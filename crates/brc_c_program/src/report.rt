@@ -9,14 +9,17 @@ use brc_c_objects::{
     About, assumed_object, complaint_object, complaint_result, counts_object, finding_object,
     finding_result, not_read_notice, not_read_object, sarif_document,
 };
-use brc_c_report::add_place;
+use brc_c_report::{LineKind, add_head};
 use brc_c_text::Place;
+use brc_report::Paint;
 use serde_json::Value;
 use std::alloc::{AllocError, Global};
 
 /// What is to be written.
 #[derive(Drop)]
 pub(crate) struct Report {
+    /// How the lines of a text are marked.
+    paint: Paint,
     /// The lines, of text or of objects.
     text: String,
     /// The results of a document of SARIF.
@@ -26,8 +29,9 @@ pub(crate) struct Report {
 }
 
 impl Report {
-    pub(crate) fn new(alloc: Global) -> Report {
+    pub(crate) fn new(alloc: Global, paint: Paint) -> Report {
         Report {
+            paint,
             text: String::new(alloc),
             results: Vec::new(alloc),
             notices: Vec::new(alloc),
@@ -73,8 +77,10 @@ impl Report {
         place: Place,
         seen: &Seen,
     ) -> Result<(), AllocError> {
-        add_lines(&mut self.text, asked, about, place, seen)?;
-        add_modules(&mut self.text, about, place, seen.modules.as_slice())
+        let paint = self.paint;
+        let text = &mut self.text;
+        add_lines(text, paint, asked, about, place, seen)?;
+        add_modules(text, paint, about, place, seen.modules.as_slice())
     }
 
     fn add_objects(
@@ -146,8 +152,9 @@ impl Report {
         };
         match asked.format {
             AskedFormat::Text => {
-                add_place(&mut self.text, about.sources, place)?;
-                write!(self.text, "warning: {words}\n")
+                let text = &mut self.text;
+                add_head(text, self.paint, about.sources, place, LineKind::Warning)?;
+                write!(text, "{words}\n")
             }
             AskedFormat::Json => {
                 let object = complaint_object(&about, place, words)?;
@@ -190,6 +197,7 @@ impl Report {
 
     fn document(self, alloc: Global, version: &str, is_whole: bool) -> Result<String, AllocError> {
         let Report {
+            paint: _,
             text: _,
             results,
             notices,

@@ -32,6 +32,11 @@ impl<'f, 'a, F: Files> Sources<'f, 'a, F> {
         self.names.as_slice()
     }
 
+    /// Says how many functions have been judged.
+    pub(crate) fn judged(&mut self, functions: u64) {
+        self.files.judged(functions);
+    }
+
     /// Returns the number of the source at a path.
     pub(crate) fn number_of(&mut self, path: &str) -> Result<usize, AllocError> {
         for (number, name) in self.names.iter().enumerate() {

@@ -35,6 +35,8 @@ pub struct Case {
     pub line: usize,
     pub name: String,
     pub words: Vec<Vec<u8>>,
+    /// Whether it is carried out before a terminal.
+    pub is_terminal: bool,
     pub files: Vec<CaseFile>,
     /// The exit status: each case that is read has one.
     pub status: Option<u8>,
@@ -50,6 +52,7 @@ impl Case {
             line,
             name: String::from_str(alloc, name)?,
             words: Vec::new(alloc),
+            is_terminal: false,
             files: Vec::new(alloc),
             status: None,
             wanted: Vec::new(alloc),
@@ -60,6 +63,7 @@ impl Case {
     /// Returns the case of a row: `<row>` and `<answer>` are its two fields.
     pub fn of_row(&self, alloc: Global, row: &Row) -> Result<Case, AllocError> {
         let mut made = Case::named(alloc, row.line, self.name.as_str())?;
+        made.is_terminal = self.is_terminal;
         made.status = self.status;
         fill_words(alloc, self.words.as_slice(), row, &mut made.words)?;
         fill_files(alloc, self.files.as_slice(), row, &mut made.files)?;

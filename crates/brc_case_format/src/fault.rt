@@ -5,13 +5,13 @@ use thiserror::Error;
 /// Why a line of a file of cases can't be read.
 #[derive(Clone, Copy, Debug, PartialEq, Eq, Drop, Error)]
 pub enum Why {
-    #[error("no line begins so; it begins with `text`, `case`, `$`, `file`, `status`, `out`, `err`, `all`, `saved`, `or`, `rows`, `-`, `|`, a quote, `=` or `#`")]
+    #[error("no line begins so; it begins with `text`, `case`, `$`, `terminal`, `file`, `status`, `out`, `err`, `all`, `saved`, `or`, `rows`, `-`, `|`, a quote, `=` or `#`")]
     UnknownLine,
     #[error("this line belongs to a case: write `case NAME` above it, after a blank line")]
     NoCase,
     #[error("a text or a case begins here: put a blank line above it")]
     NoBlankLine,
-    #[error("it is out of order: a case has its words, its files, its status, what it writes, what it saves, and its rows")]
+    #[error("it is out of order: a case has its words, a terminal, its files, its status, what it writes, what it saves, and its rows")]
     OutOfOrder,
     #[error("content belongs below `text`, `file`, `out`, `err`, `all` or `saved`")]
     NoPlace,

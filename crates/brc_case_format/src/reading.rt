@@ -67,6 +67,7 @@ impl Reader {
             "text" => self.begin_text(texts, rest),
             "case" => self.begin_case(number, rest),
             "$" => self.add_words(rest),
+            "terminal" => self.set_terminal(rest),
             "file" => self.add_file(rest),
             "status" => self.set_status(rest),
             "out" => self.add_wanted(Stream::Out, "", rest),
@@ -137,6 +138,15 @@ impl Reader {
         let case = self.case(&[Place::Name])?;
         case.words = words;
         self.place = Place::Words;
+        Ok(())
+    }
+
+    fn set_terminal(&mut self, rest: &str) -> Result<(), Why> {
+        if !rest.is_empty() {
+            return Err(Why::UnknownLine);
+        }
+        let case = self.case(&[Place::Words])?;
+        case.is_terminal = true;
         Ok(())
     }
 

@@ -4,6 +4,7 @@
 
 mod running;
 mod shelf;
+mod window;
 
 use anyhow::{Result, bail};
 use brc_case_format::{Case, Texts, read_cases};

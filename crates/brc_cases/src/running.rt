@@ -1,6 +1,7 @@
 use crate::shelf::Shelf;
+use crate::window::Window;
 use anyhow::Result;
-use brc_arguments::act;
+use brc_arguments::act_on;
 use brc_case_format::{Case, Stream};
 use brc_run::System;
 use std::alloc::{AllocError, Global};
@@ -54,8 +55,20 @@ fn difference_of<R: System + AllocGlobal>(rt: &R, case: &Case) -> Result<String,
     let mut out: Vec<u8> = Vec::new(alloc);
     let mut err: Vec<u8> = Vec::new(alloc);
     let mut shelf = Shelf::new(alloc, case);
-    let status = act(rt, alloc, words.as_slice(), &mut shelf, &mut out, &mut err);
-    told(alloc, case, status, &mut out, err.as_slice(), &shelf)
+    let mut window = Window::new(alloc, case.is_terminal);
+    let status = act_on(
+        rt,
+        alloc,
+        words.as_slice(),
+        &mut shelf,
+        &mut window,
+        &mut out,
+        &mut err,
+    );
+    // The terminal is wiped before anything is written.
+    let mut shown = Vec::from_slice(alloc, window.shown())?;
+    shown.extend_from_slice(err.as_slice())?;
+    told(alloc, case, status, &mut out, shown.as_slice(), &shelf)
 }
 
 fn words_of(alloc: Global, case: &Case) -> Result<Vec<String>, AllocError> {

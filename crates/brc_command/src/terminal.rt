@@ -15,7 +15,8 @@ pub trait Terminal: Gate + Sync {
     // How it marks the parts of a text.
     ghost paint_of: { Self → Paint };
 
-    /// Returns how the parts of an explanation or a trace are marked. Other reports are never marked.
+    /// Returns how the parts of an explanation, of a trace or of the lines about C files are marked. Other reports are
+    /// never marked.
     fn paint(&self) -> Paint
         ensures { result ≡ paint_of self.now };
 
@@ -24,6 +25,9 @@ pub trait Terminal: Gate + Sync {
 
     /// Shows how many states a search has visited so far. `brc explain --schedule` calls it once in some 256 states.
     fn visited(&mut self, states: u64);
+
+    /// Shows how many C functions have been judged so far. `brc c` calls it after each one.
+    fn judged(&mut self, functions: u64);
 
     /// Returns how many seconds the command has taken so far, or 0 if there is no clock.
     fn passed(&self) -> u64;
@@ -52,6 +56,8 @@ impl Terminal for NoTerminal {
     fn made(&mut self, _steps: u64) {}
 
     fn visited(&mut self, _states: u64) {}
+
+    fn judged(&mut self, _functions: u64) {}
 
     fn passed(&self) -> u64 {
         0

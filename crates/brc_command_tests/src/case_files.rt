@@ -7,12 +7,18 @@ const FAULTS: &[(&str, usize, Why)] = &[
     ("# A comment.\n\nabout\n", 3, Why::UnknownLine),
     ("case one\n$ brc\nrow\n", 3, Why::UnknownLine),
     ("case one\n$ brc\nstatus 0\nrows 1\n", 4, Why::UnknownLine),
+    ("case one\n$ brc\nterminal 80\n", 3, Why::UnknownLine),
     ("$ brc\n", 1, Why::NoCase),
     ("text one\nstatus 0\n", 2, Why::NoCase),
     ("case one\ncase two\n", 2, Why::NoBlankLine),
     ("case one\n$ brc\ntext two\n", 3, Why::NoBlankLine),
     ("case one\nstatus 0\n", 2, Why::OutOfOrder),
     ("case one\n$ brc\nout\n", 3, Why::OutOfOrder),
+    (
+        "case one\n$ brc\nfile m.brc\nterminal\n",
+        4,
+        Why::OutOfOrder,
+    ),
     (
         "case one\n$ brc\nstatus 0\nfile m.brc\n",
         4,

@@ -15,6 +15,7 @@ struct Notes {
     last: u64,
     falls: bool,
     clears: u64,
+    judged: u64,
     // The calls of workers that have begun, and those that have ended.
     begun: AtomicU64,
     ended: AtomicU64,
@@ -45,6 +46,10 @@ impl Terminal for Notes {
 
     fn visited(&mut self, _states: u64) {}
 
+    fn judged(&mut self, functions: u64) {
+        self.judged = functions;
+    }
+
     fn passed(&self) -> u64 {
         0
     }
@@ -66,6 +71,7 @@ fn told<R: System + AllocGlobal>(
         last: 0,
         falls: false,
         clears: 0,
+        judged: 0,
         begun: AtomicU64::new(0),
         ended: AtomicU64::new(0),
     };
@@ -142,6 +148,36 @@ fn tells_how_far_schedules_and_runs_are(rt: HostRuntime) {
     assert!(rt; out.as_slice().starts_with(b"threads 1\n"));
     assert_eq!(rt; notes.begun.load(Ordering::SeqCst), 801);
     assert_eq!(rt; notes.clears, 2);
+}
+
+/// Two C functions, of which the first is at fault.
+const C: &[u8] =
+    b"int f(PyObject *o)\n{\n    PyObject *x = PyObject_Repr(o);\n    return x == NULL;\n}\nint g(int a) { return a; }\n";
+
+// A terminal is given the number of C functions, and its line is wiped.
+#[test]
+fn tells_how_many_functions_are_judged(rt: HostRuntime) {
+    let (mut notes, _) = told(&rt, &CHECK, FIRST, b"");
+    let clears = notes.clears;
+    let mut out: Vec<u8> = Vec::new(rt.alloc());
+    let mut err: Vec<u8> = Vec::new(rt.alloc());
+    let mut load = Shelf {
+        module: Ok(C),
+        schedule: UNREAD,
+    };
+    let words = ["brc", "c", "m.brc"];
+    let status = act_on(
+        &rt,
+        rt.alloc(),
+        words.as_slice(),
+        &mut load,
+        &mut notes,
+        &mut out,
+        &mut err,
+    );
+    assert_eq!(rt; (status, notes.judged, notes.clears - clears), (1, 2, 1));
+    assert!(rt; out.as_slice().starts_with(b"\x1b[1mm.brc:4:5:\x1b[0m "));
+    assert!(rt; err.is_empty());
 }
 
 #[test]
