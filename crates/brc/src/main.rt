@@ -2,11 +2,10 @@
 #![tactic(auto)]
 
 mod disk;
-mod screen;
 
 use brc_arguments::act_on;
+use brc_screen::Screen;
 use disk::Disk;
-use screen::Screen;
 use std::io;
 use std::io::{ErrorKind, IsTerminal};
 use std::process::ExitCode;

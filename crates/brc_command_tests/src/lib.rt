@@ -13,6 +13,8 @@ mod narrow;
 #[cfg(test)]
 mod pieces;
 #[cfg(test)]
+mod screens;
+#[cfg(test)]
 mod terminals;
 #[cfg(test)]
 mod texts;

@@ -1,0 +1,6 @@
+//! The terminal of the system, before which a command is carried out.
+#![tactic(auto)]
+
+mod screen;
+
+pub use screen::Screen;
