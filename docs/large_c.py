@@ -1,12 +1,16 @@
 #!/usr/bin/env python3
-"""Prints a C file of an extension with as many functions as are asked for, to measure `brc c` by.
+"""Prints a C file of an extension with as many functions as are asked for, to measure `brc c` by, or writes them into the
+files of a folder, 500 in each.
 
-    python3 docs/large_c.py FUNCTIONS > large.c
+    python3 docs/large_c.py 200 > large.c
     time crates/brc/out/brc c large.c
+    python3 docs/large_c.py 5500 large
+    time crates/brc/out/brc c large/*.c
 
 The functions are of six sorts in turn, of 13 to 25 lines each: labels that paths share, loops, items of lists in critical
 sections, dictionaries, flags, and arguments. A function in thirty loses a reference.
 """
+import os
 import sys
 
 HEAD = """#include <Python.h>
@@ -126,13 +130,29 @@ joined_{n}(PyObject *self, PyObject *args)
 ]
 
 
-def main():
-    if len(sys.argv) != 2 or not sys.argv[1].isdigit():
-        sys.exit(__doc__)
-    print(HEAD, end="")
-    for number in range(int(sys.argv[1])):
+FUNCTIONS_OF_A_FILE = 500
+
+
+def text_of(numbers):
+    text = HEAD
+    for number in numbers:
         give = "" if number % 30 == 1 else "Py_DECREF(item);\n            "
-        print(SORTS[number % len(SORTS)].format(n=number, give=give))
+        text += SORTS[number % len(SORTS)].format(n=number, give=give) + "\n"
+    return text
+
+
+def main():
+    if len(sys.argv) not in (2, 3) or not sys.argv[1].isdigit():
+        sys.exit(__doc__)
+    count = int(sys.argv[1])
+    if len(sys.argv) == 2:
+        print(text_of(range(count)), end="")
+        return
+    os.makedirs(sys.argv[2], exist_ok=True)
+    for first in range(0, count, FUNCTIONS_OF_A_FILE):
+        path = os.path.join(sys.argv[2], f"file_{first // FUNCTIONS_OF_A_FILE:02}.c")
+        with open(path, "w", encoding="ascii") as file:
+            file.write(text_of(range(first, min(first + FUNCTIONS_OF_A_FILE, count))))
 
 
 main()

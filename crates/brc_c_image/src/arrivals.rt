@@ -13,7 +13,7 @@ pub struct Arrival {
     pub store: Store,
 }
 
-/// Returns each return of a graph in each store in which a path reaches it, in no order, or `None` if there are too
+/// Returns each return of a graph in each store in which a path reaches it, or `None` if there are too
 /// many blocks or references. A store knows the names that the graph asks for there.
 pub fn arrivals_of(
     alloc: Global,
@@ -21,7 +21,7 @@ pub fn arrivals_of(
     graph: &Graph,
 ) -> Result<Option<Vec<Arrival>>, AllocError> {
     let live = Liveness::of(alloc, graph)?;
-    let mut blocks = Blocks::new(alloc);
+    let mut blocks = Blocks::new(alloc, graph)?;
     let source = Source {
         alloc,
         rules,
@@ -31,5 +31,5 @@ pub fn arrivals_of(
     if explore(&source, &mut blocks)?.is_some() {
         return Ok(None);
     }
-    Ok(Some(blocks.arrivals(alloc, graph)?))
+    Ok(Some(blocks.into_arrivals(alloc, graph)?))
 }

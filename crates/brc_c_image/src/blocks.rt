@@ -6,21 +6,25 @@ use crate::block::{Block, Break, Held, Origin};
 use crate::breaking::write_break;
 use crate::emitting::{write_emptying, write_return};
 use crate::following::follow;
+use crate::hashing::hash_of;
 use crate::image::Size;
 use crate::line::Line;
 use crate::liveness::Liveness;
+use crate::points::{Points, Waiting};
 use crate::taking::take_lent;
 use brc_c_graph::{Graph, NodeId};
 use brc_c_store::{Event, RegisterSet, Rules, Store, faults};
 use brc_lang::CheckCode;
 use std::alloc::{AllocError, Global};
-use std::collections::{HashMap, VecDeque};
 
 /// How many blocks may have lines.
 const MOST_BLOCKS: usize = 2048;
 
 /// How many blocks there may be, with those for which nothing is written.
 const MOST_POINTS: usize = 16_384;
+
+/// How much there may be to do for all of them.
+const MOST_WORK: usize = 16_777_216;
 
 /// What a search knows from the beginning on.
 #[derive(Clone, Copy)]
@@ -31,41 +35,25 @@ pub(crate) struct Source<'a> {
     pub(crate) live: &'a Liveness,
 }
 
-/// A node in a normal store.
-#[derive(Debug, PartialEq, Eq, Hash, Drop)]
-struct Point {
-    node: NodeId,
-    store: Store,
-}
-
-/// A block whose event wasn't followed yet.
-#[derive(Debug, Drop)]
-pub(crate) struct Waiting {
-    pub(crate) block: usize,
-    pub(crate) node: NodeId,
-    pub(crate) store: Store,
-}
-
 /// The blocks of a function. The first one is the function's entry.
 #[derive(Drop)]
 pub(crate) struct Blocks {
     blocks: Vec<Block>,
     pub(crate) lines: Vec<Line>,
-    numbers: HashMap<Point, usize>,
-    waiting: VecDeque<Waiting>,
+    points: Points,
     /// Whether a path was followed no further, since it has opened too many critical sections.
     pub(crate) is_cut: bool,
 }
 
 impl Blocks {
-    pub(crate) fn new(alloc: Global) -> Blocks {
-        Blocks {
+    /// Returns no blocks of a graph.
+    pub(crate) fn new(alloc: Global, graph: &Graph) -> Result<Blocks, AllocError> {
+        Ok(Blocks {
             blocks: Vec::new(alloc),
             lines: Vec::new(alloc),
-            numbers: HashMap::new(alloc),
-            waiting: VecDeque::new(alloc),
+            points: Points::new(alloc, graph)?,
             is_cut: false,
-        }
+        })
     }
 
     pub(crate) fn len(&self) -> usize {
@@ -89,58 +77,63 @@ impl Blocks {
         Ok(number)
     }
 
-    /// Returns the block of a node in a normal store. A new one has to wait.
+    /// Returns the block of a node in a normal store. A new one has to wait. One point may be taken.
     pub(crate) fn add_point(
         &mut self,
         rules: Rules,
         node: NodeId,
         store: Store,
         origin: Origin,
+        taken: Option<&Waiting>,
     ) -> Result<usize, AllocError> {
-        let point = Point { node, store };
-        if let Some(number) = self.numbers.get(&point) {
-            return Ok(*number);
+        let hash = hash_of(node, &store);
+        if let Some(block) = self.points.find(node, &store, hash, taken) {
+            return Ok(block);
         }
-        let held = Held::of(rules, &point.store);
+        let held = Held::of(rules, &store);
         let block = self.add(Block::new(node, Some(origin), held))?;
-        self.waiting.push_back(Waiting {
-            block,
-            node,
-            store: point.store.clone()?,
-        })?;
-        self.numbers.insert(point, block)?;
+        self.points.add(node, store, hash, block)?;
         Ok(block)
     }
 
     /// Returns the points at which paths return.
-    pub(crate) fn arrivals(
-        &self,
+    pub(crate) fn into_arrivals(
+        self,
         alloc: Global,
         graph: &Graph,
     ) -> Result<Vec<Arrival>, AllocError> {
+        let Blocks { points, .. } = self;
         let mut arrivals = Vec::new(alloc);
-        for point in self.numbers.keys() {
-            let returns = match graph.node(point.node) {
-                Some(node) => matches!(node.event, Event::Return(_) | Event::ReturnPlain),
-                None => false,
-            };
-            if returns {
-                arrivals.push(Arrival {
-                    node: point.node,
-                    store: point.store.clone()?,
-                })?;
+        for point in points.into_points() {
+            if is_return(graph, point.node) {
+                arrivals.push(point.into_arrival())?;
             }
         }
         Ok(arrivals)
     }
 }
 
+fn is_return(graph: &Graph, node: NodeId) -> bool {
+    match graph.node(node) {
+        Some(node) => matches!(node.event, Event::Return(_) | Event::ReturnPlain),
+        None => false,
+    }
+}
+
+/// Returns how much there is to do for a store: each of its entries is held against the others.
+fn work_of(store: &Store) -> usize {
+    let objects = store.objects.len().saturating_add(store.cells.len());
+    let entries = objects.saturating_add(store.values.len());
+    entries.saturating_mul(entries)
+}
+
 /// Finds all blocks. Returns what there is too much of, if anything.
 pub(crate) fn explore(source: &Source, blocks: &mut Blocks) -> Result<Option<Size>, AllocError> {
     begin(source, blocks)?;
     let mut written: usize = 0;
+    let mut work: usize = 0;
     for _ in 0..MOST_POINTS {
-        let Some(waiting) = blocks.waiting.pop_front() else {
+        let Some(waiting) = blocks.points.take(source.alloc) else {
             return Ok(None);
         };
         if let Some(size) = build(source, blocks, &waiting)? {
@@ -149,9 +142,11 @@ pub(crate) fn explore(source: &Source, blocks: &mut Blocks) -> Result<Option<Siz
         if is_written(blocks.get(waiting.block)) {
             written = written.saturating_add(1);
         }
-        if written > MOST_BLOCKS {
+        work = work.saturating_add(work_of(&waiting.store));
+        if written > MOST_BLOCKS || work > MOST_WORK {
             return Ok(Some(Size::Blocks));
         }
+        blocks.points.put_back(waiting);
     }
     Ok(Some(Size::Blocks))
 }
@@ -177,7 +172,7 @@ fn begin(source: &Source, blocks: &mut Blocks) -> Result<(), AllocError> {
         block: number,
         choice: None,
     };
-    entry.next = Some(blocks.add_point(rules, NodeId::ENTRY, store, origin)?);
+    entry.next = Some(blocks.add_point(rules, NodeId::ENTRY, store, origin, None)?);
     blocks.set(number, entry);
     Ok(())
 }
@@ -236,7 +231,7 @@ fn go_on_in(
         block: waiting.block,
         choice: None,
     };
-    let next = blocks.add_point(rules, waiting.node, store, origin)?;
+    let next = blocks.add_point(rules, waiting.node, store, origin, Some(waiting))?;
     if let Some(block) = blocks.get(waiting.block) {
         blocks.set(
             waiting.block,

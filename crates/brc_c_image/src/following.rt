@@ -1,11 +1,12 @@
 //! Where paths go on after an event.
 
 use crate::block::{Block, Branch, Origin};
-use crate::blocks::{Blocks, Source, Waiting};
+use crate::blocks::{Blocks, Source};
 use crate::changes::{Changes, ends_items};
 use crate::emitting::write_event;
 use crate::image::Size;
 use crate::normal::make_normal;
+use crate::points::Waiting;
 use crate::registers::{difference, items_of};
 use brc_c_graph::{Node, NodeId};
 use brc_c_store::{Choice, Event, Next, Store, after};
@@ -131,7 +132,7 @@ fn arrive(
         store.stale = store.stale.union(difference(lost, store.owned()));
     }
     make_normal(source.alloc, source.graph, source.live, to, &mut store)?;
-    blocks.add_point(source.rules, to, store, origin)
+    blocks.add_point(source.rules, to, store, origin, Some(waiting))
 }
 
 /// Writes the lines of a block, and notes where paths go on.

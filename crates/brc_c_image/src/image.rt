@@ -63,7 +63,7 @@ pub fn image_of(
     name: &[u8],
 ) -> Result<Image, AllocError> {
     let live = Liveness::of(alloc, graph)?;
-    let mut blocks = Blocks::new(alloc);
+    let mut blocks = Blocks::new(alloc, graph)?;
     let source = Source {
         alloc,
         rules,

@@ -7,6 +7,9 @@ pub(crate) const MOST_REGISTERS: usize = 13;
 
 /// Returns the registers of the first set that aren't in the second one.
 pub(crate) fn difference(set: RegisterSet, others: RegisterSet) -> RegisterSet {
+    if set.is_empty() || set == others {
+        return RegisterSet::EMPTY;
+    }
     let mut left = set;
     let mut next = set.first();
     for _ in 0..MOST_REGISTERS {

@@ -4,7 +4,7 @@ use crate::file::{Files, Numbered};
 use crate::names::Names;
 use brc_c_text::Symbol;
 use brc_c_tree::{Body, Expression, Tree};
-use std::alloc::AllocError;
+use std::alloc::{AllocError, Global};
 
 /// The functions that each function calls by name.
 #[derive(Drop)]
@@ -76,6 +76,17 @@ impl Calls {
             None => 0,
         };
         self.callees.get(first..self.end(number)).unwrap_or(&[])
+    }
+
+    /// Returns of each function whether it is a helper, or called by name.
+    pub(crate) fn needed(&self, alloc: Global, helpers: &[bool]) -> Result<Vec<bool>, AllocError> {
+        let mut needed = Vec::from_slice(alloc, helpers)?;
+        for callee in self.callees.iter() {
+            if let Some(found) = needed.get_mut(*callee) {
+                *found = true;
+            }
+        }
+        Ok(needed)
     }
 
     fn end(&self, number: usize) -> usize {

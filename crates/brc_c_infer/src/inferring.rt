@@ -27,6 +27,8 @@ struct Work<'a> {
     numbered: Vec<Numbered>,
     helpers: Vec<bool>,
     calls: Calls,
+    /// Of each function whether its row matters to others, or to the verdict on itself.
+    needed: Vec<bool>,
     rows: Vec<Option<OwnRow>>,
     /// How many rows were made before that of a function was, and before it changed.
     made: Vec<usize>,
@@ -64,12 +66,14 @@ impl<'a> Work<'a> {
         let numbered = number_functions(&files, &mut names)?;
         let helpers = helpers_of(&files, &names, numbered.as_slice())?;
         let calls = Calls::of(&files, &names, numbered.as_slice())?;
+        let needed = calls.needed(alloc, helpers.as_slice())?;
         let mut work = Work {
             files,
             names,
             numbered,
             helpers,
             calls,
+            needed,
             rows: Vec::new(alloc),
             made: Vec::new(alloc),
             changed: Vec::new(alloc),
@@ -115,8 +119,12 @@ impl<'a> Work<'a> {
         Ok(is_changed)
     }
 
-    /// Returns whether a function has no row of its own, or one that rests on others which changed since.
+    /// Returns whether a function has no row of its own, or one that rests on others which changed since. By the row of
+    /// a function that nobody calls it is judged as by the general rule.
     fn is_stale(&self, number: usize) -> bool {
+        if !self.needed.get(number).copied().unwrap_or(true) {
+            return false;
+        }
         let made = self.made.get(number).copied().unwrap_or(0);
         made == 0
             || self.calls.callees(number).iter().any(|callee| {

@@ -30,6 +30,34 @@ pub(crate) fn judge(
     function: &Function,
     seen: &mut Seen,
 ) -> Result<(), AllocError> {
+    match read_flow(judging, function, seen)? {
+        Some(flow) => judge_flow(judging, function, &flow, seen),
+        None => Ok(()),
+    }
+}
+
+/// Judges a function by both sets of rules, which read the same text.
+pub(crate) fn judge_by_both(
+    locked: &Judging<'_>,
+    free: &Judging<'_>,
+    function: &Function,
+    seen: &mut Seen,
+) -> Result<(), AllocError> {
+    match read_flow(free, function, seen)? {
+        Some(flow) => {
+            judge_flow(locked, function, &flow, seen)?;
+            judge_flow(free, function, &flow, seen)
+        }
+        None => Ok(()),
+    }
+}
+
+/// Returns what is made of a function, if it is read and its recursion has an end. No set of rules changes it.
+fn read_flow(
+    judging: &Judging<'_>,
+    function: &Function,
+    seen: &mut Seen,
+) -> Result<Option<Flow>, AllocError> {
     let known = judging.known;
     let counts = judging.counts;
     let alloc = known.alloc;
@@ -38,13 +66,13 @@ pub(crate) fn judge(
             let reason = reason_text(alloc, &known.symbols, why.reason)?;
             seen.hinder(why.place, reason);
         }
-        return Ok(());
+        return Ok(None);
     }
     if known.own.is_unsettled(judging.file, function.name) {
         if counts {
             seen.hinder(function.place, String::from_str(alloc, UNSETTLED)?);
         }
-        return Ok(());
+        return Ok(None);
     }
     let program = Program {
         symbols: &known.symbols,
@@ -53,16 +81,26 @@ pub(crate) fn judge(
         own: known.own.functions(judging.file),
         usage: &judging.unit.usage,
     };
-    match flow_of(alloc, &program, function)? {
+    Ok(Some(flow_of(alloc, &program, function)?))
+}
+
+fn judge_flow(
+    judging: &Judging<'_>,
+    function: &Function,
+    flow: &Flow,
+    seen: &mut Seen,
+) -> Result<(), AllocError> {
+    match flow {
         Flow::NoObjects => Ok(()),
         Flow::NotRead(why) => {
-            if counts {
-                let reason = flow_reason_text(alloc, &known.symbols, why.reason)?;
+            if judging.counts {
+                let known = judging.known;
+                let reason = flow_reason_text(known.alloc, &known.symbols, why.reason)?;
                 seen.hinder(why.place, reason);
             }
             Ok(())
         }
-        Flow::Graph(graph) => judge_graph(judging, function, &graph, seen),
+        Flow::Graph(graph) => judge_graph(judging, function, graph, seen),
     }
 }
 

@@ -254,13 +254,9 @@ impl<F: Files> Work<'_, '_, F> {
             if function.place.source == readings.number {
                 self.judge_free_alone(asked, readings, line, function.place.line)?;
                 line = function.place.line;
-                let free = match readings.free_unit() {
-                    Some(free) => free.partner(function),
-                    None => None,
-                };
                 let pair = Pair {
                     locked: Some(function),
-                    free,
+                    free: readings.partner(function),
                 };
                 self.judge_function(asked, readings, function, pair)?;
             }

@@ -1,7 +1,7 @@
 //! A file as it is read by each set of rules that is asked for, and its functions.
 
 use crate::asked::Asked;
-use crate::judging::{Judging, judge};
+use crate::judging::{Judging, judge, judge_by_both};
 use crate::seen::Seen;
 use crate::unit::{Known, Unit};
 use brc_c_store::Rules;
@@ -30,12 +30,11 @@ pub(crate) struct Readings {
 }
 
 impl Readings {
-    /// Returns what the free-threaded rules read.
-    pub(crate) fn free_unit(&self) -> Option<&Unit> {
+    /// Returns the function of the same name at the same place as the free-threaded rules read it, if it isn't the same.
+    pub(crate) fn partner(&self, function: &Function) -> Option<&Function> {
         match &self.free {
-            FreeReading::NotAsked => None,
-            FreeReading::Same => Some(&self.locked),
-            FreeReading::Own(unit) => Some(unit),
+            FreeReading::Own(unit) => unit.partner(function),
+            FreeReading::NotAsked | FreeReading::Same => None,
         }
     }
 }
@@ -44,6 +43,7 @@ impl Readings {
 #[derive(Clone, Copy)]
 pub(crate) struct Pair<'u> {
     pub(crate) locked: Option<&'u Function>,
+    /// None if both sets of rules read the same text.
     pub(crate) free: Option<&'u Function>,
 }
 
@@ -55,28 +55,49 @@ pub(crate) fn judge_pair(
     pair: Pair<'_>,
     seen: &mut Seen,
 ) -> Result<(), AllocError> {
-    if let Some(function) = pair.locked {
-        let judging = Judging {
-            known,
-            unit: &readings.locked,
-            file: readings.file,
-            rules: Rules::GlobalLock,
-            counts: asked.asks_for_global_lock(),
-        };
-        judge(&judging, function, seen)?;
-    }
-    if let (Some(unit), Some(function)) = (readings.free_unit(), pair.free) {
-        let judging = Judging {
-            known,
-            unit,
-            file: readings.file,
-            rules: Rules::FreeThreaded,
-            counts: true,
-        };
-        judge(&judging, function, seen)?;
+    let locked = Judging {
+        known,
+        unit: &readings.locked,
+        file: readings.file,
+        rules: Rules::GlobalLock,
+        counts: asked.asks_for_global_lock(),
+    };
+    match &readings.free {
+        FreeReading::NotAsked => judge_if_there(&locked, pair.locked, seen)?,
+        FreeReading::Same => {
+            if let Some(function) = pair.locked {
+                let free = Judging {
+                    rules: Rules::FreeThreaded,
+                    counts: true,
+                    ..locked
+                };
+                judge_by_both(&locked, &free, function, seen)?;
+            }
+        }
+        FreeReading::Own(unit) => {
+            judge_if_there(&locked, pair.locked, seen)?;
+            let free = Judging {
+                unit,
+                rules: Rules::FreeThreaded,
+                counts: true,
+                ..locked
+            };
+            judge_if_there(&free, pair.free, seen)?;
+        }
     }
     if !asked.asks_for_global_lock() {
         seen.findings.retain(|finding| finding.by_free_threaded);
     }
     Ok(())
+}
+
+fn judge_if_there(
+    judging: &Judging<'_>,
+    function: Option<&Function>,
+    seen: &mut Seen,
+) -> Result<(), AllocError> {
+    match function {
+        Some(function) => judge(judging, function, seen),
+        None => Ok(()),
+    }
 }
