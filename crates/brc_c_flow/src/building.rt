@@ -6,6 +6,8 @@ use crate::entries::KeptArgument;
 use crate::facts::KnownCondition;
 use crate::habits::Habits;
 use crate::names::Variable;
+use crate::nulls::AskedField;
+use crate::outs::OutParameter;
 use crate::own::OwnFunctions;
 use crate::purpose::{Purpose, Returned};
 use crate::reasons::FlowReason;
@@ -92,6 +94,10 @@ pub(crate) struct Builder<'a> {
     pub(crate) elements: Vec<Element>,
     pub(crate) mixed: HashSet<Symbol>,
     pub(crate) lent: Vec<LentElement>,
+    /// The parameters that are addresses of variables which are followed.
+    pub(crate) outs: Vec<OutParameter>,
+    /// The fields of parameters that are asked for at the ends, if the graph is made for a row.
+    pub(crate) asked_fields: Vec<AskedField>,
     pub(crate) habits: Habits,
     /// The fields that the function sets.
     pub(crate) set_fields: HashSet<Symbol>,
@@ -146,6 +152,8 @@ impl<'a> Builder<'a> {
             elements: Vec::new(alloc),
             mixed: HashSet::new(alloc),
             lent: Vec::new(alloc),
+            outs: Vec::new(alloc),
+            asked_fields: Vec::new(alloc),
             habits: Habits::NONE,
             set_fields: HashSet::new(alloc),
             plain_cells: Vec::new(alloc),

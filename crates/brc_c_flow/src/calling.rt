@@ -52,6 +52,7 @@ impl<'a> Builder<'a> {
         let failing = self.pass_arguments(how, ids, operands, site)?;
         self.assume_arguments(callee, operands, how, site)?;
         self.run(callee, site)?;
+        self.clear_fields(callee, operands, site)?;
         if row.name.as_slice() == b"Py_TYPE".as_slice() {
             // A heap type's instance owns a reference to its type: what is done with it isn't judged.
             return self.unknown(site.id, want);
@@ -95,6 +96,9 @@ impl<'a> Builder<'a> {
         if calling == Calling::MayMiss {
             self.jump(end);
             self.resume(call, Choice::Missing);
+            if callee.own.is_some() {
+                self.steal_on_failure(operands, how, site)?;
+            }
             self.fail(operands, how, outcome, Signs::ZERO, site)?;
         }
         self.land(end);
@@ -168,10 +172,12 @@ fn touches(operand: Operand) -> bool {
 /// Returns whether a variable of objects is passed of which the function isn't known to store one.
 fn stores_unknown(operands: &[Operand], how: &[Passing]) -> bool {
     for (at, operand) in operands.iter().enumerate() {
-        if let (Operand::Address(_), Passing::Table(Takes::NoObject)) = (
-            *operand,
-            passed(how, at),
-        ) {
+        let is_unknown = match passed(how, at) {
+            Passing::Table(Takes::NoObject) => true,
+            Passing::Own(out) => out.stores_unknown(),
+            _ => false,
+        };
+        if is_unknown && matches!(*operand, Operand::Address(_)) {
             return true;
         }
     }

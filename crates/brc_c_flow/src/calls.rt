@@ -45,7 +45,11 @@ impl<'a> Builder<'a> {
         let mut operands = Vec::new(self.alloc);
         for (at, argument) in ids.iter().enumerate() {
             let want = self.want_of(name, how.as_slice(), at);
-            operands.push(self.value(*argument, want, depth)?)?;
+            let operand = match self.out_passed(*argument) {
+                Some(local) => Operand::Address(local),
+                None => self.value(*argument, want, depth)?,
+            };
+            operands.push(operand)?;
         }
         self.called(id, function, ids, operands.as_slice(), how.as_slice(), want)
     }

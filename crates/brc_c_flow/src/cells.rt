@@ -57,7 +57,7 @@ impl<'a> Builder<'a> {
         )
     }
 
-    fn field_cell(&mut self, name: Symbol, holder: Local) -> Result<Option<Cell>, Stop> {
+    pub(crate) fn field_cell(&mut self, name: Symbol, holder: Local) -> Result<Option<Cell>, Stop> {
         let words = self.words_of_symbol(name)?;
         Ok(Some(Cell {
             holder: Some(holder),

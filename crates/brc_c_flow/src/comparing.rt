@@ -38,6 +38,9 @@ impl<'a> Builder<'a> {
             | (Operand::Singleton(singleton), Operand::Object(local)) => {
                 self.compare_singleton(id, comparison, local, singleton, branches)
             }
+            (Operand::Address(_), other) | (other, Operand::Address(_)) if other.is_null() => {
+                self.compare_address(id, comparison, branches)
+            }
             _ => self.compare_constants(id, comparison, left, right, branches),
         }
     }
@@ -76,6 +79,21 @@ impl<'a> Builder<'a> {
         let words = self.words_of(id)?;
         let event = Event::Is { local, singleton };
         self.ask(event, self.place_of(id), Some(words), branches)
+    }
+
+    /// An address isn't NULL.
+    fn compare_address(
+        &mut self,
+        id: ExpressionId,
+        comparison: Comparison,
+        branches: Branches,
+    ) -> Result<(), Stop> {
+        match comparison {
+            Comparison::Equal => self.jump(branches.fails),
+            Comparison::NotEqual => self.jump(branches.holds),
+            _ => self.ask_words(id, None, branches)?,
+        }
+        Ok(())
     }
 
     /// Compares values that are known before the function runs, or of which nothing is known.

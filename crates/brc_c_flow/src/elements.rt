@@ -9,7 +9,7 @@ use crate::stop::Stop;
 use brc_c_graph::LocalName;
 use brc_c_store::{Event, Local, Source};
 use brc_c_text::{Place, Symbol};
-use brc_c_tree::{Declaration, Expression, ExpressionId};
+use brc_c_tree::{Declaration, Expression, ExpressionId, Unary};
 use std::alloc::AllocError;
 
 /// An element of a variable.
@@ -102,8 +102,16 @@ impl<'a> Builder<'a> {
     pub(crate) fn element(&self, id: ExpressionId) -> Option<Local> {
         match self.tree.expression(self.without_casts(id))? {
             Expression::Index { array, index } => {
-                self.known_element(self.array_in(array)?, self.constant_in(index)?)
+                let index = self.constant_in(index)?;
+                match self.out_passed(array) {
+                    Some(local) if index == 0 => Some(local),
+                    _ => self.known_element(self.array_in(array)?, index),
+                }
             }
+            Expression::Unary {
+                operator: Unary::Dereference,
+                operand,
+            } => self.out_passed(operand),
             _ => None,
         }
     }

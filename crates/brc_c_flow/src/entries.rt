@@ -78,10 +78,11 @@ impl<'a> Builder<'a> {
 
     /// Returns whether some exits give references back that others steal.
     pub(crate) fn hands_back(&self) -> bool {
-        matches!(self.purpose, Purpose::Verdict(_)) && !self.kept.is_empty()
+        matches!(self.purpose, Purpose::Verdict(_))
+            && (!self.kept.is_empty() || !self.outs.is_empty())
     }
 
-    /// Adds that the caller has those arguments back that an exit doesn't steal.
+    /// Adds that the caller has those arguments back that an exit doesn't steal, and what is where arguments point to.
     pub(crate) fn return_arguments(&mut self, fails: bool, place: Place) -> Result<(), Stop> {
         for at in 0..self.kept.len() {
             if let Some(local) = self.callers(at, fails) {
@@ -89,7 +90,7 @@ impl<'a> Builder<'a> {
                 self.emit(Event::HandOver(local), place, None)?;
             }
         }
-        Ok(())
+        self.return_outs(fails, place)
     }
 
     /// Returns the name of an argument whose reference is the caller's after an exit.

@@ -1,6 +1,6 @@
 use crate::building::Builder;
 use crate::names::Kind;
-use crate::purpose::{ArgumentNames, Purpose, RowFlow};
+use crate::purpose::{ArgumentNames, FieldName, OutNames, Purpose, RowFlow};
 use crate::reasons::Unread;
 use crate::statements::STATEMENT_DEPTH;
 use crate::stop::Stop;
@@ -68,12 +68,42 @@ pub fn row_flow_of<'a>(
         Err(Stop::NoMemory) => return Err(AllocError),
     }
     let arguments = arguments_of(&builder)?;
+    let outs = outs_of(&builder)?;
+    let fields = fields_of(&builder)?;
     Ok(Some(RowFlow {
         graph: builder.graph,
         gives_objects: builder.gives_objects,
         returns: builder.returns,
         arguments,
+        outs,
+        fields,
     }))
+}
+
+/// Returns the parameters that are addresses of variables.
+fn outs_of(builder: &Builder<'_>) -> Result<Vec<OutNames>, AllocError> {
+    let mut outs = Vec::new(builder.alloc);
+    for out in builder.outs.iter() {
+        outs.push(OutNames {
+            argument: out.number,
+            local: out.local,
+            first: out.first,
+            last: out.last,
+        })?;
+    }
+    Ok(outs)
+}
+
+/// Returns the fields that are asked for at the ends.
+fn fields_of(builder: &Builder<'_>) -> Result<Vec<FieldName>, AllocError> {
+    let mut fields = Vec::new(builder.alloc);
+    for asked in builder.asked_fields.iter() {
+        fields.push(FieldName {
+            null: asked.null,
+            local: asked.local,
+        })?;
+    }
+    Ok(fields)
 }
 
 /// Returns the parameters of a graph.
@@ -111,10 +141,13 @@ fn build(builder: &mut Builder<'_>, whole: StatementId) -> Result<(), Stop> {
     builder.find_result()?;
     builder.name_variables()?;
     builder.find_elements()?;
+    builder.find_outs()?;
+    builder.find_asked_fields()?;
     let place = builder.function.place;
     builder.emit(Event::Pass, place, None)?;
     builder.emit(Event::Pass, place, None)?;
     builder.lend_parameters()?;
+    builder.begin_outs()?;
     builder.statement(whole, STATEMENT_DEPTH)?;
     builder.finish()?;
     builder.check_labels()

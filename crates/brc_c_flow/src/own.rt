@@ -18,6 +18,69 @@ pub struct OwnRow {
     pub is_assumed: bool,
     /// The numbers of the arguments of which something is assumed, from 0.
     pub assumed: Vec<usize>,
+    /// What it does where arguments point to.
+    pub outs: Vec<OwnOut>,
+    /// The fields of arguments that are NULL afterwards.
+    pub nulls: Vec<NullField>,
+}
+
+/// The object that a function leaves where an argument points to.
+#[derive(Clone, Copy, Debug, PartialEq, Eq)]
+pub enum LeftObject {
+    None,
+    /// One to which the caller has a reference then.
+    New,
+    /// A borrowed one: from the argument of this number, from 0, or one that is lent for the whole call.
+    Borrowed(Option<usize>),
+    /// Nothing is known of it.
+    Unknown,
+}
+
+/// What an exit of a function leaves where an argument points to.
+#[derive(Clone, Copy, Debug, PartialEq, Eq)]
+pub struct Left {
+    pub object: LeftObject,
+    /// Whether it may be NULL.
+    pub is_null: bool,
+    /// Whether it may be what was there.
+    pub is_same: bool,
+}
+
+/// What a function does where an argument points to.
+#[derive(Clone, Copy, Debug, PartialEq, Eq)]
+pub struct OwnOut {
+    /// The number of the argument, from 0.
+    pub argument: usize,
+    /// Whether the function reads what is there before it stores something.
+    pub is_read: bool,
+    /// Whether it gives the reference up that is there.
+    pub is_replaced: bool,
+    pub success: Left,
+    pub failure: Left,
+}
+
+impl OwnOut {
+    /// Returns whether each success leaves an object in place of what was there.
+    pub(crate) fn is_sure(self) -> bool {
+        let success = self.success;
+        success.object != LeftObject::None
+            && !success.is_null
+            && !success.is_same
+            && !self.is_replaced
+    }
+
+    /// Returns whether nothing is known of an object that the function may leave.
+    pub(crate) fn stores_unknown(self) -> bool {
+        self.success.object == LeftObject::Unknown || self.failure.object == LeftObject::Unknown
+    }
+}
+
+/// A field of an argument.
+#[derive(Clone, Copy, Debug, PartialEq, Eq)]
+pub struct NullField {
+    /// The number of the argument, from 0.
+    pub argument: usize,
+    pub field: Symbol,
 }
 
 impl OwnRow {
@@ -27,6 +90,16 @@ impl OwnRow {
             self.row.gives,
             Gives::Item { .. } | Gives::Part { .. } | Gives::Lent | Gives::Same { .. }
         )
+    }
+
+    /// Returns what the function does where an argument points to, if that is known.
+    pub(crate) fn out(&self, argument: usize) -> Option<OwnOut> {
+        for out in self.outs.iter() {
+            if out.argument == argument {
+                return Some(*out);
+            }
+        }
+        None
     }
 }
 

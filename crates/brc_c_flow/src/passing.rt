@@ -3,6 +3,7 @@
 use crate::building::Builder;
 use crate::formats::{Item, build_item, parse_item};
 use crate::operand::Want;
+use crate::own::OwnOut;
 use crate::reasons::FlowReason;
 use crate::stop::Stop;
 use brc_c_table::{Row, Takes};
@@ -17,6 +18,8 @@ pub(crate) enum Passing {
     Lent { is_optional: bool },
     /// The same, by a function of which nothing is known.
     Converted,
+    /// Where a function of the program stores objects.
+    Own(OwnOut),
 }
 
 /// Returns how an argument is passed. Of those that nothing is said of there is nothing to say.
@@ -88,6 +91,13 @@ impl<'a> Builder<'a> {
             return Ok(how);
         };
         self.find_passings(callee.row, function, ids, &mut how)?;
+        if let Some(own) = callee.own {
+            for out in own.outs.iter() {
+                if let Some(found) = how.get_mut(out.argument) {
+                    *found = Passing::Own(*out);
+                }
+            }
+        }
         // Another version of the function is called: nothing is known of it.
         if how.len() != ids.len() {
             how.clear();

@@ -1,4 +1,4 @@
-use crate::own::OwnRow;
+use crate::own::{NullField, OwnRow};
 use brc_c_graph::{Graph, NodeId};
 use brc_c_store::{Local, Signs};
 
@@ -42,6 +42,25 @@ pub struct ArgumentNames {
     pub kept: Option<Local>,
 }
 
+/// A parameter that is the address of a variable, in a graph.
+#[derive(Clone, Copy, Debug)]
+pub struct OutNames {
+    /// The number of the parameter, from 0.
+    pub argument: usize,
+    /// The name of the variable.
+    pub local: Local,
+    /// The names that keep what is there at the entry, and have what is there at the ends.
+    pub first: Local,
+    pub last: Local,
+}
+
+/// A field of a parameter, and the name that has what is in the field at the ends.
+#[derive(Clone, Copy, Debug)]
+pub struct FieldName {
+    pub null: NullField,
+    pub local: Local,
+}
+
 /// The graph of a function, and what its row is made of.
 #[derive(Drop)]
 pub struct RowFlow {
@@ -50,4 +69,6 @@ pub struct RowFlow {
     pub returns: Vec<Returned>,
     /// The parameters in their order.
     pub arguments: Vec<ArgumentNames>,
+    pub outs: Vec<OutNames>,
+    pub fields: Vec<FieldName>,
 }

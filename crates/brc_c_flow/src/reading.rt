@@ -62,7 +62,8 @@ impl<'a> Builder<'a> {
             return match (variable.kind, variable.local) {
                 (Kind::Object, Some(local)) => Ok(Operand::Object(local)),
                 (Kind::Static, _) => self.kept(id, symbol, want),
-                (Kind::Array | Kind::Objects, _) => Ok(Operand::Plain),
+                (Kind::Array, _) => Ok(Operand::Plain),
+                (Kind::Objects, _) => Ok(self.out_pointer(symbol)),
                 _ if want.is_object => self.unknown(id, want),
                 (_, Some(local)) => Ok(Operand::Counted(local)),
                 (_, None) => Ok(Operand::Plain),

@@ -4,6 +4,7 @@ use crate::arguments::container_of;
 use crate::assumed::ASSUMED;
 use crate::building::Builder;
 use crate::callee::Callee;
+use crate::leaving::left_by;
 use crate::operand::{Operand, Site, Want};
 use crate::passing::{Passing, passed};
 use crate::stop::Stop;
@@ -96,6 +97,11 @@ impl<'a> Builder<'a> {
                     self.lend(to, container, true, site)?;
                     self.at_site(Event::Assume(to), site)?;
                 }
+                (Passing::Own(out), Operand::Address(local)) => {
+                    if outcome.into != Some(local) {
+                        self.leave_at(out, out.success, local, operands, site)?;
+                    }
+                }
                 (Passing::Table(takes), _) => {
                     self.succeed_with(takes, *operand, container, outcome, site)?;
                 }
@@ -179,6 +185,9 @@ impl<'a> Builder<'a> {
                 (Passing::Table(Takes::NoObject), Operand::Address(local)) if outcome.is_own => {
                     self.copy(local, Source::Null, site.place)?;
                 }
+                (Passing::Own(out), Operand::Address(local)) => {
+                    self.leave_at(out, out.failure, local, operands, site)?;
+                }
                 _ => {}
             }
         }
@@ -229,7 +238,7 @@ impl<'a> Builder<'a> {
     }
 
     /// Stores an object where an argument points to.
-    fn store_out(&mut self, gives: Gives, local: Local, site: Site) -> Result<(), Stop> {
+    pub(crate) fn store_out(&mut self, gives: Gives, local: Local, site: Site) -> Result<(), Stop> {
         let event = Event::Call {
             gives,
             into: Some(local),
@@ -278,7 +287,7 @@ fn is_borrowed(gives: Gives) -> bool {
     matches!(gives, Gives::Item(_) | Gives::Part(_) | Gives::Lent)
 }
 
-/// The first reference that a call stores is what it gives, if it gives nothing else.
+/// The first object that a call stores is what it gives, if it gives nothing else.
 fn give_first_out(fails: Fails, operands: &[Operand], how: &[Passing], outcome: &mut Outcome) {
     for (at, operand) in operands.iter().enumerate() {
         let Operand::Address(local) = *operand else {
@@ -291,6 +300,13 @@ fn give_first_out(fails: Fails, operands: &[Operand], how: &[Passing], outcome: 
                 outcome.calling = Calling::MayFail;
             }
             Passing::Table(Takes::Out) => {}
+            Passing::Own(out) if out.is_sure() => {
+                if let Some(gives) = left_by(out.success.object, operands) {
+                    outcome.gives = gives;
+                    outcome.into = Some(local);
+                }
+                return;
+            }
             _ => continue,
         }
         outcome.gives = MADE;

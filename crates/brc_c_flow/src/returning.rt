@@ -61,6 +61,7 @@ impl<'a> Builder<'a> {
         place: Place,
     ) -> Result<(), Stop> {
         let Some(id) = value else {
+            self.return_arguments(false, place)?;
             return self.end_call(Event::ReturnPlain, ReturnedValue::Nothing, place);
         };
         if !self.gives_objects {
@@ -150,7 +151,10 @@ impl<'a> Builder<'a> {
                 self.return_arguments(signs.that(test, false).is_empty(), place)?;
                 self.end_call(Event::ReturnPlain, value, place)
             }
-            _ => self.end_call(Event::ReturnPlain, value, place),
+            _ => {
+                self.return_arguments(false, place)?;
+                self.end_call(Event::ReturnPlain, value, place)
+            }
         }
     }
 
@@ -162,6 +166,7 @@ impl<'a> Builder<'a> {
         let comparison = match own.row.fails {
             Fails::Negative => Comparison::Less,
             Fails::Zero => Comparison::Equal,
+            Fails::Missing => Comparison::LessEqual,
             _ => return None,
         };
         Some(Test {
@@ -200,6 +205,7 @@ impl<'a> Builder<'a> {
         value: ReturnedValue,
         place: Place,
     ) -> Result<(), Stop> {
+        self.ask_at_end(place)?;
         self.hand_back(false, place)?;
         let node = self.emit(event, place, None)?;
         self.open = None;
@@ -213,6 +219,13 @@ impl<'a> Builder<'a> {
         for kept in self.kept.iter() {
             self.graph.keep_at(node, kept.local)?;
         }
+        for out in self.outs.iter() {
+            self.graph.keep_at(node, out.first)?;
+            self.graph.keep_at(node, out.last)?;
+        }
+        for asked in self.asked_fields.iter() {
+            self.graph.keep_at(node, asked.local)?;
+        }
         Ok(())
     }
 
@@ -222,6 +235,7 @@ impl<'a> Builder<'a> {
         if self.gives_objects {
             self.end(Event::End, place)
         } else {
+            self.return_arguments(false, place)?;
             self.end_call(Event::ReturnPlain, ReturnedValue::Number(Signs::ALL), place)
         }
     }

@@ -33,3 +33,4 @@ mod writing;
 pub use arrivals::{Arrival, arrivals_of};
 pub use image::{Fault, Image, Size, Text, image_of};
 pub use path::Step;
+pub use reading::{name_assigned, names_read};

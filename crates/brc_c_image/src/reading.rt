@@ -3,7 +3,7 @@
 use brc_c_store::{Event, Fact, Field, Gives, Local, Source};
 
 /// Returns the names whose values an event reads.
-pub(crate) fn names_read(event: Event) -> [Option<Local>; 2] {
+pub fn names_read(event: Event) -> [Option<Local>; 2] {
     match event {
         Event::Pass
         | Event::Choice(_)
@@ -53,7 +53,7 @@ pub(crate) fn names_read(event: Event) -> [Option<Local>; 2] {
 }
 
 /// Returns the name that an event assigns on the way `Yes`, whatever it had before.
-pub(crate) fn name_assigned(event: Event) -> Option<Local> {
+pub fn name_assigned(event: Event) -> Option<Local> {
     match event {
         Event::Copy { to, .. } | Event::Read { to, .. } => Some(to),
         Event::Lend {

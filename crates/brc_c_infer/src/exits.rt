@@ -1,7 +1,9 @@
 //! Into which exits the returns of a function fall, and which arguments each exit steals: what most returns do.
 
 use crate::records::{Fate, Record};
-use brc_c_flow::RowFlow;
+use crate::outs::vote_on_out;
+use crate::sites::Sites;
+use brc_c_flow::{OwnOut, RowFlow};
 use brc_c_store::Signs;
 use brc_c_table::Takes;
 use std::alloc::{AllocError, Global};
@@ -16,6 +18,8 @@ pub(crate) enum Split {
     Negative,
     /// 0 is a failure.
     Zero,
+    /// 0 says that nothing is found, and -1 and below are failures.
+    Missing,
 }
 
 impl Split {
@@ -28,6 +32,7 @@ impl Split {
                 !returned.signs.is_empty() && !returned.signs.zero && !returned.signs.above
             }
             Split::Zero => returned.signs == Signs::ZERO,
+            Split::Missing => !returned.signs.is_empty() && !returned.signs.above,
         }
     }
 }
@@ -45,6 +50,7 @@ struct Vote {
 pub(crate) struct Exits {
     pub(crate) split: Split,
     pub(crate) takes: Vec<Takes>,
+    pub(crate) outs: Vec<OwnOut>,
     /// How many returns differ from what their exit does.
     cost: usize,
 }
@@ -75,6 +81,7 @@ fn exits_by(
     let mut exits = Exits {
         split,
         takes: Vec::new(alloc),
+        outs: Vec::new(alloc),
         cost: 0,
     };
     let has_failure = records.iter().any(|record| split.fails(record));
@@ -94,6 +101,11 @@ fn exits_by(
         if split != Split::One {
             exits.cost = exits.cost.saturating_add(failure.others);
         }
+    }
+    for (number, names) in flow.outs.iter().enumerate() {
+        let vote = vote_on_out(alloc, flow, records, split, number, *names)?;
+        exits.outs.push(vote.out)?;
+        exits.cost = exits.cost.saturating_add(vote.cost);
     }
     Ok(exits)
 }
@@ -116,45 +128,29 @@ fn vote_on(
     fails: bool,
     number: usize,
 ) -> Result<Vote, AllocError> {
-    let mut given = Vec::new(alloc);
-    let mut left = Vec::new(alloc);
-    for _ in flow.returns.iter() {
-        given.push(false)?;
-        left.push(false)?;
-    }
+    let mut given = Sites::new(alloc, flow)?;
+    let mut left = Sites::new(alloc, flow)?;
     for record in records {
         if split.fails(record) == fails {
             match record.fates.get(number) {
-                Some(Fate::GivenUp) => mark(&mut given, record.site),
-                Some(Fate::Left) => mark(&mut left, record.site),
+                Some(Fate::GivenUp) => given.mark(record.site),
+                Some(Fate::Left) => left.mark(record.site),
                 _ => {}
             }
         }
     }
-    Ok(majority(given.as_slice(), left.as_slice()))
+    Ok(majority(&given, &left))
 }
 
-/// Returns what most returns do: for each of them these are whether a path gives the argument up, and leaves it.
-fn majority(given: &[bool], left: &[bool]) -> Vote {
-    let given_count = count(given);
-    let only_left = given
-        .iter()
-        .zip(left.iter())
-        .filter(|(given, left)| **left && !**given)
-        .count();
-    let is_stolen = given_count > count(left);
+/// Returns what most returns do: on some paths of these the argument is given up, and on some of those it is left.
+fn majority(given: &Sites, left: &Sites) -> Vote {
+    let is_stolen = given.count() > left.count();
     Vote {
         is_stolen,
-        others: if is_stolen { only_left } else { given_count },
+        others: if is_stolen {
+            left.count_beside(given)
+        } else {
+            given.count()
+        },
     }
-}
-
-fn mark(sites: &mut Vec<bool>, site: usize) {
-    if let Some(found) = sites.get_mut(site) {
-        *found = true;
-    }
-}
-
-fn count(sites: &[bool]) -> usize {
-    sites.iter().filter(|site| **site).count()
 }

@@ -13,11 +13,13 @@ mod inferring;
 mod names;
 mod numbering;
 mod order;
+mod outs;
 mod own;
 mod records;
 mod results;
 mod rows;
 mod rule;
+mod sites;
 mod tracing;
 mod uses;
 

@@ -36,6 +36,27 @@ pub(crate) enum Fate {
     Null,
 }
 
+/// What a path leaves where an argument points to.
+#[derive(Clone, Copy, Debug, PartialEq, Eq)]
+pub(crate) enum OutRecord {
+    /// No object that counts: NULL, or one that everybody knows by name.
+    Nothing,
+    /// What was there.
+    Same,
+    New,
+    Borrowed,
+    Unknown,
+}
+
+/// What a path has done where an argument points to.
+#[derive(Clone, Copy, Debug)]
+pub(crate) struct OutState {
+    /// What became of the reference that was there.
+    pub(crate) before: Fate,
+    pub(crate) after: OutRecord,
+    pub(crate) may_be_null: bool,
+}
+
 /// A return in a store.
 #[derive(Debug, Drop)]
 pub(crate) struct Record {
@@ -48,6 +69,10 @@ pub(crate) struct Record {
     pub(crate) kind: Kind,
     /// What became of each argument.
     pub(crate) fates: Vec<Fate>,
+    /// What became of what arguments point to.
+    pub(crate) outs: Vec<OutState>,
+    /// Of each field that the graph asks for, whether it is NULL.
+    pub(crate) nulls: Vec<bool>,
 }
 
 /// Returns what is known at the returns of a function.
@@ -60,8 +85,17 @@ pub(crate) fn records_of(
     for arrival in arrivals {
         for (site, returned) in flow.returns.iter().enumerate() {
             if returned.node == arrival.node {
-                let fates = fates_in(alloc, flow, &arrival.store)?;
-                if let Some(record) = record_of(flow, site, *returned, &arrival.store, fates) {
+                let mut record = Record {
+                    site,
+                    is_null: false,
+                    may_be_null: false,
+                    signs: Signs::ALL,
+                    kind: Kind::Nothing,
+                    fates: fates_in(alloc, flow, &arrival.store)?,
+                    outs: outs_in(alloc, flow, &arrival.store)?,
+                    nulls: nulls_in(alloc, flow, &arrival.store)?,
+                };
+                if fill(&mut record, flow, *returned, &arrival.store) {
                     records.push(record)?;
                 }
             }
@@ -112,22 +146,8 @@ fn fate_of(value: Value) -> Fate {
     }
 }
 
-/// Returns what a return says, unless it returns a name that has nothing.
-fn record_of(
-    flow: &RowFlow,
-    site: usize,
-    returned: Returned,
-    store: &Store,
-    fates: Vec<Fate>,
-) -> Option<Record> {
-    let mut record = Record {
-        site,
-        is_null: false,
-        may_be_null: false,
-        signs: Signs::ALL,
-        kind: Kind::Nothing,
-        fates,
-    };
+/// Notes what a return says. Returns whether it says something: it doesn't if it returns a name that has nothing.
+fn fill(record: &mut Record, flow: &RowFlow, returned: Returned, store: &Store) -> bool {
     match returned.value {
         ReturnedValue::Nothing => {}
         ReturnedValue::Null => record.is_null = true,
@@ -135,7 +155,7 @@ fn record_of(
         ReturnedValue::Number(signs) => record.signs = signs,
         ReturnedValue::Counted(local) => record.signs = signs_of(store.value(local)),
         ReturnedValue::Object(local) => match store.value(local) {
-            Value::Unset | Value::Number(_) => return None,
+            Value::Unset | Value::Number(_) => return false,
             Value::Null => record.is_null = true,
             Value::Object(id) => record.kind = kind_of(flow, store, local, id),
             Value::Maybe(id) => {
@@ -144,7 +164,47 @@ fn record_of(
             }
         },
     }
-    Some(record)
+    true
+}
+
+fn outs_in(alloc: Global, flow: &RowFlow, store: &Store) -> Result<Vec<OutState>, AllocError> {
+    let mut outs = Vec::new(alloc);
+    for names in flow.outs.iter() {
+        let last = store.value(names.last);
+        outs.push(OutState {
+            before: fate_of(store.value(names.first)),
+            after: left_in(store, store.object_of(names.first), last),
+            may_be_null: matches!(last, Value::Null | Value::Maybe(_)),
+        })?;
+    }
+    Ok(outs)
+}
+
+/// Returns what is left where an argument points to, where this object was before.
+fn left_in(store: &Store, before: Option<ObjectId>, last: Value) -> OutRecord {
+    let Some(id) = last.object() else {
+        return OutRecord::Nothing;
+    };
+    let object = store.object(id);
+    if before == Some(id) {
+        OutRecord::Same
+    } else if object.singleton.is_some() || !object.is_alive() {
+        OutRecord::Nothing
+    } else if !object.registers.is_empty() {
+        OutRecord::New
+    } else if object.is_assumed {
+        OutRecord::Unknown
+    } else {
+        OutRecord::Borrowed
+    }
+}
+
+fn nulls_in(alloc: Global, flow: &RowFlow, store: &Store) -> Result<Vec<bool>, AllocError> {
+    let mut nulls = Vec::new(alloc);
+    for field in flow.fields.iter() {
+        nulls.push(store.value(field.local) == Value::Null)?;
+    }
+    Ok(nulls)
 }
 
 fn signs_of(value: Value) -> Signs {

@@ -6,7 +6,7 @@ use crate::records::{Kind, Record};
 use crate::results::{Given, given_by};
 use crate::rule::{name_of, plain_result};
 use crate::tracing::assumed_arguments;
-use brc_c_flow::{OwnRow, RowFlow};
+use brc_c_flow::{NullField, OwnRow, RowFlow};
 use brc_c_graph::Graph;
 use brc_c_store::{Event, Signs};
 use brc_c_table::{Fails, Gives, Row, Takes};
@@ -27,11 +27,12 @@ pub(crate) fn row_from(
         given_by(alloc, flow, records, is_helper)?
     } else {
         Given {
-            gives: plain_result(files, function),
+            gives: plain_given(files, function, records),
             is_assumed: false,
         }
     };
-    let exits = exits_of(alloc, flow, records, splits_of(given.gives))?;
+    let has_outs = !flow.outs.is_empty();
+    let exits = exits_of(alloc, flow, records, splits_of(given.gives, has_outs))?;
     let fails = fails_of(given.gives, &exits, records);
     let seen = seen_signs(records);
     let (success, failure) = signs_by(fails, seen);
@@ -48,12 +49,40 @@ pub(crate) fn row_from(
         failure,
         is_assumed: given.is_assumed,
         assumed: assumed_arguments(alloc, flow)?,
+        outs: exits.outs,
+        nulls: nulls_of(alloc, flow, records)?,
     })
 }
 
+/// Returns what a function gives that gives no object: NULL, if it is a pointer that never is anything else.
+fn plain_given(files: &Files<'_>, function: &Function, records: &[Record]) -> Gives {
+    let gives = plain_result(files, function);
+    if gives == Gives::Other && seen_signs(records) == Signs::ZERO {
+        Gives::Null
+    } else {
+        gives
+    }
+}
+
+/// Returns the fields of arguments that are NULL at each return.
+fn nulls_of(
+    alloc: Global,
+    flow: &RowFlow,
+    records: &[Record],
+) -> Result<Vec<NullField>, AllocError> {
+    let mut nulls = Vec::new(alloc);
+    for (at, field) in flow.fields.iter().enumerate() {
+        if records.iter().all(|record| record.nulls.get(at) == Some(&true)) {
+            nulls.push(field.null)?;
+        }
+    }
+    Ok(nulls)
+}
+
 /// Returns into which exits the returns may fall, beside one exit for all.
-fn splits_of(gives: Gives) -> &'static [Split] {
+fn splits_of(gives: Gives, has_outs: bool) -> &'static [Split] {
     match gives {
+        Gives::Number if has_outs => &[Split::Negative, Split::Zero, Split::Missing],
         Gives::Number => &[Split::Negative, Split::Zero],
         Gives::New | Gives::Item { .. } | Gives::Part { .. } | Gives::Lent | Gives::Same { .. } => {
             &[Split::Null]
@@ -68,6 +97,7 @@ fn fails_of(gives: Gives, exits: &Exits, records: &[Record]) -> Fails {
         Gives::Number => match exits.split {
             Split::Negative => Fails::Negative,
             Split::Zero => Fails::Zero,
+            Split::Missing => Fails::Missing,
             Split::One | Split::Null => Fails::Never,
         },
         Gives::Null | Gives::Other | Gives::Void | Gives::Free => Fails::Never,
@@ -103,6 +133,7 @@ fn signs_by(fails: Fails, seen: Signs) -> (Signs, Signs) {
     match fails {
         Fails::Negative => (some_of(Signs::ZERO_OR_ABOVE, seen), some_of(NEGATIVE, seen)),
         Fails::Zero => (some_of(NOT_ZERO, seen), Signs::ZERO),
+        Fails::Missing => (some_of(Signs::ABOVE, seen), some_of(NEGATIVE, seen)),
         _ => (some_of(Signs::ALL, seen), Signs::ALL),
     }
 }
@@ -189,6 +220,8 @@ pub(crate) fn are_same(one: &Option<OwnRow>, other: &Option<OwnRow>) -> bool {
                 && one.failure == other.failure
                 && one.is_assumed == other.is_assumed
                 && one.assumed.as_slice() == other.assumed.as_slice()
+                && one.outs.as_slice() == other.outs.as_slice()
+                && one.nulls.as_slice() == other.nulls.as_slice()
         }
         (None, None) => true,
         _ => false,

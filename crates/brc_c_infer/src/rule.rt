@@ -36,6 +36,8 @@ pub(crate) fn row_by_rule(
         failure: Signs::ALL,
         is_assumed: gives == Gives::New,
         assumed: Vec::new(files.alloc),
+        outs: Vec::new(files.alloc),
+        nulls: Vec::new(files.alloc),
     })
 }
 

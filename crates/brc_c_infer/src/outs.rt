@@ -1,0 +1,228 @@
+//! What a function leaves where its arguments point to: what most returns do.
+
+use crate::exits::Split;
+use crate::records::{Fate, OutRecord, Record};
+use crate::sites::Sites;
+use crate::tracing::container_of;
+use brc_c_flow::{Left, LeftObject, OutNames, OwnOut, RowFlow};
+use brc_c_image::{name_assigned, names_read};
+use brc_c_graph::{Graph, Node, NodeId};
+use brc_c_store::{Event, Local, Source};
+use std::alloc::{AllocError, Global};
+
+/// What an exit leaves, and how many returns differ from that.
+#[derive(Clone, Copy, Debug)]
+struct Vote {
+    left: Left,
+    others: usize,
+    /// How many returns leave NULL or what was there, where others leave an object.
+    doubts: usize,
+}
+
+impl Vote {
+    /// A split into exits is worth more that leaves no doubt than one from which no return differs.
+    fn cost(self) -> usize {
+        self.others.saturating_add(self.doubts.saturating_mul(2))
+    }
+}
+
+/// What a function does where an argument points to, and how far the returns differ from that.
+#[derive(Clone, Copy, Debug)]
+pub(crate) struct OutVote {
+    pub(crate) out: OwnOut,
+    pub(crate) cost: usize,
+}
+
+/// The returns of an exit that leave an object of each sort, and how many they are.
+#[derive(Clone, Copy, Debug)]
+struct Counts {
+    new: usize,
+    borrowed: usize,
+    unknown: usize,
+    null: usize,
+    same: usize,
+}
+
+/// Returns what a function does where an argument points to.
+pub(crate) fn vote_on_out(
+    alloc: Global,
+    flow: &RowFlow,
+    records: &[Record],
+    split: Split,
+    number: usize,
+    names: OutNames,
+) -> Result<OutVote, AllocError> {
+    let is_replaced = records.iter().any(|record| match record.outs.get(number) {
+        Some(out) => out.before == Fate::GivenUp,
+        None => false,
+    });
+    let from = container_of(alloc, flow, names.local)?;
+    let has_failure = records.iter().any(|record| split.fails(record));
+    let counts = counts_of(alloc, flow, records, split, false, number)?;
+    let success = vote(&counts, from, true);
+    let mut failure = Vote {
+        others: 0,
+        doubts: 0,
+        ..success
+    };
+    if has_failure {
+        let failing = counts_of(alloc, flow, records, split, true, number)?;
+        failure = vote(&failing, from, is_replaced);
+        // What is stored by failures only is nobody's idea of a failure.
+        if counts.new == 0 && failing.new > 0 {
+            failure.others = failure.others.saturating_add(flow.returns.len());
+        }
+    }
+    Ok(OutVote {
+        out: OwnOut {
+            argument: names.argument,
+            is_read: is_read(alloc, &flow.graph, names)?,
+            is_replaced,
+            success: success.left,
+            failure: failure.left,
+        },
+        cost: success.cost().saturating_add(failure.cost()),
+    })
+}
+
+/// Counts each return of an exit once for each sort of object that it leaves.
+fn counts_of(
+    alloc: Global,
+    flow: &RowFlow,
+    records: &[Record],
+    split: Split,
+    fails: bool,
+    number: usize,
+) -> Result<Counts, AllocError> {
+    let mut new = Sites::new(alloc, flow)?;
+    let mut borrowed = Sites::new(alloc, flow)?;
+    let mut unknown = Sites::new(alloc, flow)?;
+    let mut null = Sites::new(alloc, flow)?;
+    let mut same = Sites::new(alloc, flow)?;
+    for record in records {
+        if split.fails(record) == fails {
+            if let Some(out) = record.outs.get(number) {
+                match out.after {
+                    OutRecord::New => new.mark(record.site),
+                    OutRecord::Borrowed => borrowed.mark(record.site),
+                    OutRecord::Unknown => unknown.mark(record.site),
+                    OutRecord::Same => same.mark(record.site),
+                    OutRecord::Nothing => {}
+                }
+                if out.may_be_null {
+                    null.mark(record.site);
+                }
+            }
+        }
+    }
+    Ok(Counts {
+        new: new.count(),
+        borrowed: borrowed.count(),
+        unknown: unknown.count(),
+        null: null.count(),
+        same: same.count(),
+    })
+}
+
+/// Returns what an exit leaves. Of a success some return may leave nothing, as where nothing is found; of a failure most
+/// returns have to leave an object.
+fn vote(counts: &Counts, from: Option<usize>, is_any: bool) -> Vote {
+    let none = counts.null.saturating_add(counts.same);
+    let is_new = counts.new > 0
+        && counts.new >= counts.borrowed
+        && (is_any || counts.new > none.saturating_add(counts.borrowed));
+    let object = if is_new {
+        LeftObject::New
+    } else if counts.borrowed > 0 {
+        LeftObject::Borrowed(from)
+    } else if counts.unknown > 0 {
+        LeftObject::Unknown
+    } else {
+        LeftObject::None
+    };
+    Vote {
+        left: Left {
+            object,
+            is_null: counts.null > 0,
+            is_same: counts.same > 0,
+        },
+        others: if is_new { counts.borrowed } else { counts.new },
+        doubts: if object == LeftObject::None {
+            0
+        } else {
+            none
+        },
+    }
+}
+
+/// Returns whether a path reads what is there at the entry.
+fn is_read(alloc: Global, graph: &Graph, names: OutNames) -> Result<bool, AllocError> {
+    let mut seen = Vec::new(alloc);
+    for _ in graph.nodes() {
+        seen.push(false)?;
+    }
+    let mut open = Vec::new(alloc);
+    if let Some(first) = first_node(graph, names) {
+        open.push(first)?;
+    }
+    for _turn in 0..graph.nodes().len() {
+        let Some(id) = open.pop() else {
+            break;
+        };
+        let Some(node) = graph.node(id) else {
+            continue;
+        };
+        if reads(&node, names) {
+            return Ok(true);
+        }
+        if name_assigned(node.event) != Some(names.local) {
+            for way in [node.ways.yes, node.ways.no, node.ways.missing] {
+                enter(way, &mut seen, &mut open)?;
+            }
+        }
+    }
+    Ok(false)
+}
+
+fn enter(
+    way: Option<NodeId>,
+    seen: &mut Vec<bool>,
+    open: &mut Vec<NodeId>,
+) -> Result<(), AllocError> {
+    let Some(id) = way else {
+        return Ok(());
+    };
+    if let Some(is_seen) = seen.get_mut(id.0) {
+        if !*is_seen {
+            *is_seen = true;
+            open.push(id)?;
+        }
+    }
+    Ok(())
+}
+
+/// Returns the node behind the one that keeps what is there at the entry.
+fn first_node(graph: &Graph, names: OutNames) -> Option<NodeId> {
+    for node in graph.nodes() {
+        if copied_to(node, names.local) == Some(names.first) {
+            return node.ways.yes;
+        }
+    }
+    None
+}
+
+fn reads(node: &Node, names: OutNames) -> bool {
+    let is_end = copied_to(node, names.local) == Some(names.last);
+    !is_end && names_read(node.event).iter().any(|read| *read == Some(names.local))
+}
+
+/// Returns the name that gets what a name has.
+fn copied_to(node: &Node, local: Local) -> Option<Local> {
+    match node.event {
+        Event::Copy {
+            to,
+            from: Source::Local(from),
+        } if from == local => Some(to),
+        _ => None,
+    }
+}
