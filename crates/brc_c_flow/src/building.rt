@@ -8,6 +8,7 @@ use crate::habits::Habits;
 use crate::names::Variable;
 use crate::nulls::AskedField;
 use crate::outs::OutParameter;
+use crate::orders::KnownOrder;
 use crate::own::OwnFunctions;
 use crate::purpose::{Purpose, Returned};
 use crate::reasons::FlowReason;
@@ -105,6 +106,7 @@ pub(crate) struct Builder<'a> {
     pub(crate) plain_cells: Vec<PlainCell>,
     pub(crate) cells_read: HashMap<usize, Cell>,
     pub(crate) conditions: Vec<KnownCondition>,
+    pub(crate) orders: Vec<KnownOrder>,
     pub(crate) singletons: Vec<KnownSingleton>,
     /// The variables of the blocks that are being read.
     pub(crate) scope: Vec<Symbol>,
@@ -159,6 +161,7 @@ impl<'a> Builder<'a> {
             plain_cells: Vec::new(alloc),
             cells_read: HashMap::new(alloc),
             conditions: Vec::new(alloc),
+            orders: Vec::new(alloc),
             singletons: Vec::new(alloc),
             scope: Vec::new(alloc),
             labels: HashMap::new(alloc),

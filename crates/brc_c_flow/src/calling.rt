@@ -9,8 +9,8 @@ use crate::results::Outcome;
 use crate::stop::Stop;
 use brc_c_graph::NodeId;
 use brc_c_store::{Calling, Choice, Event, Signs};
-use brc_c_table::{Gives, Takes};
-use brc_c_tree::ExpressionId;
+use brc_c_table::{Fails, Gives, Takes};
+use brc_c_tree::{Expression, ExpressionId};
 
 impl<'a> Builder<'a> {
     /// Adds a call of a function of which something is known, and returns what it gives.
@@ -49,6 +49,12 @@ impl<'a> Builder<'a> {
         if row.gives == Gives::Free {
             return self.free(operands, site);
         }
+        let exact = self.exact_passings(how)?;
+        let how = if want.is_asked && row.fails != Fails::Never {
+            exact.as_slice()
+        } else {
+            how
+        };
         let failing = self.pass_arguments(how, ids, operands, site)?;
         self.assume_arguments(callee, operands, how, site)?;
         self.run(callee, site)?;
@@ -59,6 +65,10 @@ impl<'a> Builder<'a> {
         }
         let outcome = self.outcome_of(callee, operands, how, want)?;
         self.ways(callee, operands, how, &outcome, failing, site)?;
+        if self.gives_memory(site.id) {
+            // It is a pointer, and not NULL.
+            return Ok(Operand::Number(1));
+        }
         Ok(outcome.value)
     }
 
@@ -108,13 +118,23 @@ impl<'a> Builder<'a> {
     /// Adds that other code runs in a call, or that a container changes. A function of the program may set anything.
     fn run(&mut self, callee: Callee<'a>, site: Site) -> Result<(), Stop> {
         let row = callee.row;
-        if row.runs || callee.own.is_some() {
+        if row.runs || (callee.own.is_some() && !self.is_idle(site.id)) {
             self.forget_memory(site.place)?;
         }
         if row.runs || sets_items(row.name.as_slice()) {
             self.at_site(Event::EndItems, site)?;
         }
         Ok(())
+    }
+
+    /// Returns whether what is called sets nothing but variables of its own.
+    fn is_idle(&self, call: ExpressionId) -> bool {
+        match self.tree.expression(call) {
+            Some(Expression::Call { function, .. }) => {
+                self.usage.is_idle(self.last_name(function))
+            }
+            _ => false,
+        }
     }
 
     /// Adds that something is assumed of arguments by the function that is called, or of what it stores there.

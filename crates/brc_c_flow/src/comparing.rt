@@ -29,7 +29,7 @@ impl<'a> Builder<'a> {
             }
             (Operand::Null | Operand::Number(_), Operand::Counted(of)) => {
                 let test = Test {
-                    comparison: mirrored(comparison),
+                    comparison: comparison.mirrored(),
                     constant: constant_of(left),
                 };
                 self.ask_sign(id, of, test, branches)
@@ -59,7 +59,8 @@ impl<'a> Builder<'a> {
         }
     }
 
-    /// A variable has a singleton exactly if the function has assigned it, if it assigns it anywhere.
+    /// A variable has a singleton exactly if the function has assigned it, if it assigns it anywhere. Otherwise it may
+    /// be one, but NULL is none.
     fn compare_singleton(
         &mut self,
         id: ExpressionId,
@@ -68,17 +69,44 @@ impl<'a> Builder<'a> {
         singleton: Singleton,
         branches: Branches,
     ) -> Result<(), Stop> {
-        if !self.is_singled(local, singleton) {
-            return self.ask_words(id, None, branches);
-        }
         let branches = match comparison {
             Comparison::Equal => branches,
             Comparison::NotEqual => branches.swapped(),
             _ => return self.ask_words(id, None, branches),
         };
         let words = self.words_of(id)?;
-        let event = Event::Is { local, singleton };
-        self.ask(event, self.place_of(id), Some(words), branches)
+        let place = self.place_of(id);
+        if self.is_singled(local, singleton) {
+            return self.ask(Event::Is { local, singleton }, place, Some(words), branches);
+        }
+        let found = self.meeting(place)?;
+        self.ask_singleton(
+            id,
+            comparison,
+            Branches {
+                holds: found,
+                ..branches
+            },
+        )?;
+        self.land(found);
+        self.emit(Event::Become { local, singleton }, place, None)?;
+        self.jump(branches.holds);
+        Ok(())
+    }
+
+    /// Asks for a singleton: the words of the condition may be those of the negation.
+    fn ask_singleton(
+        &mut self,
+        id: ExpressionId,
+        comparison: Comparison,
+        branches: Branches,
+    ) -> Result<(), Stop> {
+        let fact = self.fact_of(id)?;
+        if comparison == Comparison::NotEqual {
+            self.ask_words(id, fact, branches.swapped())
+        } else {
+            self.ask_words(id, fact, branches)
+        }
     }
 
     /// An address isn't NULL.
@@ -115,7 +143,12 @@ impl<'a> Builder<'a> {
                 });
                 Ok(())
             }
-            _ => self.ask_freely(id, branches),
+            _ => {
+                if self.ask_order(id, comparison, branches)? {
+                    return Ok(());
+                }
+                self.ask_freely(id, branches)
+            }
         }
     }
 }
@@ -143,17 +176,6 @@ fn compares(comparison: Comparison, left: i64, right: i64) -> bool {
         Comparison::LessEqual => left <= right,
         Comparison::Greater => left > right,
         Comparison::GreaterEqual => left >= right,
-    }
-}
-
-/// Returns the comparison that holds for the sides exchanged.
-fn mirrored(comparison: Comparison) -> Comparison {
-    match comparison {
-        Comparison::Less => Comparison::Greater,
-        Comparison::LessEqual => Comparison::GreaterEqual,
-        Comparison::Greater => Comparison::Less,
-        Comparison::GreaterEqual => Comparison::LessEqual,
-        Comparison::Equal | Comparison::NotEqual => comparison,
     }
 }
 

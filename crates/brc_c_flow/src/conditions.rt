@@ -3,10 +3,13 @@
 use crate::building::{Branches, Builder};
 use crate::calls::is_expectation;
 use crate::facts::is_comparison;
+use crate::names::Kind;
 use crate::operand::{Operand, Want};
 use crate::reasons::FlowReason;
 use crate::stop::Stop;
-use brc_c_store::{Comparison, Event, Fact, Local, Test};
+use brc_c_graph::NodeId;
+use brc_c_store::{Choice, Comparison, Event, Fact, Local, Test};
+use brc_c_table::{Fails, Gives, Takes};
 use brc_c_tree::{Binary, Expression, ExpressionId, Unary};
 
 impl<'a> Builder<'a> {
@@ -82,8 +85,54 @@ impl<'a> Builder<'a> {
             }
             _ => {
                 let value = self.value(id, Want::ASKED, inside)?;
-                self.ask_value(id, value, branches)
+                if self.is_known_kind(id) {
+                    self.jump(branches.holds);
+                    return Ok(());
+                }
+                let holds = self.unless_null_asked(id, branches.holds)?;
+                self.ask_value(id, value, Branches { holds, ..branches })
             }
+        }
+    }
+
+    /// A question that NULL fails: where it holds, its argument isn't NULL. Returns where paths go on then.
+    fn unless_null_asked(&mut self, id: ExpressionId, holds: NodeId) -> Result<NodeId, Stop> {
+        let Some(local) = self.asked_or_null(id) else {
+            return Ok(holds);
+        };
+        let open = self.open;
+        let place = self.place_of(id);
+        let found = self.meeting(place)?;
+        self.resume(found, Choice::Yes);
+        let node = self.emit(Event::Null(local), place, None)?;
+        self.resume(node, Choice::No);
+        self.jump(holds);
+        self.open = open;
+        Ok(found)
+    }
+
+    /// Returns the variable that is the argument of a question which NULL fails, as `PyNumber_Check`.
+    fn asked_or_null(&self, call: ExpressionId) -> Option<Local> {
+        let Some(
+            Expression::Call {
+                function,
+                arguments,
+            },
+        ) = self.tree.expression(call)
+        else {
+            return None;
+        };
+        let row = self.callee_of(function)?.row;
+        if row.gives != Gives::Number || row.fails != Fails::Never {
+            return None;
+        }
+        if row.takes.as_slice() != [Takes::BorrowedOrNull].as_slice() {
+            return None;
+        }
+        let name = self.name_in(*self.tree.operands(arguments).first()?)?;
+        match self.variable(name) {
+            Some(variable) if variable.kind == Kind::Object => variable.local,
+            _ => None,
         }
     }
 

@@ -1,5 +1,7 @@
 //! The values of constants, and the objects that everybody knows by name.
 
+use brc_c_tree::Binary;
+
 /// Returns the value of a number, or `None` if it isn't an integer of 63 bits.
 pub(crate) fn integer(text: &[u8]) -> Option<i64> {
     let (digits, base) = match text {
@@ -36,6 +38,20 @@ pub(crate) fn character(text: &[u8]) -> Option<i64> {
     match text {
         [b'\'', byte, b'\''] => Some(i64::from(*byte)),
         [b'\'', b'\\', b'0', b'\''] => Some(0),
+        _ => None,
+    }
+}
+
+/// Returns the value of two numbers with an operator between them, or `None` if it isn't one of bits or of sums.
+pub(crate) fn folded(operator: Binary, left: i64, right: i64) -> Option<i64> {
+    match operator {
+        Binary::BitOr => Some(left | right),
+        Binary::BitXor => Some(left ^ right),
+        Binary::BitAnd => Some(left & right),
+        Binary::Add => left.checked_add(right),
+        Binary::Subtract => left.checked_sub(right),
+        Binary::Multiply => left.checked_mul(right),
+        Binary::ShiftLeft if 0 <= right && right < 32 => left.checked_mul(1i64 << right),
         _ => None,
     }
 }

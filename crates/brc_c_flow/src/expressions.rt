@@ -147,6 +147,10 @@ impl<'a> Builder<'a> {
                 Some(number) => Ok(Operand::Number(number)),
                 None => Ok(Operand::Plain),
             },
+            Expression::Binary { .. } => match self.constant_in(id) {
+                Some(number) => Ok(Operand::Number(number)),
+                None => Ok(Operand::Plain),
+            },
             Expression::Unary {
                 operator: Unary::Address,
                 ..

@@ -1,12 +1,13 @@
 //! Conditions: which variables they ask for, and which of them are asked twice in the same words.
 
 use crate::building::Builder;
-use crate::constants::is_identifier_byte;
+use crate::constants::{is_identifier_byte, is_plain_singleton};
 use crate::names::Kind;
 use crate::passing::{letter, may_be_null};
 use crate::references::Counting;
 use crate::stop::Stop;
 use brc_c_store::{Event, Fact, Field};
+use brc_c_table::Fails;
 use brc_c_text::{Place, Symbol};
 use brc_c_tree::{Binary, Expression, ExpressionId, List, Statement, Unary};
 use std::alloc::AllocError;
@@ -129,9 +130,10 @@ impl<'a> Builder<'a> {
             None => false,
         };
         let tables = self.tables;
+        // A call that can't fail for NULL doesn't show that somebody thought of it.
         let takes = match tables.row(name) {
-            Some(row) => row.takes.as_slice(),
-            None => &[],
+            Some(row) if row.fails != Fails::Never => row.takes.as_slice(),
+            _ => &[],
         };
         let tree = self.tree;
         for (at, argument) in tree.operands(arguments).iter().enumerate() {
@@ -145,7 +147,7 @@ impl<'a> Builder<'a> {
     /// Notes a condition's words.
     fn find_condition(&mut self, id: ExpressionId) -> Result<(), AllocError> {
         let id = self.without_casts(id);
-        if !self.is_free(id) {
+        if !self.is_free(id) || self.find_order(id)? {
             return Ok(());
         }
         let text = self.text_of(id)?;
@@ -182,7 +184,8 @@ impl<'a> Builder<'a> {
                 }
                 let is_counted = (self.is_counted(left) && self.is_constant(right))
                     || (self.is_counted(right) && self.is_constant(left));
-                !is_counted && !self.is_object(left) && !self.is_object(right)
+                let asks_singleton = self.is_singleton(left) || self.is_singleton(right);
+                asks_singleton || (!is_counted && !self.is_object(left) && !self.is_object(right))
             }
             Some(
                 Expression::Unary {
@@ -204,6 +207,13 @@ impl<'a> Builder<'a> {
 
     fn is_constant(&self, id: ExpressionId) -> bool {
         self.constant_in(id).is_some()
+    }
+
+    fn is_singleton(&self, id: ExpressionId) -> bool {
+        match self.name_in(id) {
+            Some(name) => is_plain_singleton(self.symbols.text(name)),
+            None => false,
+        }
     }
 
     /// Returns what is known of a condition by its words.
@@ -228,6 +238,7 @@ impl<'a> Builder<'a> {
                 self.emit(Event::Forget(Fact(at)), place, None)?;
             }
         }
+        self.forget_orders(name, place)?;
         self.drop_plain_cells(name, place)?;
         self.lend_anew(name, place)
     }
@@ -272,6 +283,7 @@ impl<'a> Builder<'a> {
                 self.emit(Event::Forget(Fact(at)), place, None)?;
             }
         }
+        self.forget_orders_in_memory(place)?;
         self.hand_back(true, place)
     }
 }

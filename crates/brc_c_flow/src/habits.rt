@@ -142,7 +142,7 @@ impl<'a> Builder<'a> {
         Owes {
             old: owns && !self.habits.is_making,
             alive: owns && !self.habits.is_ending,
-            owned: owns,
+            owned: owns && !self.habits.is_deallocator,
             section: owns && self.habits.is_shared && self.set_fields.contains(&name),
             is_assumed: false,
         }

@@ -24,7 +24,7 @@ impl Operand {
     pub(crate) fn signs(self) -> Signs {
         match self {
             Operand::Null => Signs::ZERO,
-            Operand::Number(number) => Signs::of(number),
+            Operand::Number(number) => Signs::exactly(number),
             Operand::Singleton(_) | Operand::Address(_) => Signs::ABOVE,
             Operand::Plain | Operand::Object(_) | Operand::Counted(_) => Signs::ALL,
         }

@@ -20,6 +20,8 @@ pub(crate) enum Passing {
     Converted,
     /// Where a function of the program stores objects.
     Own(OwnOut),
+    /// The first argument has the reference if the call succeeds. If it fails, it is given up.
+    GivenOrLost,
 }
 
 /// Returns how an argument is passed. Of those that nothing is said of there is nothing to say.
@@ -103,6 +105,19 @@ impl<'a> Builder<'a> {
             how.clear();
         }
         Ok(how)
+    }
+
+    /// Returns how arguments are passed to a call of whose failure the function asks: what is stolen by a failure isn't
+    /// the container's.
+    pub(crate) fn exact_passings(&self, how: &[Passing]) -> Result<Vec<Passing>, Stop> {
+        let mut exact = Vec::new(self.alloc);
+        for passing in how {
+            exact.push(match *passing {
+                Passing::Table(Takes::StolenAndKept) => Passing::GivenOrLost,
+                other => other,
+            })?;
+        }
+        Ok(exact)
     }
 
     fn find_passings(

@@ -47,7 +47,7 @@ impl<'a> Builder<'a> {
                     _ => None,
                 }
             }
-            _ => None,
+            _ => self.traits_of(self.without_casts(id)).constant,
         }
     }
 

@@ -36,7 +36,7 @@ enum Origin {
 impl Counting {
     pub(crate) fn of(name: &[u8]) -> Option<Counting> {
         match name {
-            b"Py_INCREF" => Some(Counting::Take),
+            b"Py_INCREF" | b"_Py_NewReference" => Some(Counting::Take),
             b"Py_XINCREF" | b"Py_IncRef" => Some(Counting::TakeOrNull),
             b"Py_DECREF" => Some(Counting::Release),
             b"Py_XDECREF" | b"Py_DecRef" => Some(Counting::ReleaseOrNull),

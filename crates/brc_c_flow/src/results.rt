@@ -54,9 +54,54 @@ impl<'a> Builder<'a> {
             None => outcome.value = self.number_of(callee, operands, want)?,
         }
         if outcome.into.is_none() {
-            give_first_out(row.fails, operands, how, &mut outcome);
+            self.give_first_out(row.fails, operands, how, &mut outcome);
         }
         Ok(outcome)
+    }
+
+    /// The first object that a call stores is what it gives, if it gives nothing else.
+    fn give_first_out(
+        &self,
+        fails: Fails,
+        operands: &[Operand],
+        how: &[Passing],
+        outcome: &mut Outcome,
+    ) {
+        for (at, operand) in operands.iter().enumerate() {
+            let Operand::Address(local) = *operand else {
+                continue;
+            };
+            match passed(how, at) {
+                Passing::Table(Takes::InOut) => {}
+                // If there is no exception, all that `PyErr_Fetch` sets is NULL. A function that never asks has one.
+                Passing::Table(Takes::Out) if fails == Fails::Never => {
+                    outcome.calling = if self.is_asked(local) {
+                        Calling::MayFail
+                    } else {
+                        Calling::Succeeds
+                    };
+                }
+                Passing::Table(Takes::Out) => {}
+                Passing::Own(out) if out.is_sure() => {
+                    if let Some(gives) = left_by(out.success.object, operands) {
+                        outcome.gives = gives;
+                        outcome.into = Some(local);
+                    }
+                    return;
+                }
+                _ => continue,
+            }
+            outcome.gives = MADE;
+            outcome.into = Some(local);
+            return;
+        }
+    }
+
+    /// Returns whether the function asks whether a variable has NULL.
+    fn is_asked(&self, local: Local) -> bool {
+        self.tested
+            .iter()
+            .any(|name| self.local_of(*name) == Some(local))
     }
 
     /// Returns what a call has that makes no object: a number, if it matters.
@@ -102,6 +147,7 @@ impl<'a> Builder<'a> {
                         self.leave_at(out, out.success, local, operands, site)?;
                     }
                 }
+                (Passing::GivenOrLost, _) => self.give_argument(*operand, container, site)?,
                 (Passing::Table(takes), _) => {
                     self.succeed_with(takes, *operand, container, outcome, site)?;
                 }
@@ -202,7 +248,7 @@ impl<'a> Builder<'a> {
         site: Site,
     ) -> Result<(), Stop> {
         for (at, operand) in operands.iter().enumerate() {
-            if let Passing::Table(Takes::StolenOnFailure) = passed(how, at) {
+            if let Passing::Table(Takes::StolenOnFailure) | Passing::GivenOrLost = passed(how, at) {
                 self.give_argument(*operand, None, site)?;
             }
         }
@@ -285,34 +331,6 @@ fn operand_at(operands: &[Operand], argument: u8) -> Operand {
 
 fn is_borrowed(gives: Gives) -> bool {
     matches!(gives, Gives::Item(_) | Gives::Part(_) | Gives::Lent)
-}
-
-/// The first object that a call stores is what it gives, if it gives nothing else.
-fn give_first_out(fails: Fails, operands: &[Operand], how: &[Passing], outcome: &mut Outcome) {
-    for (at, operand) in operands.iter().enumerate() {
-        let Operand::Address(local) = *operand else {
-            continue;
-        };
-        match passed(how, at) {
-            Passing::Table(Takes::InOut) => {}
-            // If there is no exception, all that `PyErr_Fetch` sets is NULL.
-            Passing::Table(Takes::Out) if fails == Fails::Never => {
-                outcome.calling = Calling::MayFail;
-            }
-            Passing::Table(Takes::Out) => {}
-            Passing::Own(out) if out.is_sure() => {
-                if let Some(gives) = left_by(out.success.object, operands) {
-                    outcome.gives = gives;
-                    outcome.into = Some(local);
-                }
-                return;
-            }
-            _ => continue,
-        }
-        outcome.gives = MADE;
-        outcome.into = Some(local);
-        return;
-    }
 }
 
 fn calling_of(fails: Fails) -> Calling {

@@ -47,7 +47,7 @@ impl<'a> Builder<'a> {
         Ok(())
     }
 
-    fn is_addressed(&self, name: Symbol) -> bool {
+    pub(crate) fn is_addressed(&self, name: Symbol) -> bool {
         for (expression, _) in self.tree.expressions() {
             if let Expression::Unary {
                 operator: Unary::Address,
@@ -75,7 +75,7 @@ impl<'a> Builder<'a> {
         false
     }
 
-    fn local_of(&self, variable: Symbol) -> Option<Local> {
+    pub(crate) fn local_of(&self, variable: Symbol) -> Option<Local> {
         self.variable(variable)?.local
     }
 }

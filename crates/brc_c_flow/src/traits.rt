@@ -2,7 +2,7 @@
 
 use crate::building::Builder;
 use crate::calls::{gives_object, is_cast};
-use crate::constants::is_singleton;
+use crate::constants::{folded, is_singleton};
 use crate::names::Kind;
 use brc_c_text::Symbol;
 use brc_c_tree::{Expression, ExpressionId, Unary};
@@ -19,6 +19,8 @@ pub(crate) struct Traits {
     pub(crate) has_effect: bool,
     /// Whether it reads what other functions may set.
     pub(crate) reads_memory: bool,
+    /// Its value, if it is one of constants with an operator between them.
+    pub(crate) constant: Option<i64>,
 }
 
 impl Traits {
@@ -27,6 +29,7 @@ impl Traits {
         is_pure: true,
         has_effect: false,
         reads_memory: false,
+        constant: None,
     };
 }
 
@@ -70,6 +73,18 @@ impl<'a> Builder<'a> {
             | Expression::Opaque => found.is_pure = false,
             Expression::Field { .. } => found.reads_memory = true,
             Expression::Name(symbol) => found.reads_memory = self.is_elsewhere(symbol),
+            Expression::Binary {
+                operator,
+                left,
+                right,
+            } => {
+                if let (Some(left), Some(right)) = (
+                    self.constant_in(left),
+                    self.constant_in(right),
+                ) {
+                    found.constant = folded(operator, left, right);
+                }
+            }
             _ => {}
         }
         found
@@ -180,6 +195,7 @@ fn joined(one: Traits, other: Traits) -> Traits {
         is_pure: one.is_pure && other.is_pure,
         has_effect: one.has_effect || other.has_effect,
         reads_memory: one.reads_memory || other.reads_memory,
+        constant: None,
     }
 }
 

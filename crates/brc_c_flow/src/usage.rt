@@ -2,7 +2,7 @@
 
 use crate::references::Counting;
 use brc_c_text::{Symbol, Symbols};
-use brc_c_tree::{Body, Expression, ExpressionId, List, SourceTree, Statement, Tree};
+use brc_c_tree::{Body, Expression, ExpressionId, Function, List, SourceTree, Statement, Tree};
 use std::alloc::{AllocError, Global};
 use std::collections::HashSet;
 
@@ -16,6 +16,8 @@ pub struct Usage {
     released: HashSet<Symbol>,
     /// The functions that are called by their names.
     called: HashSet<Symbol>,
+    /// The functions that call nothing, and set nothing but variables of their own.
+    idle: HashSet<Symbol>,
     /// Whether some function gives the memory of objects back.
     frees: bool,
 }
@@ -26,12 +28,16 @@ impl Usage {
         let mut usage = Usage {
             released: HashSet::new(alloc),
             called: HashSet::new(alloc),
+            idle: HashSet::new(alloc),
             frees: false,
         };
         for function in source.functions.iter() {
             if let Body::Read(tree, _) = &function.body {
                 usage.add_calls(symbols, tree)?;
                 usage.add_assigned(tree)?;
+                if is_idle(alloc, function, tree)? {
+                    usage.idle.insert(function.name)?;
+                }
             }
         }
         Ok(usage)
@@ -48,6 +54,10 @@ impl Usage {
 
     pub(crate) fn is_called(&self, function: Symbol) -> bool {
         self.called.contains(&function)
+    }
+
+    pub(crate) fn is_idle(&self, function: Symbol) -> bool {
+        self.idle.contains(&function)
     }
 
     fn add_calls(&mut self, symbols: &Symbols, tree: &Tree) -> Result<(), AllocError> {
@@ -133,6 +143,48 @@ impl Usage {
             _ => Ok(()),
         }
     }
+}
+
+/// Returns whether a function calls nothing, and sets nothing but variables of its own.
+fn is_idle(alloc: Global, function: &Function, tree: &Tree) -> Result<bool, AllocError> {
+    let own = own_variables(alloc, function, tree)?;
+    for (expression, _) in tree.expressions() {
+        let set = match *expression {
+            Expression::Call { .. } => return Ok(false),
+            Expression::Assign { left, .. } => left,
+            Expression::Step { operand, .. } => operand,
+            _ => continue,
+        };
+        match tree.expression(set) {
+            Some(Expression::Name(name)) if own.contains(&name) => {}
+            _ => return Ok(false),
+        }
+    }
+    Ok(true)
+}
+
+/// Returns the names of a function's parameters and variables.
+fn own_variables(
+    alloc: Global,
+    function: &Function,
+    tree: &Tree,
+) -> Result<HashSet<Symbol>, AllocError> {
+    let mut own = HashSet::new(alloc);
+    for parameter in function.parameters.iter() {
+        if let Some(name) = parameter.name {
+            own.insert(name)?;
+        }
+    }
+    for (statement, _) in tree.statements() {
+        if let Statement::Declare(list) = statement {
+            for declared in tree.declarations(*list) {
+                if !declared.is_static {
+                    own.insert(declared.name)?;
+                }
+            }
+        }
+    }
+    Ok(own)
 }
 
 /// Returns the name of a variable or a field.

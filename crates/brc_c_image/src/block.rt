@@ -41,6 +41,8 @@ pub(crate) struct Origin {
 pub(crate) struct Break {
     pub(crate) code: CheckCode,
     pub(crate) at: usize,
+    /// The names whose references are left, a bit for each.
+    pub(crate) left: u64,
 }
 
 /// A node in a store, and the lines that are written for it. Blocks name each other by their numbers.

@@ -13,7 +13,7 @@ use crate::liveness::Liveness;
 use crate::points::{Points, Waiting};
 use crate::taking::take_lent;
 use brc_c_graph::{Graph, NodeId};
-use brc_c_store::{Event, RegisterSet, Rules, Store, faults};
+use brc_c_store::{Event, RegisterSet, Rules, Store, faults, left_by};
 use brc_lang::CheckCode;
 use std::alloc::{AllocError, Global};
 
@@ -263,12 +263,36 @@ fn break_rule(
                 first,
                 end,
                 is_end: true,
-                broken: Some(Break { code, at }),
+                broken: Some(Break {
+                    code,
+                    at,
+                    left: left_names(event, code, &waiting.store),
+                }),
                 ..block
             },
         );
     }
     Ok(())
+}
+
+/// Returns the names whose references are left at an end.
+fn left_names(event: Event, code: CheckCode, store: &Store) -> u64 {
+    let mut names = 0;
+    if code != CheckCode::LeftOwned {
+        return names;
+    }
+    let returned = match event {
+        Event::Return(local) => Some(local),
+        _ => None,
+    };
+    for named in store.values.iter() {
+        if let Some(id) = named.value.object() {
+            if left_by(store, returned, id) {
+                names |= 1u64.wrapping_shl((named.local.0 % 64) as u32);
+            }
+        }
+    }
+    names
 }
 
 fn end_call(

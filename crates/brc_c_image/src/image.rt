@@ -150,20 +150,43 @@ fn fault_at(blocks: &Blocks, number: usize) -> Option<(CheckCode, NodeId)> {
     Some((broken.code, block.node))
 }
 
-/// Returns the blocks whose events break a rule, the first one for each code at a node.
+/// Returns the blocks whose events break a rule: the first one for each code at a node, and each that leaves a
+/// reference which those before it don't.
 fn broken_blocks(alloc: Global, blocks: &Blocks) -> Result<Vec<usize>, AllocError> {
     let mut broken: Vec<usize> = Vec::new(alloc);
     for number in 0..blocks.len() {
         if let Some(fault) = fault_at(blocks, number) {
-            let is_known = broken
-                .iter()
-                .any(|known| fault_at(blocks, *known) == Some(fault));
+            let is_known = match left_before(blocks, broken.as_slice(), fault) {
+                Some(left) => left_at(blocks, number) & !left == 0,
+                None => false,
+            };
             if !is_known {
                 broken.push(number)?;
             }
         }
     }
     Ok(broken)
+}
+
+fn left_at(blocks: &Blocks, number: usize) -> u64 {
+    match blocks.get(number) {
+        Some(block) => match block.broken {
+            Some(broken) => broken.left,
+            None => 0,
+        },
+        None => 0,
+    }
+}
+
+/// Returns the names whose references are left in blocks with this fault, or `None` if there is no such block.
+fn left_before(blocks: &Blocks, broken: &[usize], fault: (CheckCode, NodeId)) -> Option<u64> {
+    let mut left = None;
+    for known in broken {
+        if fault_at(blocks, *known) == Some(fault) {
+            left = Some(left.unwrap_or(0) | left_at(blocks, *known));
+        }
+    }
+    left
 }
 
 /// Returns a text, unless it has too many instructions.

@@ -24,6 +24,7 @@ pub fn names_read(event: Event) -> [Option<Local>; 2] {
         Event::Null(local)
         | Event::Sign { of: local, .. }
         | Event::Is { local, .. }
+        | Event::Become { local, .. }
         | Event::Use(local)
         | Event::UseOrNull(local)
         | Event::Take(local)

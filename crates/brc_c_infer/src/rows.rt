@@ -143,6 +143,7 @@ const NEGATIVE: Signs = Signs {
     below: true,
     zero: false,
     above: false,
+    only: None,
 };
 
 const NOT_ZERO: Signs = Signs {
@@ -150,6 +151,7 @@ const NOT_ZERO: Signs = Signs {
     below: true,
     zero: false,
     above: true,
+    only: None,
 };
 
 /// Returns those of the signs that are seen, or all of them if none is.
@@ -159,6 +161,7 @@ fn some_of(signs: Signs, seen: Signs) -> Signs {
         below: signs.below && seen.below,
         zero: signs.zero && seen.zero,
         above: signs.above && seen.above,
+        only: None,
     };
     if both.is_empty() { signs } else { both }
 }

@@ -93,6 +93,10 @@ fn assumed_by(node: &Node) -> Option<Local> {
     match node.event {
         Event::Assume(local) if node.words.is_some() => Some(local),
         Event::Stow(local) => Some(local),
+        Event::Put {
+            cell,
+            from: Some(local),
+        } if cell.owes.is_assumed => Some(local),
         _ => None,
     }
 }

@@ -17,6 +17,7 @@ pub fn faults(rules: Rules, event: Event, store: &Store) -> Option<CheckCode> {
         | Event::Choice(_)
         | Event::Sign { .. }
         | Event::Is { .. }
+        | Event::Become { .. }
         | Event::Forget(_)
         | Event::Keep { .. }
         | Event::Stow(_)

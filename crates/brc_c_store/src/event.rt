@@ -76,6 +76,11 @@ pub enum Event {
         local: Local,
         singleton: Singleton,
     },
+    /// A name was found to have a singleton: where it has NULL, or another one, no path goes on.
+    Become {
+        local: Local,
+        singleton: Singleton,
+    },
     /// What was found for a condition holds no more.
     Forget(Fact),
     /// Uses the object that a name has.

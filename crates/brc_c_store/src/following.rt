@@ -1,11 +1,11 @@
 use crate::event::{Calling, Choice, Event, Gives, Source};
 use crate::keeping::{forget_cell, free_cells, put, read};
 use crate::object::{Base, Object};
+use crate::questions::{ask_fact, ask_null, ask_sign, ask_singleton, become_singleton};
 use crate::register::RegisterSet;
 use crate::rules::Rules;
-use crate::signs::{Signs, Test};
-use crate::store::{KnownFact, Section, Store};
-use crate::value::{Fact, Local, ObjectId, Singleton, Value};
+use crate::store::{Section, Store};
+use crate::value::{Local, ObjectId, Value};
 use std::alloc::AllocError;
 
 /// What follows an event.
@@ -38,6 +38,7 @@ pub fn after(
         Event::Is { local, singleton } => {
             return Ok(ask_singleton(next, local, singleton, choice == Choice::Yes));
         }
+        Event::Become { local, singleton } => return Ok(become_singleton(next, local, singleton)),
         Event::Forget(fact) => next.facts.retain(|known| known.fact != fact),
         Event::Use(local) => next.refine(local),
         Event::Take(local) => return Ok(take(next, local)),
@@ -129,73 +130,6 @@ fn copy(next: &mut Store, to: Local, from: Source) -> Result<(), AllocError> {
             next.set(to, Value::Maybe(id))
         }
     }
-}
-
-fn ask_null(next: Store, local: Local, is_null: bool) -> Next {
-    let mut next = next;
-    match next.value(local) {
-        Value::Unset => Next::Never,
-        Value::Null => way(next, is_null),
-        Value::Object(_) => way(next, !is_null),
-        Value::Number(_) => Next::Store(next),
-        Value::Maybe(id) => {
-            if is_null {
-                next.take_for_null(id);
-            } else {
-                next.refine(local);
-            }
-            Next::Store(next)
-        }
-    }
-}
-
-fn way(next: Store, is_open: bool) -> Next {
-    if is_open {
-        Next::Store(next)
-    } else {
-        Next::Never
-    }
-}
-
-fn ask_sign(next: Store, of: Local, test: Test, wanted: bool) -> Result<Next, AllocError> {
-    let mut next = next;
-    let signs = match next.value(of) {
-        Value::Number(signs) => signs,
-        _ => Signs::ALL,
-    };
-    let left = signs.that(test, wanted);
-    if left.is_empty() {
-        return Ok(Next::Never);
-    }
-    next.set(of, Value::Number(left))?;
-    Ok(Next::Store(next))
-}
-
-fn ask_fact(next: Store, fact: Option<Fact>, holds: bool) -> Result<Next, AllocError> {
-    let mut next = next;
-    let Some(fact) = fact else {
-        return Ok(Next::Store(next));
-    };
-    match next.fact(fact) {
-        Some(known) => Ok(way(next, known == holds)),
-        None => {
-            next.facts.push(KnownFact { fact, holds })?;
-            Ok(Next::Store(next))
-        }
-    }
-}
-
-/// A name has a singleton exactly if the function has assigned it.
-fn ask_singleton(next: Store, local: Local, singleton: Singleton, holds: bool) -> Next {
-    let mut next = next;
-    let is_it = match next.object_of(local) {
-        Some(id) => next.object(id).singleton == Some(singleton),
-        None => false,
-    };
-    if !is_it {
-        next.refine(local);
-    }
-    way(next, is_it == holds)
 }
 
 fn take(next: Store, local: Local) -> Next {

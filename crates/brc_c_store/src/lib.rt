@@ -13,6 +13,7 @@ mod following;
 mod giving;
 mod keeping;
 mod object;
+mod questions;
 mod register;
 mod rules;
 mod signs;

@@ -6,6 +6,8 @@ pub struct Signs {
     pub below: bool,
     pub zero: bool,
     pub above: bool,
+    /// The number itself, if it is known, and neither 0 nor minus one.
+    pub only: Option<i64>,
 }
 
 impl Signs {
@@ -14,6 +16,7 @@ impl Signs {
         below: false,
         zero: false,
         above: false,
+        only: None,
     };
 
     pub const ALL: Signs = Signs {
@@ -21,6 +24,7 @@ impl Signs {
         below: true,
         zero: true,
         above: true,
+        only: None,
     };
 
     pub const MINUS_ONE: Signs = Signs {
@@ -28,6 +32,7 @@ impl Signs {
         below: false,
         zero: false,
         above: false,
+        only: None,
     };
 
     pub const ZERO: Signs = Signs {
@@ -35,6 +40,7 @@ impl Signs {
         below: false,
         zero: true,
         above: false,
+        only: None,
     };
 
     pub const ABOVE: Signs = Signs {
@@ -42,6 +48,7 @@ impl Signs {
         below: false,
         zero: false,
         above: true,
+        only: None,
     };
 
     pub const ZERO_OR_ABOVE: Signs = Signs {
@@ -49,6 +56,7 @@ impl Signs {
         below: false,
         zero: true,
         above: true,
+        only: None,
     };
 
     /// Returns the sign of a number.
@@ -58,6 +66,19 @@ impl Signs {
             below: number < -1,
             zero: number == 0,
             above: number > 0,
+            only: None,
+        }
+    }
+
+    /// Returns the sign of a number, and the number.
+    pub fn exactly(number: i64) -> Signs {
+        let only = match number {
+            -1 | 0 => None,
+            _ => Some(number),
+        };
+        Signs {
+            only,
+            ..Signs::of(number)
         }
     }
 
@@ -67,11 +88,28 @@ impl Signs {
 
     /// Returns those of these signs of which some number passes the test, or fails it if `wanted` is false.
     pub fn that(self, test: Test, wanted: bool) -> Signs {
+        if let Some(number) = self.only {
+            return if test.is_open(number, number, wanted) {
+                self
+            } else {
+                Signs::NONE
+            };
+        }
+        let left = self.signs_that(test, wanted);
+        if !left.is_empty() && test.is_equality(wanted) {
+            Signs::exactly(test.constant)
+        } else {
+            left
+        }
+    }
+
+    fn signs_that(self, test: Test, wanted: bool) -> Signs {
         Signs {
             minus_one: self.minus_one && test.is_open(-1, -1, wanted),
             below: self.below && test.is_open(i64::MIN, -2, wanted),
             zero: self.zero && test.is_open(0, 0, wanted),
             above: self.above && test.is_open(1, i64::MAX, wanted),
+            only: None,
         }
     }
 }
@@ -86,6 +124,19 @@ pub enum Comparison {
     GreaterEqual,
 }
 
+impl Comparison {
+    /// Returns the comparison that holds for the sides exchanged.
+    pub fn mirrored(self) -> Comparison {
+        match self {
+            Comparison::Less => Comparison::Greater,
+            Comparison::LessEqual => Comparison::GreaterEqual,
+            Comparison::Greater => Comparison::Less,
+            Comparison::GreaterEqual => Comparison::LessEqual,
+            Comparison::Equal | Comparison::NotEqual => self,
+        }
+    }
+}
+
 /// A comparison of a number with a constant.
 #[derive(Clone, Copy, Debug, PartialEq, Eq, Hash)]
 pub struct Test {
@@ -94,6 +145,15 @@ pub struct Test {
 }
 
 impl Test {
+    /// Returns whether only the constant passes the test, or fails it if `wanted` is false.
+    fn is_equality(self, wanted: bool) -> bool {
+        match self.comparison {
+            Comparison::Equal => wanted,
+            Comparison::NotEqual => !wanted,
+            _ => false,
+        }
+    }
+
     /// Returns whether some number from `least` to `most` passes the test, or fails it if `wanted` is false.
     fn is_open(self, least: i64, most: i64, wanted: bool) -> bool {
         let constant = self.constant;

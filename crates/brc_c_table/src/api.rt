@@ -3,6 +3,7 @@
 mod part_1;
 mod part_2;
 mod part_3;
+mod part_4;
 
 /// The rows, in parts.
-pub const PARTS: [&str; 3] = [part_1::ROWS, part_2::ROWS, part_3::ROWS];
+pub const PARTS: [&str; 4] = [part_1::ROWS, part_2::ROWS, part_3::ROWS, part_4::ROWS];

@@ -113,7 +113,7 @@ PyFloat_AS_DOUBLE other b none pure
 PyComplex_FromDoubles new -- null pure
 PyBool_Check int b none pure
 PyBool_FromLong new - none pure
-PyNumber_Check int b none pure
+PyNumber_Check int n none pure
 PyNumber_Add new bb null runs
 PyNumber_Subtract new bb null runs
 PyNumber_Multiply new bb null runs
@@ -320,7 +320,7 @@ PyPickleBuffer_GetBuffer other b none pure
 PyPickleBuffer_Release int b neg pure
 PyErr_Occurred lent . null pure
 PyErr_SetString void b- none pure
-PyErr_SetObject void bb none runs
+PyErr_SetObject void bn none runs
 PyErr_SetNone void b none pure
 PyErr_Format null b-= none runs
 PyErr_NoMemory null . none pure

@@ -28,6 +28,7 @@ PyUnicodeTranslateError_SetReason int b- neg pure
 PyUnicodeTranslateError_SetStart int b- neg pure
 PyType_GenericAlloc new b- null pure
 PyObject_New new -- null pure
+PyObject_NEW new -- null pure
 PyObject_GC_New new -- null pure
 PyObject_GC_Track void b none pure
 PyObject_GC_UnTrack void b none pure
@@ -41,6 +42,7 @@ PyMem_RawFree void - none pure
 PyMem_New other -- none pure
 PyObject_DEL free b none pure
 PyObject_NewVar new --- null pure
+PyObject_NEW_VAR new --- null pure
 PyObject_GC_NewVar new --- null pure
 PyObject_InitVar same 1 b-- none pure
 PyObject_IS_GC int b none pure
@@ -74,7 +76,7 @@ PySequence_Tuple new b null runs
 PySequence_Fast new b- null runs
 PySequence_Fast_GET_ITEM item 1 b- none pure
 PySequence_Fast_GET_SIZE other b none pure
-PyMapping_Check int b none pure
+PyMapping_Check int n none pure
 PyMapping_Size int b less runs
 PyMapping_Keys new b null runs
 PyMapping_Items new b null runs
@@ -157,7 +159,7 @@ PyObject_CallMethodNoArgs new bb null runs
 PyObject_CallMethodOneArg new bbb null runs
 PyObject_Vectorcall new b&-n null runs
 PyObject_VectorcallMethod new b&-n null runs
-PyCallable_Check int b none pure
+PyCallable_Check int n none pure
 PyCallable_Type lent . none pure
 Py_TYPE part 1 b none pure
 Py_IS_TYPE int b- none pure
@@ -379,6 +381,4 @@ PyInstanceMethod_New new b null pure
 PyMethod_Function part 1 b none pure
 PyMethod_Self part 1 b none pure
 PyEval_GetBuiltins lent . none pure
-PyEval_GetGlobals lent . none pure
-PyEval_GetLocals lent . none pure
 ";

@@ -1,6 +1,8 @@
 //! The rows of `api.txt`. `docs/api_table.py --write` writes this file.
 
 pub const ROWS: &str = "
+PyEval_GetGlobals lent . none pure
+PyEval_GetLocals lent . none pure
 PyGen_Check int b none pure
 PyGen_CheckExact int b none pure
 PyCoro_CheckExact int b none pure
@@ -379,6 +381,4 @@ PyBytesWriter_Discard void - none pure
 ->tp_descr_get new bnn null runs
 ->tp_descr_set int bbn neg runs
 ->tp_hash int b less runs
-->tp_richcompare new bb- null runs
-->tp_dealloc free b none runs
 ";
