@@ -111,6 +111,9 @@ impl<'a> Builder<'a> {
             Target::Counted(local) => {
                 self.stow(left, value, place)?;
                 self.copy_signs(local, value, place)?;
+                if let Some(name) = self.name_in(left) {
+                    self.settle_conditions(name, right, place)?;
+                }
                 Ok(Operand::Counted(local))
             }
             Target::Variable | Target::Memory => {

@@ -12,6 +12,7 @@ use crate::orders::KnownOrder;
 use crate::own::OwnFunctions;
 use crate::purpose::{Purpose, Returned};
 use crate::reasons::FlowReason;
+use crate::slices::Slice;
 use crate::stop::{Stop, unread};
 use crate::surroundings::Program;
 use crate::traits::Traits;
@@ -99,6 +100,8 @@ pub(crate) struct Builder<'a> {
     pub(crate) outs: Vec<OutParameter>,
     /// The fields of parameters that are asked for at the ends, if the graph is made for a row.
     pub(crate) asked_fields: Vec<AskedField>,
+    /// The variables that have slices, and those that have something else.
+    pub(crate) slices: Vec<Slice>,
     pub(crate) habits: Habits,
     /// The fields that the function sets.
     pub(crate) set_fields: HashSet<Symbol>,
@@ -156,6 +159,7 @@ impl<'a> Builder<'a> {
             lent: Vec::new(alloc),
             outs: Vec::new(alloc),
             asked_fields: Vec::new(alloc),
+            slices: Vec::new(alloc),
             habits: Habits::NONE,
             set_fields: HashSet::new(alloc),
             plain_cells: Vec::new(alloc),

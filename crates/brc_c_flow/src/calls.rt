@@ -2,15 +2,17 @@
 
 use crate::building::{Branches, Builder};
 use crate::callee::Callee;
+use crate::facts::is_comparison;
 use crate::operand::{Operand, Site, Want};
 use crate::passing::{Passing, argument_want, passed};
+use crate::reasons::FlowReason;
 use crate::references::Counting;
 use crate::stop::Stop;
 use brc_c_graph::{NodeId, Words};
 use brc_c_store::{Event, Local};
 use brc_c_table::{Gives, Row};
 use brc_c_text::Symbol;
-use brc_c_tree::{Expression, ExpressionId, List};
+use brc_c_tree::{Binary, Expression, ExpressionId, List, Unary};
 
 impl<'a> Builder<'a> {
     /// Adds a call: what happens in its arguments, from left to right, and then what it does itself.
@@ -31,11 +33,11 @@ impl<'a> Builder<'a> {
                 return self.value(*only, want.of_object(), depth);
             }
         }
-        if is_assertion(name) {
-            return self.assertion(ids, depth);
-        }
         if is_nothing(name, want) {
             return Ok(Operand::Plain);
+        }
+        if self.is_assertion(function, ids.len()) {
+            return self.assertion(ids, depth);
         }
         if name.is_empty() {
             let base = self.parts(function, depth)?;
@@ -43,33 +45,62 @@ impl<'a> Builder<'a> {
         }
         let how = self.passings(function, ids)?;
         let mut operands = Vec::new(self.alloc);
+        let is_unknown = how.is_empty() && Counting::of(name).is_none();
         for (at, argument) in ids.iter().enumerate() {
-            let want = self.want_of(name, how.as_slice(), at);
             let operand = match self.out_passed(*argument) {
                 Some(local) => Operand::Address(local),
-                None => self.value(*argument, want, depth)?,
+                None if is_unknown => self.undecided(*argument, depth)?,
+                None => {
+                    let want = self.want_of(name, how.as_slice(), at);
+                    self.value(*argument, want, depth)?
+                }
             };
             operands.push(operand)?;
         }
         self.called(id, function, ids, operands.as_slice(), how.as_slice(), want)
     }
 
-    /// Adds an assertion: where it doesn't hold, the process ends. One that calls something isn't looked into.
+    /// Finds the value of an argument of a call of which nothing is known. A condition decides nothing there: paths
+    /// don't divide.
     #[cycle(expression)]
-    fn assertion(&mut self, ids: &[ExpressionId], depth: usize) -> Result<Operand, Stop> {
-        let Some(first) = ids.first() else {
-            return Ok(Operand::Plain);
+    fn undecided(&mut self, id: ExpressionId, depth: usize) -> Result<Operand, Stop> {
+        let Some(inside) = depth.checked_sub(1) else {
+            return Err(self.stop_at(id, FlowReason::TooDeep));
         };
-        if self.traits_of(*first).has_effect {
-            return Ok(Operand::Plain);
+        match self.tree.expression(id) {
+            Some(
+                Expression::Binary {
+                    operator,
+                    left,
+                    right,
+                },
+            ) if is_comparison(operator) => {
+                self.value(left, Want::NOTHING, inside)?;
+                self.value(right, Want::NOTHING, inside)?;
+                Ok(Operand::Plain)
+            }
+            // Whether the right side is asked depends on the left one.
+            Some(
+                Expression::Binary {
+                    operator: Binary::And | Binary::Or,
+                    left,
+                    right,
+                },
+            ) if !self.traits_of(right).has_effect => {
+                self.undecided(left, inside)?;
+                Ok(Operand::Plain)
+            }
+            Some(
+                Expression::Unary {
+                    operator: Unary::Not,
+                    operand,
+                },
+            ) => {
+                self.undecided(operand, inside)?;
+                Ok(Operand::Plain)
+            }
+            _ => self.value(id, Want::ASKED, depth),
         }
-        let place = self.place_of(*first);
-        let branches = self.branches(place)?;
-        self.condition(*first, branches, depth)?;
-        self.land(branches.fails);
-        self.end(Event::Halt, place)?;
-        self.land(branches.holds);
-        Ok(Operand::Plain)
     }
 
     /// Returns the name of the function that is called, or no bytes if it isn't called by a name.
@@ -115,7 +146,6 @@ impl<'a> Builder<'a> {
                 is_asked: counting.may_be_null(),
                 ..Want::OBJECT
             },
-            None if how.is_empty() => Want::ASKED,
             None => argument_want(passed(how, at)),
         }
     }
@@ -209,10 +239,6 @@ pub(crate) fn is_expectation(name: &[u8]) -> bool {
     matches!(name, b"likely" | b"unlikely" | b"__builtin_expect")
 }
 
-fn is_assertion(name: &[u8]) -> bool {
-    name == b"assert".as_slice()
-}
-
 /// Returns whether a call does nothing with objects, and its arguments aren't looked into.
 fn is_nothing(name: &[u8], want: Want) -> bool {
     if name == b"PyErr_Occurred".as_slice() {
@@ -224,20 +250,30 @@ fn is_nothing(name: &[u8], want: Want) -> bool {
     )
 }
 
+/// The functions that don't return. A `match` over texts would have a branch for each of their bytes in its proof.
+const ENDS: [&[u8]; 19] = [
+    b"abort",
+    b"exit",
+    b"_exit",
+    b"_Exit",
+    b"quick_exit",
+    b"longjmp",
+    b"siglongjmp",
+    b"pthread_exit",
+    b"__builtin_unreachable",
+    b"__builtin_trap",
+    b"Py_FatalError",
+    b"_Py_FatalErrorFormat",
+    b"Py_Exit",
+    b"Py_ExitStatusException",
+    b"Py_UNREACHABLE",
+    b"PyThread_exit_thread",
+    b"g_error",
+    b"g_abort",
+    b"g_assert_not_reached",
+];
+
 /// Returns whether a function of this name doesn't return.
 fn is_end(name: &[u8]) -> bool {
-    matches!(
-        name,
-        b"abort"
-            | b"exit"
-            | b"_exit"
-            | b"longjmp"
-            | b"siglongjmp"
-            | b"__builtin_unreachable"
-            | b"Py_FatalError"
-            | b"_Py_FatalErrorFormat"
-            | b"Py_Exit"
-            | b"Py_ExitStatusException"
-            | b"Py_UNREACHABLE"
-    )
+    ENDS.iter().any(|known| *known == name)
 }

@@ -40,7 +40,16 @@ impl<'a> Builder<'a> {
         for id in &asked {
             self.find_condition(*id)?;
         }
-        Ok(())
+        self.find_settled()
+    }
+
+    /// A condition in these words is asked once more: where something is assigned.
+    pub(crate) fn ask_again(&mut self, text: &str) {
+        for known in self.conditions.iter_mut() {
+            if known.text.as_str() == text {
+                known.is_asked_twice = true;
+            }
+        }
     }
 
     /// Returns the expressions at which paths divide, and those that are made of such.
@@ -223,12 +232,17 @@ impl<'a> Builder<'a> {
             return Ok(None);
         }
         let text = self.text_of(id)?;
+        Ok(self.asked_fact(text.as_str()))
+    }
+
+    /// Returns the condition in these words, if it is asked twice.
+    pub(crate) fn asked_fact(&self, text: &str) -> Option<Fact> {
         for (at, known) in self.conditions.iter().enumerate() {
-            if known.is_asked_twice && known.text.as_str() == text.as_str() {
-                return Ok(Some(Fact(at)));
+            if known.is_asked_twice && known.text.as_str() == text {
+                return Some(Fact(at));
             }
         }
-        Ok(None)
+        None
     }
 
     /// A variable or a field of this name is assigned: what was found for conditions with the name holds no more.

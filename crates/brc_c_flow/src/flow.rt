@@ -143,6 +143,7 @@ fn build(builder: &mut Builder<'_>, whole: StatementId) -> Result<(), Stop> {
     builder.find_elements()?;
     builder.find_outs()?;
     builder.find_asked_fields()?;
+    builder.find_slices()?;
     let place = builder.function.place;
     builder.emit(Event::Pass, place, None)?;
     builder.emit(Event::Pass, place, None)?;

@@ -4,6 +4,7 @@
 #![tactic(auto)]
 
 mod arguments;
+mod asserting;
 mod assigning;
 mod assumed;
 mod building;
@@ -39,7 +40,9 @@ mod reasons;
 mod references;
 mod results;
 mod returning;
+mod settling;
 mod singled;
+mod slices;
 mod statements;
 mod stop;
 mod surroundings;

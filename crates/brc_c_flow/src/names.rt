@@ -28,6 +28,8 @@ pub(crate) struct Variable {
     pub(crate) kind: Kind,
     pub(crate) type_name: TypeName,
     pub(crate) is_parameter: bool,
+    /// Whether it is there after the call, too.
+    pub(crate) is_static: bool,
     /// Its name in the graph, if its value is followed.
     pub(crate) local: Option<Local>,
 }
@@ -35,6 +37,13 @@ pub(crate) struct Variable {
 impl<'a> Builder<'a> {
     pub(crate) fn variable(&self, name: Symbol) -> Option<Variable> {
         self.variables.get(&name).copied()
+    }
+
+    pub(crate) fn is_parameter(&self, name: Symbol) -> bool {
+        match self.variable(name) {
+            Some(variable) => variable.is_parameter,
+            None => false,
+        }
     }
 
     /// Finds the parameters and variables.
@@ -46,6 +55,7 @@ impl<'a> Builder<'a> {
                     kind: self.kind_of(parameter.type_name),
                     type_name: parameter.type_name,
                     is_parameter: true,
+                    is_static: false,
                     local: None,
                 };
                 self.add_variable(name, variable, function.place)?;
@@ -73,6 +83,7 @@ impl<'a> Builder<'a> {
             kind,
             type_name: declared.type_name,
             is_parameter: false,
+            is_static: declared.is_static,
             local: None,
         }
     }
@@ -105,7 +116,11 @@ impl<'a> Builder<'a> {
     /// Takes a variable for one of objects.
     pub(crate) fn make_object(&mut self, name: Symbol) {
         if let Some(variable) = self.variables.get_mut(&name) {
-            variable.kind = Kind::Object;
+            variable.kind = if variable.is_static {
+                Kind::Static
+            } else {
+                Kind::Object
+            };
         }
     }
 

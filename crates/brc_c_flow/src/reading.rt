@@ -32,8 +32,8 @@ impl<'a> Builder<'a> {
             Expression::Number(symbol) => integer(self.symbols.text(symbol)),
             Expression::Character(symbol) => character(self.symbols.text(symbol)),
             Expression::Name(symbol) => match self.symbols.text(symbol) {
-                b"NULL" | b"false" => Some(0),
-                b"true" => Some(1),
+                b"NULL" | b"false" | b"FALSE" => Some(0),
+                b"true" | b"TRUE" => Some(1),
                 _ => None,
             },
             Expression::Unary {

@@ -96,20 +96,58 @@ impl<'a> Builder<'a> {
             self.replace(counting, ids, operands, local, site)?;
             return Ok(Operand::Plain);
         }
-        let event = match counting {
-            Counting::Release | Counting::ReleaseOrNull => Event::Release(local),
-            _ => Event::Take(local),
-        };
-        if counting.may_be_null() {
-            let end = self.unless_null(*id, local)?;
-            self.emit(event, site.place, Some(site.words))?;
-            self.land(end);
+        let end = if counting.may_be_null() {
+            Some(self.unless_null(*id, local)?)
         } else {
-            self.emit(event, site.place, Some(site.words))?;
+            None
+        };
+        if counting.gives_up() {
+            self.take_item(*id, local, site)?;
+            self.emit(Event::Release(local), site.place, Some(site.words))?;
+        } else {
+            self.emit(Event::Take(local), site.place, Some(site.words))?;
+        }
+        if let Some(end) = end {
+            self.land(end);
         }
         match counting {
             Counting::NewRef | Counting::NewRefOrNull => Ok(Operand::Object(local)),
             _ => Ok(Operand::Plain),
+        }
+    }
+
+    /// What a deallocator releases of the items of its own object is the object's reference.
+    fn take_item(&mut self, id: ExpressionId, local: Local, site: Site) -> Result<(), Stop> {
+        if self.habits.is_deallocator && self.is_own_item(id) {
+            self.emit(Event::Take(local), site.place, Some(site.words))?;
+        }
+        Ok(())
+    }
+
+    /// Returns whether an expression is an item of a parameter.
+    fn is_own_item(&self, id: ExpressionId) -> bool {
+        let Some(
+            Expression::Call {
+                function,
+                arguments,
+            },
+        ) = self.tree.expression(self.without_casts(id))
+        else {
+            return false;
+        };
+        let is_item = match self.name_in(function) {
+            Some(name) => matches!(
+                self.symbols.text(name),
+                b"PyTuple_GET_ITEM" | b"PyList_GET_ITEM"
+            ),
+            None => false,
+        };
+        match self.tree.operands(arguments).first() {
+            Some(first) if is_item => match self.name_in(*first) {
+                Some(name) => self.is_parameter(name),
+                None => false,
+            },
+            _ => false,
         }
     }
 

@@ -133,13 +133,14 @@ impl<'a> Builder<'a> {
         site: Site,
     ) -> Result<(), Stop> {
         let container = container_of(operands);
+        let lender = self.lender_of(container);
         for (at, operand) in operands.iter().enumerate() {
             match (passed(how, at), *operand) {
                 (Passing::Lent { is_optional }, Operand::Address(to)) => {
-                    self.lend(to, container, is_optional, site)?;
+                    self.lend(to, lender, is_optional, site)?;
                 }
                 (Passing::Converted, Operand::Address(to)) => {
-                    self.lend(to, container, true, site)?;
+                    self.lend(to, lender, true, site)?;
                     self.at_site(Event::Assume(to), site)?;
                 }
                 (Passing::Own(out), Operand::Address(local)) => {

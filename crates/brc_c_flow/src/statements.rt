@@ -164,7 +164,8 @@ impl<'a> Builder<'a> {
             return self.begin(want, declared.place);
         };
         let found = self.value(value, want, EXPRESSION_DEPTH)?;
-        self.settle(value, found, want)
+        self.settle(value, found, want)?;
+        self.settle_conditions(declared.name, value, declared.place)
     }
 
     /// Begins a variable without a value.

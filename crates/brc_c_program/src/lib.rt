@@ -9,6 +9,7 @@ mod files;
 mod inferring;
 mod judging;
 mod judging_files;
+mod libraries;
 mod modules;
 mod pairs;
 mod report;

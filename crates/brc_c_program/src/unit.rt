@@ -1,6 +1,7 @@
 //! A file as it is read by one set of rules.
 
 use crate::files::Files;
+use crate::libraries::with_libraries;
 use crate::sources::Sources;
 use brc_c_flow::Usage;
 use brc_c_infer::{Own, Uses, uses_of};
@@ -69,7 +70,7 @@ pub(crate) fn read_unit<F: Files>(
 ) -> Result<Unit, UnitFault> {
     let alloc = known.alloc;
     let lexemes = lexemes_in(known, bytes, number)?;
-    let macros = macros_for(known, lexemes.as_slice(), rules, defined)?;
+    let macros = macros_for(known, sources, lexemes.as_slice(), number, rules, defined)?;
     let done = match preprocess(alloc, &mut known.symbols, sources, macros, lexemes, number) {
         Ok(done) => done,
         Err(fault) => return Err(UnitFault::Macro(fault)),
@@ -106,14 +107,15 @@ fn lexemes_in(known: &mut Known, bytes: &[u8], number: usize) -> Result<Vec<Lexe
 }
 
 /// Returns the macros that a file begins with. What the table knows stays a function.
-fn macros_for(
+fn macros_for<F: Files>(
     known: &mut Known,
+    sources: &mut Sources<'_, '_, F>,
     lexemes: &[Lexeme],
+    number: usize,
     rules: Rules,
     defined: &[&str],
 ) -> Result<Macros, UnitFault> {
-    let is_free_threaded = rules == Rules::FreeThreaded;
-    let mut macros = match Macros::new(known.alloc, &mut known.symbols, is_free_threaded) {
+    let mut macros = match first_macros(known, sources, number, rules) {
         Ok(macros) => macros,
         Err(fault) => return Err(UnitFault::Macro(fault)),
     };
@@ -122,6 +124,19 @@ fn macros_for(
     }
     keep(known, &mut macros, lexemes)?;
     Ok(macros)
+}
+
+/// Returns the macros of the compiler, of Python, and of libraries.
+fn first_macros<F: Files>(
+    known: &mut Known,
+    sources: &mut Sources<'_, '_, F>,
+    number: usize,
+    rules: Rules,
+) -> Result<Macros, MacroFault> {
+    let alloc = known.alloc;
+    let is_free_threaded = rules == Rules::FreeThreaded;
+    let macros = Macros::new(alloc, &mut known.symbols, is_free_threaded)?;
+    with_libraries(alloc, &mut known.symbols, sources, macros, number)
 }
 
 fn define(known: &mut Known, macros: &mut Macros, text: &[u8]) -> Result<(), UnitFault> {

@@ -3,7 +3,7 @@
 use crate::cell_blame::{Place as CellPlace, left_cells, of_cell};
 use crate::finding::{Key, Wrong};
 use crate::level::{Level, Reservation};
-use crate::naming::parameter_of;
+use crate::naming::{is_in_argument, parameter_of};
 use crate::trail::Trail;
 use brc_c_graph::{Graph, Node, NodeId};
 use brc_c_store::{Event, Gives, Local, ObjectId, Rules, Value, left_by};
@@ -222,7 +222,7 @@ pub(crate) fn level_of(
     if trail.store.object(id).singleton.is_some() {
         return Level::Warning(Reservation::BeforeImmortals);
     }
-    if blame.cell.is_none() && is_parameter(graph, blame) && changes_count(blame) {
+    if blame.cell.is_none() && is_argument(graph, blame) && changes_count(blame) {
         return Level::Warning(Reservation::UnlessMeant);
     }
     if is_ended_by_code(graph, trail, blame, id) {
@@ -265,12 +265,13 @@ fn is_assumed_call(graph: &Graph, blame: &Blame) -> bool {
     }
 }
 
-fn is_parameter(graph: &Graph, blame: &Blame) -> bool {
+/// Returns whether the caller has passed the object, by itself or in a tuple of arguments.
+fn is_argument(graph: &Graph, blame: &Blame) -> bool {
     let Some(made) = blame.made else {
         return false;
     };
     match graph.node(made) {
-        Some(node) => parameter_of(graph, node).is_some(),
+        Some(node) => parameter_of(graph, node).is_some() || is_in_argument(graph, node),
         None => false,
     }
 }

@@ -114,6 +114,18 @@ pub(crate) fn parameter_of(graph: &Graph, node: Node) -> Option<&str> {
     }
 }
 
+/// Returns whether what comes into the function at a node is read from a tuple of arguments, as `PyArg_ParseTuple`
+/// does, or from an array of them.
+pub(crate) fn is_in_argument(graph: &Graph, node: Node) -> bool {
+    match node.event {
+        Event::Lend { lender, .. } => match lender {
+            Some(lender) => parameter_name(graph, lender).is_some(),
+            None => true,
+        },
+        _ => false,
+    }
+}
+
 /// Returns the parameter of which the function steals the reference that comes into it at a node.
 fn stolen_parameter(graph: &Graph, node: Node) -> Option<&str> {
     match (node.event, node.words) {

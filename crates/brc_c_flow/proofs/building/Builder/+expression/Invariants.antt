@@ -18,6 +18,9 @@ decreases-parts l = 3 * l.depth + 1
 abbrev pub decreases-assertion : goal.decreases-assertion
 decreases-assertion l = 3 * l.depth + 1
 
+abbrev pub decreases-undecided : goal.decreases-undecided
+decreases-undecided l = 3 * l.depth + 1
+
 abbrev pub decreases-truth : goal.decreases-truth
 decreases-truth l = 3 * l.depth + 2
 
