@@ -3,7 +3,6 @@
 use crate::building::{Branches, Builder};
 use crate::operand::{Operand, Site};
 use crate::passing::{Passing, passed};
-use crate::reasons::FlowReason;
 use crate::stop::Stop;
 use brc_c_graph::NodeId;
 use brc_c_store::{Choice, Event, Local, Source};
@@ -217,8 +216,7 @@ impl<'a> Builder<'a> {
                 self.at_site(Event::Give(local), site)?;
                 Ok(())
             }
-            _ if operand.is_null() => Ok(()),
-            _ => Err(self.stop_at(id, FlowReason::FieldGivenUp)),
+            _ => self.assume_place(id, operand),
         }
     }
 

@@ -160,7 +160,10 @@ impl<'a> Builder<'a> {
             return Ok(());
         }
         let words = self.words_of(left)?;
-        self.assume(words)?;
+        // What everybody knows by name is there in any case.
+        if let Operand::Object(_) = value {
+            self.assume(words)?;
+        }
         self.emit(Event::Stow(local), place, Some(words))?;
         Ok(())
     }

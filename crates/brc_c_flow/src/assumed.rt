@@ -143,5 +143,6 @@ fn is_of_c(name: &[u8]) -> bool {
             | b"snprintf"
             | b"PyOS_snprintf"
             | b"qsort"
+            | b"va_arg"
     )
 }

@@ -88,6 +88,8 @@ pub(crate) struct Builder<'a> {
     pub(crate) typed: Vec<Option<TypeName>>,
     pub(crate) traits: Vec<Traits>,
     pub(crate) variables: HashMap<Symbol, Variable>,
+    /// The fields that are used as those of objects.
+    pub(crate) used_fields: HashSet<Symbol>,
     /// The variables that are asked whether they are NULL, or which sign they have.
     pub(crate) tested: HashSet<Symbol>,
     /// The variables to which a singleton is assigned, each with its name.
@@ -111,8 +113,6 @@ pub(crate) struct Builder<'a> {
     pub(crate) conditions: Vec<KnownCondition>,
     pub(crate) orders: Vec<KnownOrder>,
     pub(crate) singletons: Vec<KnownSingleton>,
-    /// The variables of the blocks that are being read.
-    pub(crate) scope: Vec<Symbol>,
     pub(crate) labels: HashMap<Symbol, Label>,
     /// Where `break` and `continue` lead, the innermost last.
     pub(crate) breaks: Vec<NodeId>,
@@ -126,6 +126,8 @@ pub(crate) struct Builder<'a> {
     pub(crate) gives_objects: bool,
     /// Whether some event is about an object.
     pub(crate) has_objects: bool,
+    /// Whether texts say which one of several variables of a name is meant.
+    pub(crate) is_exact: bool,
     pub(crate) graph: Graph,
     /// The end of the path, if some path comes here.
     pub(crate) open: Option<(NodeId, Choice)>,
@@ -152,6 +154,7 @@ impl<'a> Builder<'a> {
             typed: types_of(alloc, program.types, function)?,
             traits: Vec::new(alloc),
             variables: HashMap::new(alloc),
+            used_fields: HashSet::new(alloc),
             tested: HashSet::new(alloc),
             singled: Vec::new(alloc),
             elements: Vec::new(alloc),
@@ -167,7 +170,6 @@ impl<'a> Builder<'a> {
             conditions: Vec::new(alloc),
             orders: Vec::new(alloc),
             singletons: Vec::new(alloc),
-            scope: Vec::new(alloc),
             labels: HashMap::new(alloc),
             breaks: Vec::new(alloc),
             continues: Vec::new(alloc),
@@ -176,6 +178,7 @@ impl<'a> Builder<'a> {
             returns: Vec::new(alloc),
             gives_objects: false,
             has_objects: false,
+            is_exact: true,
             graph: Graph::new(alloc),
             open: None,
         })

@@ -152,6 +152,25 @@ impl<'a> Builder<'a> {
         }
         if callee.own.is_some() && stores_unknown(operands, how) {
             self.assume(site.words)?;
+            self.assume_stored(operands, how, site)?;
+        }
+        Ok(())
+    }
+
+    /// Adds that a function may give up what is in a variable before it stores something there.
+    fn assume_stored(
+        &mut self,
+        operands: &[Operand],
+        how: &[Passing],
+        site: Site,
+    ) -> Result<(), Stop> {
+        for (at, operand) in operands.iter().enumerate() {
+            if let (Operand::Address(local), Passing::Table(Takes::NoObject)) = (
+                *operand,
+                passed(how, at),
+            ) {
+                self.at_site(Event::Assume(local), site)?;
+            }
         }
         Ok(())
     }

@@ -118,13 +118,30 @@ impl<'a> Builder<'a> {
         let symbols = self.symbols;
         let row = match self.tree.expression(self.without_casts(function))? {
             Expression::Name(name) => match tables.row(symbols.text(name)) {
-                Some(row) => row,
-                None => return self.own_callee(name),
+                Some(row) => Some(row),
+                None => match self.own_callee(name) {
+                    Some(callee) => return Some(callee),
+                    None => None,
+                },
             },
-            Expression::Field { name, .. } => tables.field(symbols.text(name))?,
-            _ => return None,
+            Expression::Field { name, .. } => tables.field(symbols.text(name)),
+            _ => None,
+        };
+        let row = match row {
+            Some(row) => row,
+            None => self.row_of_type(function)?,
         };
         Some(Callee { row, own: None })
+    }
+
+    /// Returns what the table says of functions to which a pointer of this type points, as `visitproc`.
+    pub(crate) fn row_of_type(&self, function: ExpressionId) -> Option<&'a Row> {
+        let tables = self.tables;
+        let found = self.type_at(function.index())?;
+        if found.stars > 0 {
+            return None;
+        }
+        tables.field(self.symbols.text(found.symbol))
     }
 
     /// Returns what is known of a function of the program, unless a variable has its name.

@@ -45,6 +45,7 @@ mod singled;
 mod slices;
 mod statements;
 mod stop;
+mod strings;
 mod surroundings;
 mod traits;
 mod usage;

@@ -172,9 +172,9 @@ impl<'a> Builder<'a> {
 
     /// Returns the words of what a `case` asks.
     fn case_words(&mut self, value: ExpressionId, case: ExpressionId) -> Result<Words, Stop> {
-        let mut text = self.text_of(value)?;
+        let mut text = self.written(value)?;
         text.push_str(" == ")?;
-        let case = self.text_of(case)?;
+        let case = self.written(case)?;
         text.push_str(case.as_str())?;
         Ok(self.graph.add_words(text)?)
     }

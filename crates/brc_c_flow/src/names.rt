@@ -1,11 +1,10 @@
 //! The function's parameters and variables.
 
 use crate::building::Builder;
-use crate::reasons::FlowReason;
-use crate::stop::{Stop, unread};
+use crate::stop::Stop;
 use brc_c_graph::LocalName;
 use brc_c_store::{Event, Local};
-use brc_c_text::{Place, Symbol};
+use brc_c_text::Symbol;
 use brc_c_tree::{Declaration, Statement, TypeName};
 
 /// What a variable has.
@@ -58,7 +57,7 @@ impl<'a> Builder<'a> {
                     is_static: false,
                     local: None,
                 };
-                self.add_variable(name, variable, function.place)?;
+                self.add_variable(name, variable)?;
             }
         }
         let tree = self.tree;
@@ -66,7 +65,7 @@ impl<'a> Builder<'a> {
             if let Statement::Declare(list) = statement {
                 for declared in tree.declarations(*list) {
                     let variable = self.declared_variable(declared);
-                    self.add_variable(declared.name, variable, declared.place)?;
+                    self.add_variable(declared.name, variable)?;
                 }
             }
         }
@@ -101,16 +100,11 @@ impl<'a> Builder<'a> {
         }
     }
 
-    /// Adds a variable. Several blocks may each have one of the same name.
-    fn add_variable(&mut self, name: Symbol, variable: Variable, place: Place) -> Result<(), Stop> {
-        match self.variable(name) {
-            Some(known) if known.kind == variable.kind => Ok(()),
-            Some(_) => Err(unread(place, FlowReason::TwoTypes(name))),
-            None => {
-                self.variables.insert(name, variable)?;
-                Ok(())
-            }
+    fn add_variable(&mut self, name: Symbol, variable: Variable) -> Result<(), Stop> {
+        if self.variable(name).is_none() {
+            self.variables.insert(name, variable)?;
         }
+        Ok(())
     }
 
     /// Takes a variable for one of objects.
@@ -174,7 +168,6 @@ impl<'a> Builder<'a> {
             let Some(name) = parameter.name else {
                 continue;
             };
-            self.scope.push(name)?;
             let Some(
                 Variable {
                     kind: Kind::Object,

@@ -4,10 +4,9 @@ use crate::building::Builder;
 use crate::formats::{Item, build_item, parse_item};
 use crate::operand::Want;
 use crate::own::OwnOut;
-use crate::reasons::FlowReason;
 use crate::stop::Stop;
 use brc_c_table::{Row, Takes};
-use brc_c_tree::{Expression, ExpressionId};
+use brc_c_tree::{Expression, ExpressionId, Unary};
 
 /// How an argument is passed.
 #[derive(Clone, Copy)]
@@ -170,7 +169,9 @@ impl<'a> Builder<'a> {
         let Some(format) = ids.get(at) else {
             return Ok(());
         };
-        let text = self.format_text(function, *format)?;
+        let Some(text) = self.format_text(*format) else {
+            return self.unknown_format(takes, function, ids, how);
+        };
         let mut rest = text;
         let mut is_optional = false;
         for _item in 0..text.len() {
@@ -180,8 +181,7 @@ impl<'a> Builder<'a> {
                 build_item(rest)
             };
             let Some(item) = found else {
-                let reason = FlowReason::Format(self.last_name(function));
-                return Err(self.stop_at(*format, reason));
+                return self.unknown_format(takes, function, ids, how);
             };
             is_optional = is_optional || item.begins_optional;
             for _ in 0..item.plain {
@@ -192,6 +192,31 @@ impl<'a> Builder<'a> {
             if rest.is_empty() {
                 break;
             }
+        }
+        Ok(())
+    }
+
+    /// Adds how the other arguments of a format are passed that isn't known: what is stored is lent, as far as is
+    /// known. Of what is built nothing is known.
+    fn unknown_format(
+        &mut self,
+        takes: Takes,
+        function: ExpressionId,
+        ids: &[ExpressionId],
+        how: &mut Vec<Passing>,
+    ) -> Result<(), Stop> {
+        if takes != Takes::ParseFormat {
+            how.clear();
+            return Ok(());
+        }
+        let words = self.words_of(function)?;
+        self.assume(words)?;
+        for place in ids.get(how.len()..).unwrap_or(&[]) {
+            how.push(if self.is_address_of_object(*place) {
+                Passing::Converted
+            } else {
+                Passing::Table(Takes::NoObject)
+            })?;
         }
         Ok(())
     }
@@ -209,9 +234,31 @@ impl<'a> Builder<'a> {
             how.push(passing)?;
             return Ok(());
         };
-        let converter = ids.get(how.len().saturating_sub(1)).copied();
-        how.push(self.converted(converter)?)?;
+        // No object is stored where there is none.
+        let is_object = match ids.get(how.len()) {
+            Some(place) => self.is_address_of_object(*place),
+            None => false,
+        };
+        let found = if is_object {
+            let converter = ids.get(how.len().saturating_sub(1)).copied();
+            self.converted(converter)?
+        } else {
+            Passing::Table(Takes::NoObject)
+        };
+        how.push(found)?;
         Ok(())
+    }
+
+    fn is_address_of_object(&self, id: ExpressionId) -> bool {
+        match self.tree.expression(self.without_casts(id)) {
+            Some(
+                Expression::Unary {
+                    operator: Unary::Address,
+                    operand,
+                },
+            ) => self.is_object(operand),
+            _ => false,
+        }
     }
 
     /// Returns how an argument is passed that a converter sets.
@@ -236,19 +283,5 @@ impl<'a> Builder<'a> {
             ),
             None => false,
         }
-    }
-
-    /// Returns the text of a format, without its quotes. NULL is none.
-    fn format_text(&self, function: ExpressionId, id: ExpressionId) -> Result<&'a [u8], Stop> {
-        if self.constant_in(id) == Some(0) {
-            return Ok(b"");
-        }
-        let symbols = self.symbols;
-        if let Some(Expression::Text(symbol)) = self.tree.expression(self.without_casts(id)) {
-            if let [b'"', inside @ .., b'"'] = symbols.text(symbol) {
-                return Ok(inside);
-            }
-        }
-        Err(self.stop_at(id, FlowReason::Format(self.last_name(function))))
     }
 }

@@ -87,8 +87,12 @@ impl<'a> Builder<'a> {
             return Err(self.stop_at(site.id, FlowReason::Expression));
         };
         if self.cell_read(*id).is_none() {
-            if let Some(reason) = refused(counting, self.origin(*id)) {
-                return Err(self.stop_at(*id, reason));
+            let origin = self.origin(*id);
+            if counting.replaces() && matches!(origin, Origin::Value) {
+                return Err(self.stop_at(*id, FlowReason::Expression));
+            }
+            if is_elsewhere(counting, origin) {
+                return self.count_elsewhere(ids, operands, site);
             }
         }
         let local = self.counted(*id, *operand)?;
@@ -149,6 +153,23 @@ impl<'a> Builder<'a> {
             },
             _ => false,
         }
+    }
+
+    /// Notes that a reference is made, given up or replaced where it isn't followed: nothing is known of it.
+    fn count_elsewhere(
+        &mut self,
+        ids: &[ExpressionId],
+        operands: &[Operand],
+        site: Site,
+    ) -> Result<Operand, Stop> {
+        if let Some(id) = ids.first() {
+            let words = self.words_of(*id)?;
+            self.assume(words)?;
+            if let Some(value) = operands.get(1) {
+                self.stow(*id, *value, site.place)?;
+            }
+        }
+        Ok(Operand::Plain)
     }
 
     /// Gives a variable another value, and gives up what it had.
@@ -255,14 +276,11 @@ impl<'a> Builder<'a> {
     }
 }
 
-/// Returns why the references of an argument can't be counted.
-fn refused(counting: Counting, origin: Origin) -> Option<FlowReason> {
-    match (counting, origin) {
-        (Counting::NewRef | Counting::NewRefOrNull, _) | (_, Origin::Variable) => None,
-        (Counting::Take | Counting::TakeOrNull, Origin::Kept) => None,
-        (_, Origin::Kept) => Some(FlowReason::FieldGivenUp),
-        (_, Origin::Element) => Some(FlowReason::ElementCounted),
-        (_, Origin::Value) if counting.replaces() => Some(FlowReason::Expression),
-        (_, Origin::Value) => None,
+/// Returns whether a reference is counted that an element has, or a field that isn't followed.
+fn is_elsewhere(counting: Counting, origin: Origin) -> bool {
+    match origin {
+        Origin::Kept => counting.gives_up(),
+        Origin::Element => !matches!(counting, Counting::NewRef | Counting::NewRefOrNull),
+        Origin::Variable | Origin::Value => false,
     }
 }

@@ -5,13 +5,15 @@ use crate::expressions::EXPRESSION_DEPTH;
 use crate::operand::{Operand, Want};
 use crate::promoting::is_basic;
 use crate::purpose::{Purpose, Returned, ReturnedValue};
-use crate::reasons::FlowReason;
-use crate::stop::{Stop, unread};
+use crate::stop::Stop;
 use brc_c_store::{Calling, Comparison, Event, Gives, Local, Signs, Test};
 use brc_c_table::Fails;
 use brc_c_text::Place;
-use brc_c_tree::{ExpressionId, Statement};
+use brc_c_tree::{Expression, ExpressionId, Statement};
 use std::alloc::AllocError;
+
+/// How many expressions with a comma behind them are passed.
+const COMMA_LIMIT: usize = 64;
 
 impl<'a> Builder<'a> {
     /// Finds whether the function gives an object: by its type, or since it returns one.
@@ -20,7 +22,7 @@ impl<'a> Builder<'a> {
         let name = self.symbols.text(result.symbol);
         let is_struct = result.stars == 1 && !result.is_function && !is_basic(name);
         let returns_object = self.tree.statements().iter().any(|(statement, _)| match *statement {
-            Statement::Return(Some(value)) => self.is_object(value),
+            Statement::Return(Some(value)) => self.is_object(value) && !self.is_null(value),
             _ => false,
         });
         self.gives_objects = self.types.is_object(self.symbols, result)
@@ -28,6 +30,21 @@ impl<'a> Builder<'a> {
             || (is_struct && returns_object);
         self.has_objects = self.has_objects || self.gives_objects;
         self.find_returned()
+    }
+
+    /// Returns whether an expression is NULL, whatever comes before it.
+    fn is_null(&self, id: ExpressionId) -> bool {
+        let mut found = id;
+        for _turn in 0..COMMA_LIMIT {
+            let Some(Expression::Comma { right, .. }) = self
+                .tree
+                .expression(self.without_casts(found))
+            else {
+                break;
+            };
+            found = right;
+        }
+        self.constant_in(found) == Some(0)
     }
 
     /// Notes the variables whose numbers are returned, where their signs matter.
@@ -71,9 +88,7 @@ impl<'a> Builder<'a> {
                 Want::NOTHING
             };
             let found = self.value(id, want, EXPRESSION_DEPTH)?;
-            if found.object().is_some() {
-                return Err(unread(place, FlowReason::ReturnedAs));
-            }
+            self.returned_as_number(id, found, place)?;
             return self.return_number(found, place);
         }
         let found = self.value(id, Want::ASKED_OBJECT, EXPRESSION_DEPTH)?;
@@ -87,6 +102,21 @@ impl<'a> Builder<'a> {
             Some(local) => self.return_object(local, place),
             None => self.return_none(found, place),
         }
+    }
+
+    /// Notes that an object is returned as something else: nobody knows whose it is then.
+    fn returned_as_number(
+        &mut self,
+        id: ExpressionId,
+        found: Operand,
+        place: Place,
+    ) -> Result<(), Stop> {
+        if let Operand::Object(local) = found {
+            let words = self.words_of(id)?;
+            self.assume(words)?;
+            self.emit(Event::Assume(local), place, None)?;
+        }
+        Ok(())
     }
 
     /// Adds the end of a function that gives NULL, or the definition of a module.

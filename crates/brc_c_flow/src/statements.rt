@@ -39,13 +39,10 @@ impl<'a> Builder<'a> {
                 next,
                 body,
             } => {
-                let scope = self.scope.len();
                 if let Some(first) = first {
                     self.statement(first, inside)?;
                 }
-                self.for_statement(condition, next, body, place, inside)?;
-                self.scope.truncate(scope);
-                Ok(())
+                self.for_statement(condition, next, body, place, inside)
             }
             Statement::Switch { value, body } => self.switch_statement(value, body, place, inside),
             _ => self.leaf_statement(statement, place),
@@ -61,12 +58,10 @@ impl<'a> Builder<'a> {
 
     #[cycle(statement)]
     fn block(&mut self, list: List, depth: usize) -> Result<(), Stop> {
-        let scope = self.scope.len();
         let tree = self.tree;
         for statement in tree.body(list) {
             self.statement(*statement, depth)?;
         }
-        self.scope.truncate(scope);
         Ok(())
     }
 
@@ -131,10 +126,6 @@ impl<'a> Builder<'a> {
     fn declare(&mut self, list: List) -> Result<(), Stop> {
         let tree = self.tree;
         for declared in tree.declarations(list) {
-            if self.scope.iter().any(|name| *name == declared.name) {
-                return Err(unread(declared.place, FlowReason::Shadowed(declared.name)));
-            }
-            self.scope.push(declared.name)?;
             if !declared.is_static {
                 self.initialize(declared)?;
             }
@@ -193,7 +184,8 @@ impl<'a> Builder<'a> {
             | Known::ReturnTrue
             | Known::ReturnFalse
             | Known::ReturnNotImplemented
-            | Known::ReturnRichCompare => {
+            | Known::ReturnRichCompare
+            | Known::ReturnNumber => {
                 self.return_arguments(false, place)?;
                 self.end_call(Event::ReturnPlain, ReturnedValue::Singleton, place)
             }

@@ -5,7 +5,7 @@ use crate::calls::{gives_object, is_cast};
 use crate::constants::{folded, is_singleton};
 use crate::names::Kind;
 use brc_c_text::Symbol;
-use brc_c_tree::{Expression, ExpressionId, Unary};
+use brc_c_tree::{Expression, ExpressionId, TypeName, Unary};
 use std::alloc::AllocError;
 
 /// What is known of an expression.
@@ -134,8 +134,10 @@ impl<'a> Builder<'a> {
             } => { self.is_object(then) || self.is_object(otherwise) }
             Expression::Assign { left, .. } => self.is_object(left),
             Expression::Comma { right, .. } => self.is_object(right),
-            Expression::Field { .. }
-            | Expression::Index { .. }
+            Expression::Field { name, .. } => {
+                self.has_object_type(at) || self.is_used_field(name, self.type_at(at))
+            }
+            Expression::Index { .. }
             | Expression::Unary {
                 operator: Unary::Dereference,
                 ..
@@ -152,10 +154,17 @@ impl<'a> Builder<'a> {
         }
     }
 
-    fn has_object_type(&self, at: usize) -> bool {
+    pub(crate) fn type_at(&self, at: usize) -> Option<TypeName> {
         match self.typed.get(at) {
-            Some(Some(found)) => self.types.is_object(self.symbols, *found),
-            _ => false,
+            Some(found) => *found,
+            None => None,
+        }
+    }
+
+    fn has_object_type(&self, at: usize) -> bool {
+        match self.type_at(at) {
+            Some(found) => self.types.is_object(self.symbols, found),
+            None => false,
         }
     }
 
@@ -171,12 +180,14 @@ impl<'a> Builder<'a> {
                     };
                 }
                 gives_object(name, self.tables.row(name))
+                    || gives_object(b"", self.row_of_type(function))
             }
             Some(Expression::Field { name, .. }) => {
                 let name = self.symbols.text(name);
                 gives_object(name, self.tables.field(name))
+                    || gives_object(b"", self.row_of_type(function))
             }
-            _ => false,
+            _ => gives_object(b"", self.row_of_type(function)),
         }
     }
 

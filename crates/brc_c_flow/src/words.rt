@@ -16,8 +16,16 @@ const LEFT_LIMIT: usize = 1024;
 impl<'a> Builder<'a> {
     /// Returns the words of an expression.
     pub(crate) fn words_of(&mut self, id: ExpressionId) -> Result<Words, Stop> {
-        let text = self.text_of(id)?;
+        let text = self.written(id)?;
         Ok(self.graph.add_words(text)?)
+    }
+
+    /// Returns an expression's text as the source has it.
+    pub(crate) fn written(&mut self, id: ExpressionId) -> Result<String, AllocError> {
+        self.is_exact = false;
+        let text = self.text_of(id);
+        self.is_exact = true;
+        text
     }
 
     /// Returns the words of a name.
@@ -26,7 +34,7 @@ impl<'a> Builder<'a> {
         Ok(self.graph.add_words(text)?)
     }
 
-    /// Returns an expression's text.
+    /// Returns an expression's text. It differs where another variable of the same name is meant.
     pub(crate) fn text_of(&self, id: ExpressionId) -> Result<String, AllocError> {
         let mut text = String::new(self.alloc);
         self.spell(&mut text, id, WORDS_DEPTH)?;
@@ -38,6 +46,17 @@ impl<'a> Builder<'a> {
         text.push_str(spelled.as_str())
     }
 
+    /// Puts a name into words. A variable that isn't the first one of its name has its number behind it.
+    fn spell_name(&self, text: &mut String, symbol: Symbol) -> Result<(), AllocError> {
+        self.spell_symbol(text, symbol)?;
+        let number = symbol.variable();
+        if !self.is_exact || number == 0 {
+            return Ok(());
+        }
+        let mark = format!(in self.alloc; "'{number}")?;
+        text.push_str(mark.as_str())
+    }
+
     #[cycle(spelling)]
     fn spell(&self, text: &mut String, id: ExpressionId, depth: usize) -> Result<(), AllocError> {
         let (Some(inside), Some(expression)) = (depth.checked_sub(1), self.tree.expression(id))
@@ -45,10 +64,9 @@ impl<'a> Builder<'a> {
             return text.push_str("..");
         };
         match expression {
-            Expression::Name(symbol)
-            | Expression::Number(symbol)
-            | Expression::Character(symbol)
-            | Expression::Text(symbol) => self.spell_symbol(text, symbol),
+            Expression::Name(symbol) => self.spell_name(text, symbol),
+            Expression::Number(symbol) | Expression::Character(symbol) | Expression::Text(symbol) =>
+                self.spell_symbol(text, symbol),
             Expression::Unary { operator, operand } => {
                 text.push_str(unary_text(operator))?;
                 self.spell_operand(text, operand, UNARY, inside)

@@ -38,8 +38,13 @@ impl Arguments {
 
 impl<'a> Expander<'a> {
     /// Takes the arguments of a macro with this many parameters, from their opening parenthesis to the closing one. If
-    /// there is none, or there are too many arguments, nothing is taken.
-    pub(crate) fn arguments(&mut self, parameters: usize) -> Result<Option<Arguments>, AllocError> {
+    /// there is none, or there are too many arguments, nothing is taken. The last parameter of a variadic one has all
+    /// that are left, with the commas between them.
+    pub(crate) fn arguments(
+        &mut self,
+        parameters: usize,
+        is_variadic: bool,
+    ) -> Result<Option<Arguments>, AllocError> {
         let mark = self.mark();
         let mut found = Arguments::new(self.alloc);
         let mut taken = Vec::new(self.alloc);
@@ -63,7 +68,10 @@ impl<'a> Expander<'a> {
                     }
                     return Ok(Some(found));
                 }
-            } else if depth == 1 && next.lexeme.is(Punctuator::Comma) {
+            } else if depth == 1
+                && next.lexeme.is(Punctuator::Comma)
+                && !(is_variadic && found.ends.len().saturating_add(1) >= parameters)
+            {
                 found.end_one()?;
                 continue;
             }

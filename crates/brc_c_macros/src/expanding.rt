@@ -150,7 +150,9 @@ impl<'a> Expander<'a> {
     ) -> Result<(), AllocError> {
         let arguments = match found.parameters {
             None => Some(Arguments::new(self.alloc)),
-            Some(count) if self.peeks(Punctuator::LeftParen) => self.arguments(count)?,
+            Some(count) if self.peeks(Punctuator::LeftParen) => {
+                self.arguments(count, found.is_variadic)?
+            }
             Some(_) => None,
         };
         let Some(arguments) = arguments else {
@@ -166,6 +168,7 @@ impl<'a> Expander<'a> {
             self.alloc,
             symbols,
             macros.parts_of(found),
+            macros.rest_of(found),
             place,
             &arguments,
         )?;

@@ -9,7 +9,7 @@ use std::collections::{HashMap, HashSet};
 pub struct Macro {
     /// How many parameters it has, or `None` if it has no parentheses.
     pub parameters: Option<usize>,
-    /// Whether it has `...`. Such a macro isn't expanded.
+    /// Whether it has `...`: its last parameter has all arguments that are left.
     pub is_variadic: bool,
     /// Whether it casts to a pointer to a function. Its name is a function then, and isn't expanded.
     pub is_cast: bool,
@@ -35,7 +35,8 @@ pub struct Macros {
     kept: HashSet<Symbol>,
 }
 
-const PREDEFINED: [(&[u8], &[u8]); 7] = [
+/// What the compiler and Python's own headers define.
+const PREDEFINED: [(&[u8], &[u8]); 17] = [
     (b"__linux__", b"1"),
     (b"__unix__", b"1"),
     (b"__unix", b"1"),
@@ -43,7 +44,20 @@ const PREDEFINED: [(&[u8], &[u8]); 7] = [
     (b"PY_MAJOR_VERSION", b"3"),
     (b"PY_MINOR_VERSION", b"13"),
     (b"PY_SSIZE_T_CLEAN", b"1"),
+    (b"WITH_THREAD", b""),
+    (b"SIZEOF_SHORT", b"2"),
+    (b"SIZEOF_INT", b"4"),
+    (b"SIZEOF_LONG", b"8"),
+    (b"SIZEOF_LONG_LONG", b"8"),
+    (b"SIZEOF_VOID_P", b"8"),
+    (b"SIZEOF_SIZE_T", b"8"),
+    (b"SIZEOF_TIME_T", b"8"),
+    (b"SIZEOF_WCHAR_T", b"4"),
+    (b"SIZEOF_DOUBLE", b"8"),
 ];
+
+/// Macros of Python's headers that make nothing, and whose arguments may be statements.
+const EMPTY: [&[u8]; 2] = [b"PyFPE_START_PROTECT", b"PyFPE_END_PROTECT"];
 
 impl Macros {
     /// Returns the macros of a compiler for Linux and Python 3.13, with a global lock or without one.
@@ -60,6 +74,11 @@ impl Macros {
         };
         for (name, value) in PREDEFINED {
             macros.define(symbols, name, value)?;
+        }
+        for name in EMPTY {
+            let name = symbols.symbol(name)?;
+            let parameters = [Symbol::EMPTY, Symbol::EMPTY];
+            macros.add(symbols, name, Some(parameters.as_slice()), false, &[])?;
         }
         if is_free_threaded {
             macros.define(symbols, b"Py_GIL_DISABLED", b"1")?;
@@ -99,6 +118,15 @@ impl Macros {
         Ok(body)
     }
 
+    /// Returns the parameter that has all arguments that are left.
+    pub(crate) fn rest_of(&self, found: &Macro) -> Option<usize> {
+        if found.is_variadic {
+            found.parameters?.checked_sub(1)
+        } else {
+            None
+        }
+    }
+
     pub(crate) fn parts_of(&self, found: &Macro) -> &[Part] {
         self.parts.get(found.start..found.end).unwrap_or(&[])
     }
@@ -109,8 +137,7 @@ impl Macros {
             return None;
         }
         let found = self.find(lexeme.symbol)?;
-        let is_kept = found.is_variadic
-            || found.is_cast
+        let is_kept = found.is_cast
             || self.kept.contains(&lexeme.symbol)
             || is_pythons(symbols.text(lexeme.symbol));
         if is_kept { None } else { Some(found) }

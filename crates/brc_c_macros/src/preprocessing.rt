@@ -8,7 +8,9 @@ use crate::gluing::glued;
 use crate::headers::Headers;
 use crate::macros::Macros;
 use crate::sources::{Next, Sources};
-use brc_c_text::{Lexeme, LexemeKind, Place, Punctuator, Symbols, TextFault, lexemes_of, scan};
+use brc_c_text::{
+    Lexeme, LexemeKind, Place, Punctuator, Symbol, Symbols, TextFault, lexemes_of, scan,
+};
 use std::alloc::{AllocError, Global};
 
 /// The greatest number of lexemes that are read or made for a source, with its headers.
@@ -326,7 +328,25 @@ fn define(
         if lexeme.kind == LexemeKind::Name {
             parameters.push(lexeme.symbol)?;
         }
-        is_variadic |= lexeme.is(Punctuator::Ellipsis);
+        if lexeme.is(Punctuator::Ellipsis) {
+            is_variadic = true;
+            // `name...` has a name already.
+            if !follows_name(behind, at) {
+                let rest = symbols.find(b"__VA_ARGS__").unwrap_or(Symbol::EMPTY);
+                parameters.push(rest)?;
+            }
+        }
     }
     Ok(())
+}
+
+/// Returns whether a name comes right before the lexeme at a place.
+fn follows_name(lexemes: &[Lexeme], at: usize) -> bool {
+    match at.checked_sub(1) {
+        Some(before) => match lexemes.get(before) {
+            Some(lexeme) => lexeme.kind == LexemeKind::Name,
+            None => false,
+        },
+        None => false,
+    }
 }

@@ -39,4 +39,24 @@ pub(crate) fn is_reserved(name: &[u8]) -> bool {
         || name.starts_with(b"PY_")
         || name.starts_with(b"_PY")
         || name.starts_with(b"__")
+        || is_compilers(name)
+        || OTHERS.contains(&name)
 }
+
+/// Returns whether C keeps the name for compilers, as `_WIN32`.
+fn is_compilers(name: &[u8]) -> bool {
+    match name {
+        [b'_', next, ..] => next.is_ascii_uppercase(),
+        _ => false,
+    }
+}
+
+/// Names of other systems, and of other implementations of Python.
+const OTHERS: [&[u8]; 6] = [
+    b"WIN32",
+    b"MS_WIN32",
+    b"MS_WIN64",
+    b"MS_WINDOWS",
+    b"PYPY_VERSION",
+    b"GRAALVM_PYTHON",
+];

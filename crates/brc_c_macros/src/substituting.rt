@@ -18,11 +18,12 @@ struct Made {
     has_left: bool,
 }
 
-/// Returns what the body of a macro is at a use, which is at `place`.
+/// Returns what the body of a macro is at a use, which is at `place`. `rest` is the parameter of `...`.
 pub(crate) fn substituted(
     alloc: Global,
     symbols: &mut Symbols,
     body: &[Part],
+    rest: Option<usize>,
     place: Reading,
     arguments: &Arguments,
 ) -> Result<Vec<Reading>, AllocError> {
@@ -47,6 +48,9 @@ pub(crate) fn substituted(
         } else if part.lexeme.is(Punctuator::Hash) {
             spells = true;
         } else if let Some(index) = part.parameter {
+            if rest == Some(index) {
+                made.drop_comma(arguments.get(index));
+            }
             made.add_all(symbols, arguments.get(index))?;
         } else {
             made.add(symbols, at_place(&part.lexeme, place))?;
@@ -113,6 +117,17 @@ impl Made {
         self.has_left = true;
         self.all.push(reading)?;
         Ok(())
+    }
+
+    /// Drops the comma of `, ## __VA_ARGS__` if no arguments are left.
+    fn drop_comma(&mut self, argument: &[Reading]) {
+        let is_comma = match self.all.last() {
+            Some(last) => last.lexeme.is(Punctuator::Comma),
+            None => false,
+        };
+        if self.pastes && argument.is_empty() && is_comma {
+            let _ = self.all.pop();
+        }
     }
 
     fn add_all(&mut self, symbols: &mut Symbols, argument: &[Reading]) -> Result<(), AllocError> {

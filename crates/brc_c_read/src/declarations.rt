@@ -3,6 +3,7 @@
 use crate::cursor::Cursor;
 use crate::fields::record_of;
 use crate::parsing::Parser;
+use crate::specifying::Specifiers;
 use crate::stop::Stop;
 use crate::type_names::TypeNames;
 use brc_c_text::{Keyword, Lexeme, LexemeKind, Place, Punctuator, Symbol, Symbols};
@@ -17,6 +18,10 @@ struct Declared {
     place: Place,
     /// Whether parentheses come after it.
     is_prototype: bool,
+    /// Whether it never has another value than its first one.
+    is_constant: bool,
+    /// The string that is its first value.
+    string: Option<Symbol>,
 }
 
 /// Adds what a declaration declares, as far as it is understood. `inside` is what its first braces enclose.
@@ -107,6 +112,7 @@ fn add_value(tree: &mut SourceTree, one: &Declared) -> Result<(), Stop> {
             name: one.name,
             type_name: one.type_name,
             place: one.place,
+            string: if one.is_constant { one.string } else { None },
         })?;
     }
     Ok(())
@@ -150,11 +156,13 @@ fn declared_by(
         return Ok(found);
     };
     for _turn in 0..whole.len() {
-        match parser.declared(specifiers.type_name) {
-            Ok(declared) => found.push(declared)?,
+        let mut declared = match parser.declared(specifiers) {
+            Ok(declared) => declared,
             Err(Stop::NotRead(_)) => break,
             Err(Stop::NoMemory) => return Err(Stop::NoMemory),
-        }
+        };
+        declared.string = parser.first_string();
+        found.push(declared)?;
         parser.skip_value();
         if !parser.cursor.eat(Punctuator::Comma) {
             break;
@@ -163,10 +171,20 @@ fn declared_by(
     Ok(found)
 }
 
+/// Returns whether the last lexeme between two places is `const`: the pointer that follows is constant itself.
+fn ends_with_const(from: Cursor<'_>, to: Cursor<'_>) -> bool {
+    match from.left().saturating_sub(to.left()).checked_sub(1) {
+        Some(last) => from.ahead(last).kind == LexemeKind::Keyword(Keyword::Const),
+        None => false,
+    }
+}
+
 impl<'a> Parser<'a> {
     /// Reads a name with its stars, its dimensions and the parentheses after it.
-    fn declared(&mut self, base: TypeName) -> Result<Declared, Stop> {
-        let mut type_name = self.stars(base);
+    fn declared(&mut self, specifiers: Specifiers) -> Result<Declared, Stop> {
+        let stars = self.cursor;
+        let mut type_name = self.stars(specifiers.type_name);
+        let is_constant = ends_with_const(stars, self.cursor);
         let is_pointer = self.cursor.peek().is(Punctuator::LeftParen)
             && self.cursor.ahead(1).is(Punctuator::Star);
         let name = if is_pointer {
@@ -191,7 +209,21 @@ impl<'a> Parser<'a> {
             type_name,
             place: name.place,
             is_prototype,
+            is_constant: is_constant || (dimensions > 0 && specifiers.is_const),
+            string: None,
         })
+    }
+
+    /// Returns the string that comes next as a value.
+    fn first_string(&self) -> Option<Symbol> {
+        let first = self.cursor.ahead(1);
+        let behind = self.cursor.ahead(2);
+        let is_whole = behind.kind == LexemeKind::End || behind.is(Punctuator::Comma);
+        if self.cursor.peek().is(Punctuator::Equal) && first.kind == LexemeKind::Text && is_whole {
+            Some(first.symbol)
+        } else {
+            None
+        }
     }
 
     /// Passes `=` and the value after it.

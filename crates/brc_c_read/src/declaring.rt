@@ -19,11 +19,15 @@ impl<'a> Parser<'a> {
             if self.cursor.peek().is(Punctuator::Semicolon) {
                 break;
             }
-            let declared = self.declarator(specifiers, depth)?;
+            let mut declared = self.declarator(specifiers)?;
             if is_typedef {
                 self.declare_type(declared.name)?;
+            } else if specifiers.is_extern || self.passes_parameters()? {
+                self.declare_outside(declared.name)?;
             } else {
-                self.declare(declared.name)?;
+                // Its first value may speak of it.
+                declared.name = self.declare(declared.name)?;
+                declared.value = self.first_value_of(depth)?;
                 found.push(declared)?;
             }
             if !self.cursor.eat(Punctuator::Comma) {
@@ -35,8 +39,8 @@ impl<'a> Parser<'a> {
         self.statement_at(Statement::Declare(list), place)
     }
 
-    /// Reads a variable's stars, name, dimensions and first value.
-    fn declarator(&mut self, specifiers: Specifiers, depth: usize) -> Result<Declaration, Stop> {
+    /// Reads a variable's stars, name and dimensions.
+    fn declarator(&mut self, specifiers: Specifiers) -> Result<Declaration, Stop> {
         let place = self.cursor.peek().place;
         let mut type_name = self.stars(specifiers.type_name);
         let name = if self.cursor.peek().is(Punctuator::LeftParen) {
@@ -51,19 +55,38 @@ impl<'a> Parser<'a> {
         let dimensions = self.dimensions()?;
         type_name.stars = type_name.stars.saturating_add(dimensions);
         self.attributes()?;
-        let value = if self.cursor.eat(Punctuator::Equal) {
-            Some(self.first_value(depth)?)
-        } else {
-            None
-        };
         Ok(Declaration {
             name: name.symbol,
             type_name,
             dimensions,
             is_static: specifiers.is_static,
-            value,
+            is_const: specifiers.is_const,
+            value: None,
             place,
         })
+    }
+
+    /// Passes the parameters of a function that is declared among variables, and returns whether there are any.
+    fn passes_parameters(&mut self) -> Result<bool, Stop> {
+        let next = self.cursor.peek();
+        if !next.is(Punctuator::LeftParen) {
+            return Ok(false);
+        }
+        if !self
+            .cursor
+            .skip_nested(Punctuator::LeftParen, Punctuator::RightParen)
+        {
+            return Err(not_read(next.place, Reason::NotClosed));
+        }
+        Ok(true)
+    }
+
+    /// Reads a variable's first value, if it has one.
+    fn first_value_of(&mut self, depth: usize) -> Result<Option<ExpressionId>, Stop> {
+        if !self.cursor.eat(Punctuator::Equal) {
+            return Ok(None);
+        }
+        Ok(Some(self.first_value(depth)?))
     }
 
     /// Passes the dimensions of an array, and returns how many it has.

@@ -5,7 +5,7 @@ use crate::parsing::Parser;
 use crate::stop::Stop;
 use crate::type_names::TypeNames;
 use brc_c_text::{Lexeme, LexemeKind, Place, Punctuator, Symbols};
-use brc_c_tree::{Field, Record, TypeName};
+use brc_c_tree::{Field, Record, TypeName, names_objects};
 use std::alloc::Global;
 
 /// Reads the fields between the braces of a struct or a union. Those of one inside it are fields too, and
@@ -53,7 +53,9 @@ impl<'a> Parser<'a> {
         let type_name = self.field_type()?;
         for _turn in 0..self.cursor.left() {
             let field = self.field(type_name)?;
-            if self.symbols.text(field.name) == b"ob_base".as_slice() {
+            if self.symbols.text(field.name) == b"ob_base".as_slice()
+                || (record.fields.is_empty() && self.is_struct_of_object(field.type_name))
+            {
                 record.is_object = true;
             }
             record.fields.push(field)?;
@@ -65,6 +67,13 @@ impl<'a> Parser<'a> {
             }
         }
         Ok(())
+    }
+
+    /// Returns whether the type is that of an object itself, and not of a pointer to one.
+    fn is_struct_of_object(&self, type_name: TypeName) -> bool {
+        type_name.stars == 0
+            && !type_name.is_function
+            && names_objects(self.symbols.text(type_name.symbol))
     }
 
     /// Reads the type of a field. The body of a struct inside isn't passed over.

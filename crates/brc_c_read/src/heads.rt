@@ -1,6 +1,7 @@
 //! Heads of functions.
 
 use crate::cursor::Cursor;
+use crate::listing::without_names;
 use crate::parsing::Parser;
 use crate::stop::Stop;
 use crate::type_names::TypeNames;
@@ -18,8 +19,8 @@ pub(crate) struct Head<'a> {
 
 /// Returns the parts of a head, or `None` if it isn't one.
 pub(crate) fn head_of<'a>(symbols: &Symbols, lexemes: &'a [Lexeme]) -> Option<Head<'a>> {
-    let mut end = lexemes.len();
     // Attributes may follow the parameters.
+    let mut end = without_names(lexemes).len();
     for _turn in 0..lexemes.len() {
         let open = opening(lexemes.get(..end)?)?;
         let at = open.checked_sub(1)?;

@@ -87,10 +87,12 @@ impl<'a> Parser<'a> {
     pub(crate) fn for_statement(&mut self, depth: usize) -> Result<StatementId, Stop> {
         let place = self.cursor.take().place;
         self.cursor.expect(Punctuator::LeftParen)?;
+        let scope = self.begin_scope();
         let first = self.first_of_for(depth)?;
         let condition = self.expression_before(Punctuator::Semicolon, depth)?;
         let next = self.expression_before(Punctuator::RightParen, depth)?;
         let body = self.nested(depth)?;
+        self.end_scope(scope);
         self.statement_at(
             Statement::For {
                 first,

@@ -89,6 +89,9 @@ impl Listing {
         if is_head(head) {
             self.items.push(Item::Function { start, open, end })?;
             self.begin(end);
+        } else if head.is_empty() {
+            // They belong to nothing that is understood, as those of a head in the style of K&R.
+            self.begin(end);
         } else if self.braces.is_none() {
             // The first braces count: those of a struct come before those of a value.
             self.braces = Some((open, end));
@@ -116,8 +119,20 @@ fn is_linkage(head: &[Lexeme]) -> bool {
 
 /// Returns whether braces after these lexemes are the body of a function.
 fn is_head(head: &[Lexeme]) -> bool {
-    let Some(last) = head.last() else {
+    let Some(last) = without_names(head).last() else {
         return false;
     };
     last.is(Punctuator::RightParen) && !head.iter().any(|lexeme| lexeme.is(Punctuator::Equal))
+}
+
+/// Returns a head without the names at its end, which are macros for attributes.
+pub(crate) fn without_names(head: &[Lexeme]) -> &[Lexeme] {
+    let mut found = head;
+    for _turn in 0..head.len() {
+        match found {
+            [before @ .., last] if last.kind == LexemeKind::Name => found = before,
+            _ => break,
+        }
+    }
+    found
 }

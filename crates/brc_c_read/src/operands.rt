@@ -149,7 +149,7 @@ impl<'a> Parser<'a> {
     fn simple_operand(&mut self) -> Result<ExpressionId, Stop> {
         let first = self.cursor.peek();
         let expression = match first.kind {
-            LexemeKind::Name => Expression::Name(first.symbol),
+            LexemeKind::Name => Expression::Name(self.meant(first.symbol)),
             LexemeKind::Number => Expression::Number(first.symbol),
             LexemeKind::Character => Expression::Character(first.symbol),
             LexemeKind::Text => Expression::Text(first.symbol),

@@ -7,7 +7,15 @@ use brc_c_tree::{
     Expected, Expression, ExpressionId, List, Reason, Statement, StatementId, Tree, names_objects,
 };
 use std::alloc::{AllocError, Global};
-use std::collections::HashSet;
+use std::collections::{HashMap, HashSet};
+
+/// A variable of a block that is being read.
+#[derive(Clone, Copy, Debug)]
+struct InScope {
+    name: Symbol,
+    /// The symbol that it has in the tree.
+    symbol: Symbol,
+}
 
 /// What reads the body of a function.
 #[derive(Drop)]
@@ -16,8 +24,12 @@ pub(crate) struct Parser<'a> {
     pub(crate) cursor: Cursor<'a>,
     pub(crate) symbols: &'a Symbols,
     pub(crate) types: &'a TypeNames,
-    /// The variables and parameters that are declared so far.
-    pub(crate) variables: HashSet<Symbol>,
+    /// The names of the variables and parameters that are declared so far, each with the number of its next one, ..
+    variables: HashMap<Symbol, u32>,
+    /// .. and those whose blocks are being read, the innermost last.
+    scope: Vec<InScope>,
+    /// How many blocks are being read.
+    blocks: u32,
     /// The types that the function itself declares.
     own_types: HashSet<Symbol>,
     pub(crate) tree: Tree,
@@ -37,16 +49,57 @@ impl<'a> Parser<'a> {
             cursor,
             symbols,
             types,
-            variables: HashSet::new(alloc),
+            variables: HashMap::new(alloc),
+            scope: Vec::new(alloc),
+            blocks: 0,
             own_types: HashSet::new(alloc),
             tree: Tree::new(alloc),
             pending: Vec::new(alloc),
         }
     }
 
-    pub(crate) fn declare(&mut self, name: Symbol) -> Result<(), AllocError> {
-        self.variables.insert(name)?;
+    /// Adds a variable of the block that is being read, and returns its symbol: the name's own, unless it is another
+    /// variable of that name, or one outside the function may be meant before its block and after it.
+    pub(crate) fn declare(&mut self, name: Symbol) -> Result<Symbol, AllocError> {
+        let number = match self.variables.get(&name).copied() {
+            Some(next) => next,
+            None if self.blocks > 1 => 1,
+            None => 0,
+        };
+        let symbol = name.of_variable(number);
+        self.variables.insert(name, number.saturating_add(1))?;
+        self.scope.push(InScope { name, symbol })?;
+        Ok(symbol)
+    }
+
+    /// Says that a name means what is declared outside the function.
+    pub(crate) fn declare_outside(&mut self, name: Symbol) -> Result<(), AllocError> {
+        let next = self.variables.get(&name).copied().unwrap_or(1);
+        self.variables.insert(name, next)?;
+        self.scope.push(InScope { name, symbol: name })?;
         Ok(())
+    }
+
+    /// Returns the symbol of the variable that a name means, or the name's own.
+    pub(crate) fn meant(&self, name: Symbol) -> Symbol {
+        for known in self.scope.iter().rev() {
+            if known.name == name {
+                return known.symbol;
+            }
+        }
+        name
+    }
+
+    /// Begins a block, and returns where its variables begin.
+    pub(crate) fn begin_scope(&mut self) -> usize {
+        self.blocks = self.blocks.saturating_add(1);
+        self.scope.len()
+    }
+
+    /// Ends a block, whose variables begin there.
+    pub(crate) fn end_scope(&mut self, start: usize) {
+        self.blocks = self.blocks.saturating_sub(1);
+        self.scope.truncate(start);
     }
 
     pub(crate) fn declare_type(&mut self, name: Symbol) -> Result<(), AllocError> {
@@ -73,7 +126,7 @@ impl<'a> Parser<'a> {
     }
 
     pub(crate) fn is_variable(&self, lexeme: &Lexeme) -> bool {
-        self.variables.contains(&lexeme.symbol)
+        self.variables.get(&lexeme.symbol).is_some()
     }
 
     pub(crate) fn expression_at(

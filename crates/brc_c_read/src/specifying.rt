@@ -10,6 +10,8 @@ use brc_c_tree::{Expected, Reason, Tag, TypeName, names_objects};
 pub(crate) struct Specifiers {
     pub(crate) type_name: TypeName,
     pub(crate) is_static: bool,
+    pub(crate) is_extern: bool,
+    pub(crate) is_const: bool,
 }
 
 impl<'a> Parser<'a> {
@@ -23,6 +25,8 @@ impl<'a> Parser<'a> {
                 is_function: false,
             },
             is_static: false,
+            is_extern: false,
+            is_const: false,
         };
         let mut has_word = false;
         for _turn in 0..self.cursor.left() {
@@ -31,6 +35,8 @@ impl<'a> Parser<'a> {
                 LexemeKind::Keyword(keyword) if keyword.is_qualifier() => {
                     self.cursor.take();
                     found.is_static |= keyword == Keyword::Static;
+                    found.is_extern |= keyword == Keyword::Extern;
+                    found.is_const |= keyword == Keyword::Const;
                 }
                 LexemeKind::Keyword(keyword) if keyword.has_tag() => {
                     found.type_name = self.tagged(keyword)?;
@@ -207,6 +213,10 @@ impl<'a> Parser<'a> {
     /// parenthesis after it doesn't end an operand.
     fn is_unknown_cast(&self, first: &Lexeme) -> bool {
         let behind = self.behind_stars(2);
+        // The array of pointers that follows is one of values in braces.
+        if behind > 2 && self.cursor.ahead(behind).is(Punctuator::LeftBracket) {
+            return true;
+        }
         if !self.cursor.ahead(behind).is(Punctuator::RightParen) {
             return false;
         }
@@ -258,6 +268,9 @@ impl<'a> Parser<'a> {
     pub(crate) fn is_declaration(&self) -> bool {
         let first = self.cursor.peek();
         let next = self.cursor.ahead(1);
+        if first.kind == LexemeKind::Name && self.is_attribute(&first) {
+            return true;
+        }
         if self.is_type(&first) && !ends_operand(&next) {
             return !next.is(Punctuator::LeftParen) || self.cursor.ahead(2).is(Punctuator::Star);
         }
@@ -314,11 +327,17 @@ fn sounds_like_type(name: &[u8]) -> bool {
 }
 
 /// Words that begin an attribute.
-const ATTRIBUTES: [&[u8]; 4] = [
+const ATTRIBUTES: [&[u8]; 10] = [
     b"__attribute__",
     b"__attribute",
     b"__declspec",
     b"__extension__",
+    b"__thread",
+    b"_Thread_local",
+    b"thread_local",
+    b"_Alignas",
+    b"alignas",
+    b"Py_ALIGNED",
 ];
 
 /// The names of the attribute that calls a function where a variable ends.

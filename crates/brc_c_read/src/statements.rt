@@ -10,6 +10,7 @@ impl<'a> Parser<'a> {
     /// Reads a statement, in which at most `depth` others may be nested.
     #[cycle(statement)]
     pub(crate) fn statement(&mut self, depth: usize) -> Result<StatementId, Stop> {
+        self.skip_standard_attribute();
         let first = self.cursor.peek();
         match first.kind {
             LexemeKind::Punctuator(Punctuator::LeftBrace) => self.block(depth),
@@ -18,6 +19,16 @@ impl<'a> Parser<'a> {
                 self.keyword_statement(keyword, depth)
             }
             _ => self.simple_statement(depth),
+        }
+    }
+
+    /// Passes an attribute of a statement, as `[[fallthrough]]`.
+    fn skip_standard_attribute(&mut self) {
+        let is_one = self.cursor.peek().is(Punctuator::LeftBracket)
+            && self.cursor.ahead(1).is(Punctuator::LeftBracket);
+        if is_one {
+            self.cursor
+                .skip_nested(Punctuator::LeftBracket, Punctuator::RightBracket);
         }
     }
 
@@ -35,6 +46,7 @@ impl<'a> Parser<'a> {
     pub(crate) fn block(&mut self, depth: usize) -> Result<StatementId, Stop> {
         let place = self.cursor.peek().place;
         self.cursor.expect(Punctuator::LeftBrace)?;
+        let scope = self.begin_scope();
         let mut all = Vec::new(self.alloc);
         // Each turn takes a lexeme.
         for _turn in 0..self.cursor.left() {
@@ -47,6 +59,7 @@ impl<'a> Parser<'a> {
         if !self.cursor.eat(Punctuator::RightBrace) {
             return Err(not_read(place, Reason::NotClosed));
         }
+        self.end_scope(scope);
         self.block_at(all.as_slice(), place)
     }
 
@@ -123,7 +136,7 @@ impl<'a> Parser<'a> {
     }
 
     /// Returns whether the expression may be a macro that brings its own semicolon: a name in capitals, or one of
-    /// Python's, alone or with arguments.
+    /// Python's or C's, alone or with arguments.
     fn is_macro(&self, value: ExpressionId, first: &Lexeme) -> bool {
         let is_plain = match self.tree.expression(value) {
             Some(Expression::Name(_)) => true,
@@ -150,5 +163,5 @@ fn is_capital(name: &[u8]) -> bool {
 }
 
 fn is_pythons(name: &[u8]) -> bool {
-    name.starts_with(b"Py_") || name.starts_with(b"_Py_")
+    name.starts_with(b"Py_") || name.starts_with(b"_Py_") || name == b"_Pragma".as_slice()
 }

@@ -27,7 +27,7 @@ fn leaves(alloc: Global, source: &str, wanted: &str) -> Result<(), Fail> {
     same(source, str::from_utf8(left.as_slice())?, wanted)
 }
 
-const ROWS: [(&str, &str); 24] = [
+const ROWS: [(&str, &str); 29] = [
     ("a\nb", "a b "),
     ("#define X 1 + 2\nX X", "1 + 2 1 + 2 "),
     ("#define X X Y\nX", "X Y "),
@@ -37,10 +37,24 @@ const ROWS: [(&str, &str); 24] = [
     ("#define F(a) #a\nF(x + \"y\")", "\"x + \\\"y\\\"\" "),
     ("#define F(a, b) a ## b ## _c\nF(x, y)", "xy_c "),
     ("#define F(a, b) [a ## b]\nF(, y) F(x,)", "[ y ] [ x ] "),
-    ("#define F(a, ...) a\nF(1, 2)", "F ( 1 , 2 ) "),
+    ("#define F(a, ...) a\nF(1, 2)", "1 "),
+    (
+        "#define F(...) [__VA_ARGS__]\nF() F(1, (2, 3), 4)",
+        "[ ] [ 1 , ( 2 , 3 ) , 4 ] ",
+    ),
+    ("#define F(a, b...) a b\nF(1, 2, 3) F(4)", "1 2 , 3 4 "),
+    (
+        "#define F(a, ...) g(a, ## __VA_ARGS__)\nF(1) F(1, 2)",
+        "g ( 1 ) g ( 1 , 2 ) ",
+    ),
+    ("#define F(...) #__VA_ARGS__\nF(a, b)", "\"a, b\" "),
     ("#define F() 5\nF()", "5 "),
     ("#define A B\n#define B A\nA", "A "),
     ("#define Py_INCREF(x) x\nPy_INCREF(1)", "Py_INCREF ( 1 ) "),
+    (
+        "PyFPE_START_PROTECT(\"add\", return 0)\nx PyFPE_END_PROTECT(x)",
+        "x ",
+    ),
     ("#define G (*(int (*)(int))T[0])\nG(1)", "G ( 1 ) "),
     ("#if 1\na\n#else\nb\n#endif", "a "),
     (

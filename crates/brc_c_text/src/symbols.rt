@@ -3,12 +3,33 @@ use std::alloc::{AllocError, Global};
 use std::collections::HashMap;
 
 /// A symbol of a program: what a token spells. Two tokens have the same symbol exactly if they have the same bytes.
+/// Where several variables of a function have one name, each has a symbol of its own.
 #[derive(Clone, Copy, Debug, PartialEq, Eq, Hash)]
-pub struct Symbol(usize);
+pub struct Symbol {
+    number: usize,
+    variable: u32,
+}
 
 impl Symbol {
     /// The symbol without any bytes.
-    pub const EMPTY: Symbol = Symbol(0);
+    pub const EMPTY: Symbol = Symbol {
+        number: 0,
+        variable: 0,
+    };
+
+    /// Returns the symbol of one of a function's variables that have this name: they are counted from 0, which is the
+    /// symbol of the name itself.
+    pub fn of_variable(self, variable: u32) -> Symbol {
+        Symbol {
+            number: self.number,
+            variable,
+        }
+    }
+
+    /// Returns which of the variables of its name it is.
+    pub fn variable(self) -> u32 {
+        self.variable
+    }
 }
 
 /// Where a symbol's bytes are, and the keyword that they spell.
@@ -45,7 +66,10 @@ impl Symbols {
             return Ok(*symbol);
         }
         let alloc = *self.bytes.allocator();
-        let symbol = Symbol(self.entries.len());
+        let symbol = Symbol {
+            number: self.entries.len(),
+            variable: 0,
+        };
         let start = self.bytes.len();
         self.bytes.extend_from_slice(text)?;
         self.entries.push(Entry {
@@ -64,7 +88,7 @@ impl Symbols {
 
     /// Returns the bytes of a symbol. A symbol of another program may have none.
     pub fn text(&self, symbol: Symbol) -> &[u8] {
-        match self.entries.get(symbol.0) {
+        match self.entries.get(symbol.number) {
             Some(entry) => self.bytes.get(entry.start..entry.end).unwrap_or(b""),
             None => b"",
         }
@@ -72,6 +96,6 @@ impl Symbols {
 
     /// Returns the keyword that a symbol is.
     pub fn keyword(&self, symbol: Symbol) -> Option<Keyword> {
-        self.entries.get(symbol.0)?.keyword
+        self.entries.get(symbol.number)?.keyword
     }
 }

@@ -14,6 +14,8 @@ pub enum Known {
     ReturnFalse,
     ReturnNotImplemented,
     ReturnRichCompare,
+    /// `Py_RETURN_NAN` or `Py_RETURN_INF`
+    ReturnNumber,
     Unreachable,
     Visit,
     TrashcanBegin,
@@ -37,6 +39,8 @@ const NAMES: &[(&[u8], Known)] = &[
     (b"Py_RETURN_FALSE", Known::ReturnFalse),
     (b"Py_RETURN_NOTIMPLEMENTED", Known::ReturnNotImplemented),
     (b"Py_RETURN_RICHCOMPARE", Known::ReturnRichCompare),
+    (b"Py_RETURN_NAN", Known::ReturnNumber),
+    (b"Py_RETURN_INF", Known::ReturnNumber),
     (b"Py_UNREACHABLE", Known::Unreachable),
     (b"Py_VISIT", Known::Visit),
     (b"Py_TRASHCAN_BEGIN", Known::TrashcanBegin),

@@ -15,7 +15,7 @@ pub struct Field {
 /// A struct or a union with its fields.
 #[derive(Drop)]
 pub struct Record {
-    /// Whether it begins as an object does: with `PyObject_HEAD`, `PyObject_VAR_HEAD` or `ob_base`.
+    /// Whether it begins as an object does: with `PyObject_HEAD`, `PyObject_VAR_HEAD`, `ob_base` or an object's struct.
     pub is_object: bool,
     pub fields: Vec<Field>,
 }
@@ -51,6 +51,8 @@ pub struct Variable {
     pub name: Symbol,
     pub type_name: TypeName,
     pub place: Place,
+    /// The string, with its quotes, that it always has.
+    pub string: Option<Symbol>,
 }
 
 /// What is read of a source.

@@ -57,6 +57,8 @@ pub struct Declaration {
     /// How many dimensions it has as an array.
     pub dimensions: u32,
     pub is_static: bool,
+    /// Whether `const` is among its specifiers.
+    pub is_const: bool,
     pub value: Option<ExpressionId>,
     pub place: Place,
 }

@@ -3,7 +3,7 @@ use brc_c_tree::{Body, Function, Statement, TypeName};
 use std::alloc::{AllocError, Global};
 use std::collections::HashMap;
 
-/// Returns the types of a function's parameters and variables. If blocks have several of one name, the first one holds.
+/// Returns the types of a function's parameters and variables.
 pub(crate) fn locals_of(
     alloc: Global,
     function: &Function,

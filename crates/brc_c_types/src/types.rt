@@ -27,6 +27,8 @@ pub struct Types {
     pub(crate) aliases: HashMap<Symbol, TypeName>,
     results: HashMap<Symbol, TypeName>,
     variables: HashMap<Symbol, TypeName>,
+    /// The strings that variables always have.
+    strings: HashMap<Symbol, Symbol>,
 }
 
 impl Types {
@@ -38,6 +40,7 @@ impl Types {
             aliases: HashMap::new(alloc),
             results: HashMap::new(alloc),
             variables: HashMap::new(alloc),
+            strings: HashMap::new(alloc),
         };
         types.add_records(tree)?;
         for alias in &tree.aliases {
@@ -51,6 +54,9 @@ impl Types {
         }
         for variable in &tree.variables {
             add(&mut types.variables, variable.name, variable.type_name)?;
+            if let Some(string) = variable.string {
+                types.strings.insert(variable.name, string)?;
+            }
         }
         Ok(types)
     }
@@ -94,6 +100,11 @@ impl Types {
     /// Returns what a function of the source gives.
     pub fn result_of(&self, function: Symbol) -> Option<TypeName> {
         self.results.get(&function).copied()
+    }
+
+    /// Returns the string, with its quotes, that a variable outside functions always has.
+    pub fn string_of(&self, name: Symbol) -> Option<Symbol> {
+        self.strings.get(&name).copied()
     }
 
     /// Returns the type of a variable outside functions.

@@ -71,6 +71,18 @@ PyDict_MergeFromSeq2 int bb- neg runs
 PyODict_DelItem int bb neg runs
 PyODict_New new . null pure
 PyODict_SetItem int bkk neg runs
+PyODict_Check int b none pure
+PyODict_CheckExact int b none pure
+PyODict_Contains int bb less runs
+PyODict_GetItem item 1 bb null pure
+PyODict_GetItemWithError item 1 bb null runs
+PyODict_GetItemString item 1 b- null pure
+PyODict_SIZE other b none pure
+PyODict_Size int b less pure
+PyDictKeys_Check int b none pure
+PyDictItems_Check int b none pure
+PyDictValues_Check int b none pure
+PyDictViewSet_Check int b none pure
 PySet_New new n null runs
 PyFrozenSet_New new n null runs
 PySet_Size int b less pure
@@ -166,6 +178,12 @@ PyNumber_ToBase new b- null runs
 PyLong_AS_LONG other b none pure
 PyFloat_GetInfo new . null pure
 PyUnicode_Check int b none pure
+PyUnicode_CHECK_INTERNED other b none pure
+PyUnicode_IS_COMPACT other b none pure
+PyUnicode_IS_COMPACT_ASCII other b none pure
+PyUnicode_IS_READY other b none pure
+PyUnicode_WSTR_LENGTH other b none pure
+PyUnicode_AS_DATA other b none pure
 PyUnicode_CheckExact int b none pure
 PyUnicode_FromString new - null pure
 PyUnicode_FromStringAndSize new -- null pure
@@ -207,6 +225,7 @@ PyUnicode_DecodeASCII new --- null runs
 PyUnicode_DecodeLatin1 new --- null runs
 PyUnicode_Decode new ---- null runs
 PyUnicode_DecodeUTF8Stateful new ---- null runs
+PyUnicode_DecodeCodePageStateful new ----- null runs
 PyUnicode_DecodeUTF16 new ---- null runs
 PyUnicode_DecodeUTF16Stateful new ----- null runs
 PyUnicode_DecodeUTF32 new ---- null runs
@@ -301,6 +320,7 @@ PyByteArray_Resize int b- neg pure
 PyObject_CheckBuffer int b none pure
 PyBuffer_FillInfo int -n---- neg pure
 PyMemoryView_Check int b none pure
+PyPickleBuffer_Check int b none pure
 PyMemoryView_FromMemory new --- null pure
 PyMemoryView_FromBuffer new - null pure
 PyMemoryView_GET_BUFFER other b none pure
@@ -361,24 +381,4 @@ PyException_GetTraceback new b maybe pure
 PyException_GetCause new b maybe pure
 PyException_GetContext new b maybe pure
 PyExceptionClass_Check int b none pure
-PyExceptionInstance_Class part 1 b none pure
-PyExceptionInstance_Check int b none pure
-PyTraceBack_Check int b none pure
-PyErr_Display void nnn none runs
-PyErr_GetHandledException new . maybe pure
-PyErr_NormalizeException void xxx none runs
-PyErr_ProgramText new -- maybe runs
-PyErr_ProgramTextObject new b- maybe runs
-PyErr_RangedSyntaxLocationObject void b---- none runs
-PyErr_SetExcFromWindowsErrWithFilename null b-- none pure
-PyErr_SetExcFromWindowsErrWithFilenameObjects null b-nn none runs
-PyErr_SetFromErrnoWithFilenameObjects null bnn none runs
-PyErr_SetFromWindowsErrWithFilename null -- none pure
-PyErr_SetHandledException void n none pure
-PyErr_SetImportErrorSubclass null bbnn none runs
-PyErr_SyntaxLocationObject void b-- none runs
-PyErr_WarnExplicit int b----n neg runs
-PyErr_WarnExplicitFormat int b---n-= neg runs
-PyErr_WarnExplicitObject int bbb-nn neg runs
-PyExceptionClass_Name other b none pure
 ";

@@ -1,6 +1,26 @@
 //! The rows of `api.txt`. `docs/api_table.py --write` writes this file.
 
 pub const ROWS: &str = "
+PyExceptionInstance_Class part 1 b none pure
+PyExceptionInstance_Check int b none pure
+PyTraceBack_Check int b none pure
+PyErr_Display void nnn none runs
+PyErr_GetHandledException new . maybe pure
+PyErr_NormalizeException void xxx none runs
+PyErr_ProgramText new -- maybe runs
+PyErr_ProgramTextObject new b- maybe runs
+PyErr_RangedSyntaxLocationObject void b---- none runs
+PyErr_SetExcFromWindowsErrWithFilename null b-- none pure
+PyErr_SetExcFromWindowsErrWithFilenameObjects null b-nn none runs
+PyErr_SetFromErrnoWithFilenameObjects null bnn none runs
+PyErr_SetFromWindowsErrWithFilename null -- none pure
+PyErr_SetHandledException void n none pure
+PyErr_SetImportErrorSubclass null bbnn none runs
+PyErr_SyntaxLocationObject void b-- none runs
+PyErr_WarnExplicit int b----n neg runs
+PyErr_WarnExplicitFormat int b---n-= neg runs
+PyErr_WarnExplicitObject int bbb-nn neg runs
+PyExceptionClass_Name other b none pure
 PyTraceBack_Here int b neg pure
 PyTraceBack_Print int nb neg runs
 PyUnicodeDecodeError_GetEncoding new b null pure
@@ -30,6 +50,7 @@ PyType_GenericAlloc new b- null pure
 PyObject_New new -- null pure
 PyObject_NEW new -- null pure
 PyObject_GC_New new -- null pure
+PyObject_NEW_VAR new --- null pure
 PyObject_GC_Track void b none pure
 PyObject_GC_UnTrack void b none pure
 PyObject_Init same 1 b- none pure
@@ -42,9 +63,10 @@ PyMem_RawFree void - none pure
 PyMem_New other -- none pure
 PyObject_DEL free b none pure
 PyObject_NewVar new --- null pure
-PyObject_NEW_VAR new --- null pure
 PyObject_GC_NewVar new --- null pure
 PyObject_InitVar same 1 b-- none pure
+PyObject_INIT same 1 b- none pure
+PyObject_INIT_VAR same 1 b-- none pure
 PyObject_IS_GC int b none pure
 PyObject_CallFinalizerFromDealloc int b neg runs
 PyObject_CallFinalizer void b none runs
@@ -85,6 +107,9 @@ PyMapping_SetItemString int b-b neg runs
 PyMapping_GetOptionalItem int bbo miss runs
 PyMapping_HasKey int bb none runs
 PyIter_Check int b none pure
+PySeqIter_Check int b none pure
+PyCallIter_Check int b none pure
+PyRange_Check int b none pure
 PyIter_Next new b null runs
 PySlice_New new nnn null pure
 PySeqIter_New new b null pure
@@ -136,6 +161,7 @@ PyObject_Format new bn null runs
 PyObject_Dir new n null runs
 PyObject_Type new b none pure
 PyObject_Hash int b less runs
+PyObject_GenericHash other b none pure
 PyObject_IsTrue int b less runs
 PyObject_Not int b less runs
 PyObject_IsInstance int bb less runs
@@ -298,6 +324,9 @@ PyType_GetModule part 1 b null pure
 PyType_GetModuleByDef part 1 b- null pure
 PyType_Ready int b neg pure
 PyType_Check int b none pure
+PyType_FastSubclass int b- none pure
+PyDescr_NAME part 1 b none pure
+PyDescr_TYPE part 1 b none pure
 PyType_IsSubtype int bb none pure
 PyType_GenericNew new bnn null runs
 PyType_FromSpec new - null runs
@@ -326,6 +355,10 @@ PyWrapper_New new bb null pure
 PyCFunction_New new -n null pure
 PyCFunction_NewEx new -nn null pure
 PyCFunction_Check int b none pure
+PyCFunction_CheckExact int b none pure
+PyCMethod_Check int b none pure
+PyCMethod_CheckExact int b none pure
+PyCell_Check int b none pure
 PyCFunction_GET_FLAGS other b none pure
 PyMethod_New new bb null pure
 PyMethod_GET_FUNCTION part 1 b none pure
@@ -341,44 +374,11 @@ PyContextVar_New new -n null pure
 PyContextVar_Get int bno neg pure
 PyContextVar_Set new bb null pure
 PyCFunction_GET_SELF part 1 b none pure
+PyCFunction_GET_CLASS part 1 b maybe pure
 PyCFunction_GetFunction other b none pure
 PyCFunction_GET_FUNCTION other b none pure
 PyMethod_Check int b none pure
 PyFunction_Check int b none pure
 PyWeakref_Check int b none pure
 PyWeakref_CheckRef int b none pure
-PyWeakref_GET_OBJECT item 1 b none pure
-PyContext_CopyCurrent new . null pure
-PyContext_Enter int b neg pure
-PyContext_Exit int b neg pure
-PyCFunction_Call new bbn null runs
-PyCFunction_GetFlags int b none pure
-PyCFunction_GetSelf part 1 b null pure
-PyCMethod_New new -nnn null pure
-PyCell_GET lent b none pure
-PyCell_SET void bs none pure
-PyContextToken_CheckExact int b none pure
-PyContextVar_CheckExact int b none pure
-PyContextVar_Reset int bb neg pure
-PyContext_CheckExact int b none pure
-PyContext_Copy new b null pure
-PyContext_New new . null pure
-PyFunction_GetAnnotations part 1 b null pure
-PyFunction_GetClosure part 1 b null pure
-PyFunction_GetCode part 1 b none pure
-PyFunction_GetDefaults part 1 b null pure
-PyFunction_GetGlobals part 1 b none pure
-PyFunction_GetModule part 1 b null pure
-PyFunction_New new bb null pure
-PyFunction_NewWithQualName new bbb null pure
-PyFunction_SetAnnotations int bn neg pure
-PyFunction_SetClosure int bn neg pure
-PyFunction_SetDefaults int bn neg pure
-PyInstanceMethod_Check int b none pure
-PyInstanceMethod_Function part 1 b none pure
-PyInstanceMethod_GET_FUNCTION part 1 b none pure
-PyInstanceMethod_New new b null pure
-PyMethod_Function part 1 b none pure
-PyMethod_Self part 1 b none pure
-PyEval_GetBuiltins lent . none pure
 ";

@@ -1,9 +1,52 @@
 //! The rows of `api.txt`. `docs/api_table.py --write` writes this file.
 
 pub const ROWS: &str = "
+PyWeakref_GET_OBJECT item 1 b none pure
+PyContext_CopyCurrent new . null pure
+PyContext_Enter int b neg pure
+PyContext_Exit int b neg pure
+PyCFunction_Call new bbn null runs
+PyCFunction_GetFlags int b none pure
+PyCFunction_GetSelf part 1 b null pure
+PyCMethod_New new -nnn null pure
+PyCell_GET lent b none pure
+PyCell_SET void bs none pure
+PyContextToken_CheckExact int b none pure
+PyContextVar_CheckExact int b none pure
+PyContextVar_Reset int bb neg pure
+PyContext_CheckExact int b none pure
+PyContext_Copy new b null pure
+PyContext_New new . null pure
+PyFunction_GetAnnotations part 1 b null pure
+PyFunction_GetClosure part 1 b null pure
+PyFunction_GET_CODE part 1 b none pure
+PyFunction_GET_GLOBALS part 1 b none pure
+PyFunction_GET_MODULE part 1 b maybe pure
+PyFunction_GET_DEFAULTS part 1 b maybe pure
+PyFunction_GET_KW_DEFAULTS part 1 b maybe pure
+PyFunction_GET_CLOSURE part 1 b maybe pure
+PyFunction_GET_ANNOTATIONS part 1 b maybe pure
+PyFunction_GetCode part 1 b none pure
+PyFunction_GetDefaults part 1 b null pure
+PyFunction_GetGlobals part 1 b none pure
+PyFunction_GetModule part 1 b null pure
+PyFunction_New new bb null pure
+PyFunction_NewWithQualName new bbb null pure
+PyFunction_SetAnnotations int bn neg pure
+PyFunction_SetClosure int bn neg pure
+PyFunction_SetDefaults int bn neg pure
+PyInstanceMethod_Check int b none pure
+PyInstanceMethod_Function part 1 b none pure
+PyInstanceMethod_GET_FUNCTION part 1 b none pure
+PyInstanceMethod_New new b null pure
+PyMethod_Function part 1 b none pure
+PyMethod_Self part 1 b none pure
+PyEval_GetBuiltins lent . none pure
 PyEval_GetGlobals lent . none pure
 PyEval_GetLocals lent . none pure
 PyGen_Check int b none pure
+PyAsyncGen_CheckExact int b none pure
+PyGen_GetCode new b none pure
 PyGen_CheckExact int b none pure
 PyCoro_CheckExact int b none pure
 PyFrame_GetCode new b none pure
@@ -23,6 +66,7 @@ PyCode_GetFreevars new b null pure
 PyCode_GetNumFree int b none pure
 PyCode_GetVarnames new b null pure
 PyCode_New new -----bbbbbbbb-bb null pure
+PyCode_GetFirstFree other b none pure
 PyCode_NewEmpty new --- null pure
 PyCode_NewWithPosOnlyArgs new ------bbbbbbbb-bb null pure
 PyCode_Optimize new bbbb null pure
@@ -36,6 +80,8 @@ PyEval_EvalFrameEx new b- null runs
 PyEval_GetFuncDesc other b none pure
 PyEval_GetFuncName other b none pure
 PyEval_SetProfile void -n none runs
+PyEval_SetProfileAllThreads void -n none runs
+PyEval_SetTraceAllThreads void -n none runs
 PyEval_SetTrace void -n none runs
 PyFrame_Check int b none pure
 PyFrame_FastToLocals void b none runs
@@ -182,6 +228,9 @@ _PyIndex_Check int b none pure
 _PyType_HasFeature int b- none pure
 _PyType_CheckExact int b none pure
 _PyType_Check int b none pure
+Py_TRASHCAN_BEGIN_CONDITION void b- none pure
+Py_TRASHCAN_SAFE_BEGIN void b none pure
+Py_TRASHCAN_SAFE_END void b none pure
 _PyType_GetModuleState other b none pure
 _PyType_GetDict part 1 b none pure
 _PyModule_GetDict part 1 b none pure
@@ -293,6 +342,7 @@ PyUnicodeWriter_WriteRepr int -n neg runs
 PyUnicodeWriter_WriteSubstring int -b-- neg pure
 PyUnicodeWriter_Format int --= neg runs
 PyLong_AsInt other b none pure
+PyLong_AsPid other b none pure
 PyLong_AsInt32 int b- neg pure
 PyLong_AsUInt32 int b- neg pure
 PyLong_AsInt64 int b- neg pure
@@ -327,58 +377,8 @@ PyType_GetBaseByToken int b-o miss pure
 PyType_Freeze int b neg runs
 PyType_AddWatcher int - neg pure
 PyType_Watch int -b neg pure
-PyObject_GetTypeData other bb none pure
-PyObject_GetItemData other b none pure
-PyObject_VisitManagedDict int b-- none pure
-PyObject_ClearManagedDict void b none runs
-PyObject_IS_UNIQUELY_REFERENCED int b none pure
-PyUnstable_Object_IsUniquelyReferenced int b none pure
-PyUnstable_Object_IsUniqueReferencedTemporary int b none pure
-PyUnstable_EnableTryIncRef void b none pure
-PyUnstable_TryIncRef int b none pure
-PyUnstable_IsImmortal int b none pure
-PyUnstable_SetImmortal int b none pure
-PyUnstable_Object_EnableDeferredRefcount int b none pure
-PyUnstable_Object_ClearWeakRefsNoCallbacks void b none pure
-PyErr_DisplayException void b none runs
-PyErr_FormatUnraisable void -= none runs
-PyException_GetArgs new b none pure
-PyException_SetArgs void bb none runs
-PyUnstable_Exc_PrepReraiseStar new bb null runs
-PyEval_GetFrameBuiltins new . maybe pure
-PyEval_GetFrameGlobals new . maybe pure
-PyEval_GetFrameLocals new . null runs
-PyFrame_GetVar new bb null runs
-PyFrame_GetVarString new b- null runs
-PyFunction_GetKwDefaults part 1 b null pure
-PyFunction_SetKwDefaults int bn neg pure
-PyFunction_SetVectorcall void b- none pure
-Py_GetConstant new - none pure
-Py_GetConstantBorrowed lent - none pure
-Py_HashPointer other - none pure
-Py_HashBuffer other -- none pure
-PyMonitoring_EnterScope int ---- neg runs
-PyUnstable_Code_GetExtra int b-- neg pure
-PyUnstable_Code_SetExtra int b-- neg pure
-PyUnstable_InterpreterFrame_GetCode new - none pure
-PyBytes_Join new bb null runs
-PyTuple_FromArray new &- null pure
-PyBytesWriter_Create other - none pure
-PyBytesWriter_Finish new - null pure
-PyBytesWriter_FinishWithSize new -- null pure
-PyBytesWriter_Discard void - none pure
-->tp_alloc new -- null pure
-->tp_new new -nn null runs
-->tp_init int bbn neg runs
-->tp_free free b none pure
-->tp_str new b null runs
-->tp_repr new b null runs
-->tp_iter new b null runs
-->tp_iternext new b maybe runs
-->tp_call new bbn null runs
-->tp_getattro new bb null runs
-->tp_setattro int bbn neg runs
-->tp_descr_get new bnn null runs
-->tp_descr_set int bbn neg runs
-->tp_hash int b less runs
+PyType_Unwatch int -b neg pure
+PyDict_Watch int -b neg pure
+PyDict_Unwatch int -b neg pure
+PyType_GetTypeDataSize other b none pure
 ";
