@@ -493,6 +493,7 @@ def draw_tile():
 # What each crate does with `drop v1`, and the file to look at.
 WAY = {
     "brc": ("hands the bytes of the module's file down", "crates/brc/src/disk.rt"),
+    "brc_screen": ("for `brc run`: shows how many calls were made", "crates/brc_screen/src/screen.rt"),
     "brc_arguments": ("knows from the command line what is asked for", "crates/brc_arguments/src/command.rt"),
     "brc_command": ("has the text read, checked, run and reported", "crates/brc_command/src/carrying.rt"),
     "brc_explain": ("for `brc explain`: shows the states before and after it", "crates/brc_explain/src/accepted.rt"),

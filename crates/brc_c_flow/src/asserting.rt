@@ -7,18 +7,23 @@ use brc_c_store::Event;
 use brc_c_tree::{Expression, ExpressionId};
 
 impl<'a> Builder<'a> {
-    /// Returns whether a call with so many arguments is an assertion: by its name, unless a function has it.
-    pub(crate) fn is_assertion(&self, function: ExpressionId, count: usize) -> bool {
+    /// Returns whether a call with these arguments is an assertion: by its name, unless a function has it.
+    pub(crate) fn is_assertion(&self, function: ExpressionId, ids: &[ExpressionId]) -> bool {
         let Some(Expression::Name(name)) = self.tree.expression(function) else {
             return false;
         };
         let text = self.symbols.text(name);
-        text == b"assert".as_slice()
-            || (count == 1
-                && seems_assertion(text)
-                && self.callee_of(function).is_none()
-                && self.variable(name).is_none()
-                && self.types.result_of(name).is_none())
+        if text == b"assert".as_slice() {
+            return true;
+        }
+        let [only] = ids else {
+            return false;
+        };
+        seems_assertion(text)
+            && !self.traits_of(*only).has_effect
+            && self.callee_of(function).is_none()
+            && self.variable(name).is_none()
+            && self.types.result_of(name).is_none()
     }
 
     /// Adds an assertion: where it doesn't hold, the process ends. One that calls something isn't looked into.
@@ -53,7 +58,7 @@ fn seems_assertion(name: &[u8]) -> bool {
 }
 
 /// Returns whether a text has this word of small letters, in letters of any case.
-fn has_word(text: &[u8], word: &[u8]) -> bool {
+pub(crate) fn has_word(text: &[u8], word: &[u8]) -> bool {
     let mut rest = text;
     for _byte in 0..text.len() {
         if begins_with_word(rest, word) {

@@ -10,6 +10,7 @@ use crate::stop::Stop;
 use brc_c_graph::NodeId;
 use brc_c_store::{Calling, Choice, Event, Signs};
 use brc_c_table::{Fails, Gives, Takes};
+use brc_c_text::Symbol;
 use brc_c_tree::{Expression, ExpressionId};
 
 impl<'a> Builder<'a> {
@@ -57,7 +58,10 @@ impl<'a> Builder<'a> {
         };
         let failing = self.pass_arguments(how, ids, operands, site)?;
         self.assume_arguments(callee, operands, how, site)?;
-        self.run(callee, site)?;
+        if !is_any_given_or_lost(how) {
+            self.run(callee, site)?;
+        }
+        self.forget_set(callee, operands, site)?;
         self.clear_fields(callee, operands, site)?;
         if row.name.as_slice() == b"Py_TYPE".as_slice() {
             // A heap type's instance owns a reference to its type: what is done with it isn't judged.
@@ -90,6 +94,7 @@ impl<'a> Builder<'a> {
         };
         let call = self.at_site(event, site)?;
         self.succeed(callee, operands, how, outcome, site)?;
+        self.run_after(callee, how, site)?;
         if calling == Calling::Succeeds && failing.is_none() {
             return Ok(());
         }
@@ -102,13 +107,13 @@ impl<'a> Builder<'a> {
             self.land(node);
         }
         self.steal_on_failure(operands, how, site)?;
+        self.run_after(callee, how, site)?;
         self.fail(operands, how, outcome, callee.failure(), site)?;
         if calling == Calling::MayMiss {
             self.jump(end);
             self.resume(call, Choice::Missing);
-            if callee.own.is_some() {
-                self.steal_on_failure(operands, how, site)?;
-            }
+            self.steal_on_failure(operands, how, site)?;
+            self.run_after(callee, how, site)?;
             self.fail(operands, how, outcome, Signs::ZERO, site)?;
         }
         self.land(end);
@@ -127,13 +132,58 @@ impl<'a> Builder<'a> {
         Ok(())
     }
 
+    /// The same after what the call steals is given away: an item that is stolen is still there.
+    fn run_after(&mut self, callee: Callee<'a>, how: &[Passing], site: Site) -> Result<(), Stop> {
+        if is_any_given_or_lost(how) {
+            self.run(callee, site)
+        } else {
+            Ok(())
+        }
+    }
+
+    /// Adds that a function of the program may have set fields of its arguments which this one sets, too.
+    fn forget_set(
+        &mut self,
+        callee: Callee<'a>,
+        operands: &[Operand],
+        site: Site,
+    ) -> Result<(), Stop> {
+        if callee.own.is_none() {
+            return Ok(());
+        }
+        let Some(called) = self.called_symbol(site.id) else {
+            return Ok(());
+        };
+        let mut fields = Vec::new(self.alloc);
+        for field in self.set_fields.iter() {
+            if self.usage.sets(called, *field) {
+                fields.push(*field)?;
+            }
+        }
+        for field in fields.iter() {
+            for operand in operands {
+                if let Operand::Object(holder) = *operand {
+                    let cell = self.field_cell(*field, holder)?;
+                    self.forget_cell(cell, site.place)?;
+                }
+            }
+        }
+        Ok(())
+    }
+
+    /// Returns the name of the function or the field that is called.
+    pub(crate) fn called_symbol(&self, call: ExpressionId) -> Option<Symbol> {
+        match self.tree.expression(call)? {
+            Expression::Call { function, .. } => Some(self.last_name(function)),
+            _ => None,
+        }
+    }
+
     /// Returns whether what is called sets nothing but variables of its own.
     fn is_idle(&self, call: ExpressionId) -> bool {
-        match self.tree.expression(call) {
-            Some(Expression::Call { function, .. }) => {
-                self.usage.is_idle(self.last_name(function))
-            }
-            _ => false,
+        match self.called_symbol(call) {
+            Some(name) => self.usage.is_idle(name),
+            None => false,
         }
     }
 
@@ -150,26 +200,14 @@ impl<'a> Builder<'a> {
                 self.at_site(Event::Assume(*local), site)?;
             }
         }
-        if callee.own.is_some() && stores_unknown(operands, how) {
-            self.assume(site.words)?;
-            self.assume_stored(operands, how, site)?;
+        if callee.own.is_none() {
+            return Ok(());
         }
-        Ok(())
-    }
-
-    /// Adds that a function may give up what is in a variable before it stores something there.
-    fn assume_stored(
-        &mut self,
-        operands: &[Operand],
-        how: &[Passing],
-        site: Site,
-    ) -> Result<(), Stop> {
         for (at, operand) in operands.iter().enumerate() {
-            if let (Operand::Address(local), Passing::Table(Takes::NoObject)) = (
-                *operand,
-                passed(how, at),
-            ) {
+            if let (true, Operand::Address(local)) = (stores_unknown(passed(how, at)), *operand) {
+                // It may give up what is there.
                 self.at_site(Event::Assume(local), site)?;
+                self.assume(site.words)?;
             }
         }
         Ok(())
@@ -200,6 +238,12 @@ fn sets_items(name: &[u8]) -> bool {
     matches!(name, b"PyList_SetItem" | b"PyList_SET_ITEM")
 }
 
+/// Returns whether an argument is given away on each way after the call.
+fn is_any_given_or_lost(how: &[Passing]) -> bool {
+    how.iter()
+        .any(|passing| matches!(*passing, Passing::GivenOrLost))
+}
+
 /// Returns whether a call with this argument is about an object.
 fn touches(operand: Operand) -> bool {
     match operand {
@@ -208,17 +252,12 @@ fn touches(operand: Operand) -> bool {
     }
 }
 
-/// Returns whether a variable of objects is passed of which the function isn't known to store one.
-fn stores_unknown(operands: &[Operand], how: &[Passing]) -> bool {
-    for (at, operand) in operands.iter().enumerate() {
-        let is_unknown = match passed(how, at) {
-            Passing::Table(Takes::NoObject) => true,
-            Passing::Own(out) => out.stores_unknown(),
-            _ => false,
-        };
-        if is_unknown && matches!(*operand, Operand::Address(_)) {
-            return true;
-        }
+/// Returns whether a function isn't known to store an object where this argument points to, or stores one of which
+/// nothing is known.
+fn stores_unknown(passing: Passing) -> bool {
+    match passing {
+        Passing::Table(Takes::NoObject) => true,
+        Passing::Own(out) => out.stores_unknown(),
+        _ => false,
     }
-    false
 }

@@ -1,5 +1,6 @@
 //! Calls: what is called, and what its arguments are for.
 
+use crate::asserting::has_word;
 use crate::building::{Branches, Builder};
 use crate::callee::Callee;
 use crate::facts::is_comparison;
@@ -36,7 +37,7 @@ impl<'a> Builder<'a> {
         if is_nothing(name, want) {
             return Ok(Operand::Plain);
         }
-        if self.is_assertion(function, ids.len()) {
+        if self.is_assertion(function, ids) {
             return self.assertion(ids, depth);
         }
         if name.is_empty() {
@@ -190,12 +191,38 @@ impl<'a> Builder<'a> {
             self.end(Event::Halt, site.place)?;
             return Ok(Operand::Plain);
         }
+        if self.is_visitor(function) {
+            return self.visit(operands, site);
+        }
         match self.callee_of(function) {
             Some(callee) if how.len() == operands.len() => {
                 self.known_call(callee, ids, operands, how, site, want)
             }
             _ => self.assumed_call(name, operands, site, want),
         }
+    }
+
+    /// Returns whether a parameter is called that visits objects for Python's garbage collector.
+    fn is_visitor(&self, function: ExpressionId) -> bool {
+        match self.name_in(function) {
+            Some(name) => match self.variable(name) {
+                Some(variable) => {
+                    self.symbols.text(variable.type_name.symbol) == b"visitproc".as_slice()
+                }
+                None => false,
+            },
+            None => false,
+        }
+    }
+
+    /// Adds a call of a visitor, which borrows its arguments and runs no other code.
+    fn visit(&mut self, operands: &[Operand], site: Site) -> Result<Operand, Stop> {
+        for operand in operands {
+            if let Operand::Object(local) = *operand {
+                self.at_site(Event::UseOrNull(local), site)?;
+            }
+        }
+        Ok(Operand::Plain)
     }
 
     /// Returns the words for what is called: the name of a function or of a field in the table, or all words.
@@ -253,7 +280,7 @@ pub(crate) fn is_cast(name: &[u8]) -> bool {
 
 /// Returns whether a function of this name gives its first argument, and says how often it isn't 0.
 pub(crate) fn is_expectation(name: &[u8]) -> bool {
-    matches!(name, b"likely" | b"unlikely" | b"__builtin_expect")
+    name == b"__builtin_expect".as_slice() || has_word(name, b"likely")
 }
 
 /// Returns whether a call does nothing with objects, and its arguments aren't looked into.

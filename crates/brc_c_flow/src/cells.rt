@@ -100,6 +100,7 @@ impl<'a> Builder<'a> {
                 owned: false,
                 section: false,
                 is_assumed: true,
+                is_steady: false,
             },
         }))
     }

@@ -51,9 +51,21 @@ pub(crate) fn folded(operator: Binary, left: i64, right: i64) -> Option<i64> {
         Binary::Add => left.checked_add(right),
         Binary::Subtract => left.checked_sub(right),
         Binary::Multiply => left.checked_mul(right),
-        Binary::ShiftLeft if 0 <= right && right < 32 => left.checked_mul(1i64 << right),
+        Binary::ShiftLeft => shifted(left, right),
         _ => None,
     }
+}
+
+fn shifted(value: i64, by: i64) -> Option<i64> {
+    let turns = match usize::try_from(by) {
+        Ok(turns) if turns < 63 => turns,
+        _ => return None,
+    };
+    let mut shifted = value;
+    for _turn in 0..turns {
+        shifted = shifted.checked_mul(2)?;
+    }
+    Some(shifted)
 }
 
 /// Returns whether the name is one of an object that lives as long as the interpreter.

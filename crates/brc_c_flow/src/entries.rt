@@ -76,7 +76,7 @@ impl<'a> Builder<'a> {
         Ok(())
     }
 
-    /// Returns whether some exits give references back that others steal.
+    /// Returns whether exits give something back: arguments that others steal, or what is where arguments point to.
     pub(crate) fn hands_back(&self) -> bool {
         matches!(self.purpose, Purpose::Verdict(_))
             && (!self.kept.is_empty() || !self.outs.is_empty())

@@ -43,15 +43,6 @@ impl<'a> Builder<'a> {
         self.find_settled()
     }
 
-    /// A condition in these words is asked once more: where something is assigned.
-    pub(crate) fn ask_again(&mut self, text: &str) {
-        for known in self.conditions.iter_mut() {
-            if known.text.as_str() == text {
-                known.is_asked_twice = true;
-            }
-        }
-    }
-
     /// Returns the expressions at which paths divide, and those that are made of such.
     fn asked(&self) -> Result<Vec<ExpressionId>, AllocError> {
         let mut asked = Vec::new(self.alloc);
@@ -236,7 +227,7 @@ impl<'a> Builder<'a> {
     }
 
     /// Returns the condition in these words, if it is asked twice.
-    pub(crate) fn asked_fact(&self, text: &str) -> Option<Fact> {
+    fn asked_fact(&self, text: &str) -> Option<Fact> {
         for (at, known) in self.conditions.iter().enumerate() {
             if known.is_asked_twice && known.text.as_str() == text {
                 return Some(Fact(at));

@@ -145,6 +145,7 @@ impl<'a> Builder<'a> {
             owned: owns && !self.habits.is_deallocator,
             section: owns && self.habits.is_shared && self.set_fields.contains(&name),
             is_assumed: false,
+            is_steady: self.usage.is_steady(name) && !self.set_fields.contains(&name),
         }
     }
 
@@ -158,8 +159,18 @@ impl<'a> Builder<'a> {
             owned: owns,
             section: false,
             is_assumed: false,
+            is_steady: false,
         }
     }
+}
+
+/// Returns whether a function of this name gives fields their first values, or their last. A slot that clears has one
+/// parameter: with more it may be a method, which runs at any time.
+pub(crate) fn begins_or_ends(name: &[u8], parameters: usize) -> bool {
+    if has_part(name, b"clear") && parameters != 1 {
+        return false;
+    }
+    has_part_of(name, &MAKING) || has_part_of(name, &UNSHARED)
 }
 
 fn has_part_of(text: &[u8], parts: &[&[u8]]) -> bool {

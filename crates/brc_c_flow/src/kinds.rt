@@ -1,8 +1,9 @@
 //! The kinds of objects that calls make: what is made as bytes needs no question whether it is.
 
 use crate::building::Builder;
+use crate::references::Counting;
 use brc_c_text::Symbol;
-use brc_c_tree::{Expression, ExpressionId, Statement};
+use brc_c_tree::{Expression, ExpressionId, List, Statement};
 
 /// What an object is.
 #[derive(Clone, Copy, PartialEq, Eq)]
@@ -19,26 +20,29 @@ enum Kind {
 impl<'a> Builder<'a> {
     /// Returns whether a call asks for the kind of a variable that never has another one, as `PyLong_Check`.
     pub(crate) fn is_known_kind(&self, call: ExpressionId) -> bool {
-        self.is_of_kind(call, asked_kind)
+        self.is_of_kind(call, asked_kind(self.called_text(call)))
     }
 
     /// Returns whether a call gives the memory of an object that has some, since it is of the right kind.
     pub(crate) fn gives_memory(&self, call: ExpressionId) -> bool {
-        self.is_of_kind(call, kind_with_memory)
+        self.is_of_kind(call, kind_with_memory(self.called_text(call)))
     }
 
-    /// Returns whether the first argument of a call is a variable that always has the kind of its function.
-    fn is_of_kind(&self, call: ExpressionId, kind_of: fn(&[u8]) -> Option<Kind>) -> bool {
-        let Some(
-            Expression::Call {
-                function,
-                arguments,
-            },
-        ) = self.tree.expression(call)
-        else {
-            return false;
-        };
-        let Some(kind) = kind_of(self.symbols.text(self.last_name(function))) else {
+    /// Returns the name of the function that is called, or no bytes.
+    fn called_text(&self, call: ExpressionId) -> &'a [u8] {
+        let symbols = self.symbols;
+        match self.called_symbol(call) {
+            Some(name) => symbols.text(name),
+            None => b"",
+        }
+    }
+
+    /// Returns whether the first argument of a call is a variable that always has a kind.
+    fn is_of_kind(&self, call: ExpressionId, kind: Option<Kind>) -> bool {
+        let (Some(kind), Some(Expression::Call { arguments, .. })) = (
+            kind,
+            self.tree.expression(call),
+        ) else {
             return false;
         };
         match self.tree.operands(arguments).first() {
@@ -56,15 +60,38 @@ impl<'a> Builder<'a> {
             Some(variable) if variable.local.is_some() && !variable.is_parameter => {}
             _ => return false,
         }
-        if self.is_addressed(name) {
-            return false;
+        !self.is_addressed(name) && self.are_assigned(name, kind) && self.are_declared(name, kind)
+    }
+
+    fn are_assigned(&self, name: Symbol, kind: Kind) -> bool {
+        for (expression, _) in self.tree.expressions() {
+            let is_right = match *expression {
+                Expression::Assign { left, right, .. } => {
+                    self.name_in(left) != Some(name) || self.makes(right, kind)
+                }
+                Expression::Call {
+                    function,
+                    arguments,
+                } => !self.replaces(function, arguments, name),
+                _ => true,
+            };
+            if !is_right {
+                return false;
+            }
         }
-        let are_assigned = self.tree.expressions().iter().all(|(expression, _)| match *expression {
-            Expression::Assign { left, right, .. } if self.name_in(left) == Some(name) =>
-                self.makes(right, kind),
-            _ => true,
-        });
-        are_assigned && self.are_declared(name, kind)
+        true
+    }
+
+    /// Returns whether a call gives a variable another object, as `Py_SETREF`.
+    fn replaces(&self, function: ExpressionId, arguments: List, name: Symbol) -> bool {
+        let is_one = match Counting::of(self.symbols.text(self.last_name(function))) {
+            Some(counting) => counting.replaces(),
+            None => false,
+        };
+        match self.tree.operands(arguments) {
+            [first, _] => is_one && self.name_in(*first) == Some(name),
+            _ => false,
+        }
     }
 
     fn are_declared(&self, name: Symbol, kind: Kind) -> bool {
@@ -116,40 +143,55 @@ fn kind_with_memory(name: &[u8]) -> Option<Kind> {
     }
 }
 
+/// The functions that make objects of one kind. A `match` over texts would have a branch for each of their bytes in its
+/// proof.
+const MADE: [(&[u8], Kind); 38] = [
+    (b"PyBytes_FromStringAndSize", Kind::Bytes),
+    (b"PyBytes_FromString", Kind::Bytes),
+    (b"PyBytes_FromFormat", Kind::Bytes),
+    (b"PyBytes_FromObject", Kind::Bytes),
+    (b"PyObject_Bytes", Kind::Bytes),
+    (b"PyUnicode_AsUTF8String", Kind::Bytes),
+    (b"PyUnicode_AsASCIIString", Kind::Bytes),
+    (b"PyUnicode_AsLatin1String", Kind::Bytes),
+    (b"PyDict_New", Kind::Dict),
+    (b"PyDict_Copy", Kind::Dict),
+    (b"PyNumber_Float", Kind::Float),
+    (b"PyFloat_FromDouble", Kind::Float),
+    (b"PyFloat_FromString", Kind::Float),
+    (b"PyList_New", Kind::List),
+    (b"PySequence_List", Kind::List),
+    (b"PyDict_Keys", Kind::List),
+    (b"PyDict_Values", Kind::List),
+    (b"PyDict_Items", Kind::List),
+    (b"PyNumber_Long", Kind::Long),
+    (b"PyNumber_Index", Kind::Long),
+    (b"PyLong_FromLong", Kind::Long),
+    (b"PyLong_FromLongLong", Kind::Long),
+    (b"PyLong_FromSsize_t", Kind::Long),
+    (b"PyLong_FromSize_t", Kind::Long),
+    (b"PyLong_FromUnsignedLong", Kind::Long),
+    (b"PyLong_FromUnsignedLongLong", Kind::Long),
+    (b"PyLong_FromDouble", Kind::Long),
+    (b"PyTuple_New", Kind::Tuple),
+    (b"PyTuple_Pack", Kind::Tuple),
+    (b"PySequence_Tuple", Kind::Tuple),
+    (b"PyList_AsTuple", Kind::Tuple),
+    (b"PyObject_Str", Kind::Text),
+    (b"PyObject_Repr", Kind::Text),
+    (b"PyObject_ASCII", Kind::Text),
+    (b"PyUnicode_FromString", Kind::Text),
+    (b"PyUnicode_FromStringAndSize", Kind::Text),
+    (b"PyUnicode_FromFormat", Kind::Text),
+    (b"PyUnicode_FromObject", Kind::Text),
+];
+
 /// Returns the kind of what a function of this name makes.
 fn made_kind(name: &[u8]) -> Option<Kind> {
-    match name {
-        b"PyBytes_FromStringAndSize"
-        | b"PyBytes_FromString"
-        | b"PyBytes_FromFormat"
-        | b"PyBytes_FromObject"
-        | b"PyObject_Bytes"
-        | b"PyUnicode_AsUTF8String"
-        | b"PyUnicode_AsASCIIString"
-        | b"PyUnicode_AsLatin1String" => Some(Kind::Bytes),
-        b"PyDict_New" | b"PyDict_Copy" => Some(Kind::Dict),
-        b"PyNumber_Float" | b"PyFloat_FromDouble" | b"PyFloat_FromString" => Some(Kind::Float),
-        b"PyList_New" | b"PySequence_List" | b"PyDict_Keys" | b"PyDict_Values" | b"PyDict_Items" =>
-            { Some(Kind::List) }
-        b"PyNumber_Long"
-        | b"PyNumber_Index"
-        | b"PyLong_FromLong"
-        | b"PyLong_FromLongLong"
-        | b"PyLong_FromSsize_t"
-        | b"PyLong_FromSize_t"
-        | b"PyLong_FromUnsignedLong"
-        | b"PyLong_FromUnsignedLongLong"
-        | b"PyLong_FromDouble" => Some(Kind::Long),
-        b"PyTuple_New" | b"PyTuple_Pack" | b"PySequence_Tuple" | b"PyList_AsTuple" => {
-            Some(Kind::Tuple)
+    for (known, kind) in MADE {
+        if known == name {
+            return Some(kind);
         }
-        b"PyObject_Str"
-        | b"PyObject_Repr"
-        | b"PyObject_ASCII"
-        | b"PyUnicode_FromString"
-        | b"PyUnicode_FromStringAndSize"
-        | b"PyUnicode_FromFormat"
-        | b"PyUnicode_FromObject" => Some(Kind::Text),
-        _ => None,
     }
+    None
 }

@@ -1,11 +1,11 @@
 //! What a call of a function of the program leaves where its arguments point to, and in their fields.
 
+use crate::assumed::ASSUMED;
 use crate::building::Builder;
 use crate::callee::Callee;
 use crate::operand::{Operand, Site};
 use crate::own::{Left, LeftObject, OwnOut};
 use crate::results::MADE;
-use crate::assumed::ASSUMED;
 use crate::stop::Stop;
 use brc_c_store::{Calling, Choice, Event, Gives, Local, Source};
 use brc_c_text::Symbol;
@@ -22,6 +22,9 @@ impl<'a> Builder<'a> {
         site: Site,
     ) -> Result<(), Stop> {
         if left.object == LeftObject::None && !left.is_null {
+            if out.is_replaced && left.is_freed() {
+                self.at_site(Event::Give(local), site)?;
+            }
             return Ok(());
         }
         if !left.is_same {
@@ -95,11 +98,15 @@ impl<'a> Builder<'a> {
 
     /// Returns whether the function reads or sets a field of this name, or asks for it at its ends.
     fn speaks_of_field(&self, field: Symbol) -> bool {
-        let is_asked = self.asked_fields.iter().any(|asked| asked.null.field == field);
-        is_asked || self.tree.expressions().iter().any(|(expression, _)| match *expression {
-            Expression::Field { name, .. } => name == field,
-            _ => false,
-        })
+        let is_asked = self
+            .asked_fields
+            .iter()
+            .any(|asked| asked.null.field == field);
+        is_asked
+            || self.tree.expressions().iter().any(|(expression, _)| match *expression {
+                Expression::Field { name, .. } => name == field,
+                _ => false,
+            })
     }
 }
 

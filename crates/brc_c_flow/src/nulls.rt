@@ -134,7 +134,12 @@ impl<'a> Builder<'a> {
             if let Some(asked) = self.asked_fields.get(at).copied() {
                 let Branches { holds, fails } = self.branches(place)?;
                 self.copy(asked.local, Source::Null, place)?;
-                self.ask(Event::Null(asked.holder), place, None, Branches { holds, fails })?;
+                self.ask(
+                    Event::Null(asked.holder),
+                    place,
+                    None,
+                    Branches { holds, fails },
+                )?;
                 self.land(fails);
                 if let Some(cell) = self.field_cell(asked.null.field, asked.holder)? {
                     let to = asked.local;

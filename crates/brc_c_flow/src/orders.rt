@@ -122,6 +122,28 @@ impl<'a> Builder<'a> {
         }
     }
 
+    /// The values in these words are compared once more: where one gets the other.
+    pub(crate) fn compare_again(&mut self, left: &str, right: &str) {
+        for known in self.orders.iter_mut() {
+            if known.is_of(left, right) || known.is_of(right, left) {
+                known.is_asked_twice = true;
+            }
+        }
+    }
+
+    /// Returns the name of the difference of two values, if they are compared more than once.
+    pub(crate) fn difference_of(&mut self, left: &str, right: &str) -> Result<Option<Local>, Stop> {
+        for at in 0..self.orders.len() {
+            if self
+                .asked_order(at, left, right, Comparison::Equal)
+                .is_some()
+            {
+                return Ok(Some(self.difference_at(at)?));
+            }
+        }
+        Ok(None)
+    }
+
     fn difference_at(&mut self, at: usize) -> Result<Local, Stop> {
         if let Some(known) = self.orders.get(at) {
             if let Some(local) = known.difference {

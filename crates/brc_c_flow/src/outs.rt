@@ -244,7 +244,13 @@ impl<'a> Builder<'a> {
             Some(own) if !own.is_read => self.copy(out.local, Source::Null, place),
             Some(_) => self.copy(out.local, Source::Unknown, place),
             None => {
-                if let Some(LocalName { name: Some(words), .. }) = self.graph.local(out.local) {
+                if let Some(
+                    LocalName {
+                        name: Some(words),
+                        ..
+                    },
+                ) = self.graph.local(out.local)
+                {
                     self.assume(words)?;
                 }
                 self.copy(out.local, Source::Unknown, place)
@@ -280,10 +286,10 @@ impl<'a> Builder<'a> {
         let Some(own) = self.own_out(out.number) else {
             return Some(Event::HandOver(out.local));
         };
-        if own.is_replaced {
+        let left = if fails { own.failure } else { own.success };
+        if own.is_replaced && !left.is_freed() {
             return Some(Event::Give(out.local));
         }
-        let left = if fails { own.failure } else { own.success };
         match left.object {
             LeftObject::None => None,
             LeftObject::New if !own.is_read => Some(Event::Give(out.local)),

@@ -59,6 +59,13 @@ pub struct OwnOut {
     pub failure: Left,
 }
 
+impl Left {
+    /// Returns whether what is there afterwards is no object, and not NULL: it is freed.
+    pub(crate) fn is_freed(self) -> bool {
+        self.object == LeftObject::None && !self.is_null && !self.is_same
+    }
+}
+
 impl OwnOut {
     /// Returns whether each success leaves an object in place of what was there.
     pub(crate) fn is_sure(self) -> bool {

@@ -144,7 +144,8 @@ impl<'a> Builder<'a> {
         }
     }
 
-    /// Returns whether a field is used as one of objects, and its declaration doesn't say otherwise.
+    /// Returns whether a field of memory that is no object's is used as one of objects, and its declaration doesn't say
+    /// otherwise.
     pub(crate) fn is_used_field(&self, field: Symbol, type_name: Option<TypeName>) -> bool {
         let is_open = match type_name {
             Some(found) => {

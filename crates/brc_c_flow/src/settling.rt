@@ -1,14 +1,14 @@
-//! Constants with a name: where a variable gets one, a condition that compares it with the same one holds.
+//! Constants with a name: where a variable gets one, the two are equal.
 
 use crate::building::Builder;
 use crate::stop::Stop;
-use brc_c_store::{Event, Fact};
+use brc_c_store::{Signs, Source};
 use brc_c_text::{Place, Symbol};
 use brc_c_tree::{Expression, ExpressionId, Statement};
 use std::alloc::AllocError;
 
 impl<'a> Builder<'a> {
-    /// Finds the conditions of which assignments say whether they hold.
+    /// Finds the comparisons of which assignments say whether they hold.
     pub(crate) fn find_settled(&mut self) -> Result<(), AllocError> {
         let tree = self.tree;
         for (expression, _) in tree.expressions() {
@@ -41,67 +41,48 @@ impl<'a> Builder<'a> {
         let Some(to) = to else {
             return Ok(());
         };
-        for holds in [true, false] {
-            if let Some(text) = self.settled_text(to, value, holds)? {
-                self.ask_again(text.as_str());
-            }
+        if let Some(constant) = self.settled_by(to, value) {
+            let left = self.symbol_text(to)?;
+            let right = self.symbol_text(constant)?;
+            self.compare_again(left.as_str(), right.as_str());
         }
         Ok(())
     }
 
-    /// Returns the condition that holds, or doesn't, where a variable gets a constant that has a name.
-    fn settled_text(
-        &self,
-        to: Symbol,
-        value: ExpressionId,
-        holds: bool,
-    ) -> Result<Option<String>, AllocError> {
-        let (Some(variable), Some(constant)) = (self.variable(to), self.name_in(value)) else {
-            return Ok(None);
-        };
+    /// Returns the name of the constant that a variable gets, if it has one.
+    fn settled_by(&self, to: Symbol, value: ExpressionId) -> Option<Symbol> {
+        let variable = self.variable(to)?;
+        let constant = self.name_in(value)?;
         let is_constant = self.variable(constant).is_none()
             && self.types.variable(constant).is_none()
             && self.constant_in(value).is_none()
             && !self.is_object(value);
-        if !is_constant || variable.is_static {
-            return Ok(None);
+        if is_constant && !variable.is_static {
+            Some(constant)
+        } else {
+            None
         }
-        let mut text = String::from_utf8_lossy(self.alloc, self.symbols.text(to))?;
-        text.push_str(if holds { " == " } else { " != " })?;
-        let name = String::from_utf8_lossy(self.alloc, self.symbols.text(constant))?;
-        text.push_str(name.as_str())?;
-        Ok(Some(text))
     }
 
-    /// Adds what is known of conditions once a variable has a value: the other way isn't taken.
+    fn symbol_text(&self, symbol: Symbol) -> Result<String, AllocError> {
+        String::from_utf8_lossy(self.alloc, self.symbols.text(symbol))
+    }
+
+    /// Adds that a variable and the constant that it has just got are equal.
     pub(crate) fn settle_conditions(
         &mut self,
         to: Symbol,
         value: ExpressionId,
         place: Place,
     ) -> Result<(), Stop> {
-        for holds in [true, false] {
-            let Some(text) = self.settled_text(to, value, holds)? else {
-                continue;
-            };
-            if let Some(fact) = self.asked_fact(text.as_str()) {
-                self.settle_fact(fact, holds, place)?;
-            }
-        }
-        Ok(())
-    }
-
-    fn settle_fact(&mut self, fact: Fact, holds: bool, place: Place) -> Result<(), Stop> {
-        let branches = self.branches(place)?;
-        let (on, off) = if holds {
-            (branches.holds, branches.fails)
-        } else {
-            (branches.fails, branches.holds)
+        let Some(constant) = self.settled_by(to, value) else {
+            return Ok(());
         };
-        self.ask(Event::Choice(Some(fact)), place, None, branches)?;
-        self.land(off);
-        self.end(Event::Halt, place)?;
-        self.land(on);
-        Ok(())
+        let left = self.symbol_text(to)?;
+        let right = self.symbol_text(constant)?;
+        match self.difference_of(left.as_str(), right.as_str())? {
+            Some(difference) => self.copy(difference, Source::Number(Signs::ZERO), place),
+            None => Ok(()),
+        }
     }
 }

@@ -44,7 +44,10 @@ impl<'a> Builder<'a> {
         if self.constant_in(value) == Some(0) {
             return Ok(());
         }
-        let of = self.sliced(value);
+        let of = match self.sliced(value) {
+            Some(of) if !self.is_addressed(name) => Some(of),
+            _ => None,
+        };
         for known in self.slices.iter_mut() {
             if known.name == name {
                 if known.of != of {

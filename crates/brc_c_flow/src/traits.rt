@@ -71,7 +71,9 @@ impl<'a> Builder<'a> {
             }
             | Expression::Values(_)
             | Expression::Opaque => found.is_pure = false,
-            Expression::Field { .. } => found.reads_memory = true,
+            Expression::Field { name, .. } => {
+                found.reads_memory = found.reads_memory || !self.usage.is_steady(name);
+            }
             Expression::Name(symbol) => found.reads_memory = self.is_elsewhere(symbol),
             Expression::Binary {
                 operator,
@@ -134,8 +136,10 @@ impl<'a> Builder<'a> {
             } => { self.is_object(then) || self.is_object(otherwise) }
             Expression::Assign { left, .. } => self.is_object(left),
             Expression::Comma { right, .. } => self.is_object(right),
-            Expression::Field { name, .. } => {
-                self.has_object_type(at) || self.is_used_field(name, self.type_at(at))
+            Expression::Field { object, name, .. } => {
+                // Of an object's field that nothing declares it isn't known either what it owns.
+                self.has_object_type(at)
+                    || (!self.is_object(object) && self.is_used_field(name, self.type_at(at)))
             }
             Expression::Index { .. }
             | Expression::Unary {

@@ -1,8 +1,11 @@
 //! What the functions of a source do with fields, with variables outside them, and with each other.
 
+use crate::habits::begins_or_ends;
 use crate::references::Counting;
 use brc_c_text::{Symbol, Symbols};
-use brc_c_tree::{Body, Expression, ExpressionId, Function, List, SourceTree, Statement, Tree};
+use brc_c_tree::{
+    Body, Expression, ExpressionId, Function, List, SourceTree, Statement, Tree, Unary,
+};
 use std::alloc::{AllocError, Global};
 use std::collections::HashSet;
 
@@ -18,6 +21,11 @@ pub struct Usage {
     called: HashSet<Symbol>,
     /// The functions that call nothing, and set nothing but variables of their own.
     idle: HashSet<Symbol>,
+    /// Functions, each with a field that it sets.
+    setters: HashSet<(Symbol, Symbol)>,
+    /// The fields that some function sets, and those that one sets which neither makes objects nor ends them.
+    set: HashSet<Symbol>,
+    set_late: HashSet<Symbol>,
     /// Whether some function gives the memory of objects back.
     frees: bool,
 }
@@ -29,12 +37,16 @@ impl Usage {
             released: HashSet::new(alloc),
             called: HashSet::new(alloc),
             idle: HashSet::new(alloc),
+            setters: HashSet::new(alloc),
+            set: HashSet::new(alloc),
+            set_late: HashSet::new(alloc),
             frees: false,
         };
         for function in source.functions.iter() {
             if let Body::Read(tree, _) = &function.body {
                 usage.add_calls(symbols, tree)?;
                 usage.add_assigned(tree)?;
+                usage.add_set(symbols, function, tree)?;
                 if is_idle(alloc, function, tree)? {
                     usage.idle.insert(function.name)?;
                 }
@@ -58,6 +70,51 @@ impl Usage {
 
     pub(crate) fn is_idle(&self, function: Symbol) -> bool {
         self.idle.contains(&function)
+    }
+
+    /// Returns whether a function sets a field of this name.
+    pub(crate) fn sets(&self, function: Symbol, field: Symbol) -> bool {
+        self.setters.contains(&(function, field))
+    }
+
+    /// Returns whether a field of this name has what it had when its object was made, as long as the object lives.
+    pub(crate) fn is_steady(&self, field: Symbol) -> bool {
+        let is_known = self.set.contains(&field) || self.is_released(field);
+        is_known && !self.set_late.contains(&field)
+    }
+
+    /// Adds the fields that a function sets, or whose address it takes.
+    fn add_set(
+        &mut self,
+        symbols: &Symbols,
+        function: &Function,
+        tree: &Tree,
+    ) -> Result<(), AllocError> {
+        let setter = function.name;
+        let is_late = !begins_or_ends(symbols.text(setter), function.parameters.len());
+        for (expression, _) in tree.expressions() {
+            let target = match *expression {
+                Expression::Assign { left, .. } => Some(left),
+                Expression::Step { operand, .. }
+                | Expression::Unary {
+                    operator: Unary::Address,
+                    operand,
+                } => Some(operand),
+                Expression::Call {
+                    function,
+                    arguments,
+                } => replaced(symbols, tree, function, arguments),
+                _ => None,
+            };
+            if let Some(field) = field_at(tree, target) {
+                self.setters.insert((setter, field))?;
+                self.set.insert(field)?;
+                if is_late {
+                    self.set_late.insert(field)?;
+                }
+            }
+        }
+        Ok(())
     }
 
     fn add_calls(&mut self, symbols: &Symbols, tree: &Tree) -> Result<(), AllocError> {
@@ -142,6 +199,31 @@ impl Usage {
             Some(to) if self.released.contains(&to) => self.add_released(tree, value),
             _ => Ok(()),
         }
+    }
+}
+
+/// Returns the place that `Py_CLEAR` and its like set.
+fn replaced(
+    symbols: &Symbols,
+    tree: &Tree,
+    function: ExpressionId,
+    arguments: List,
+) -> Option<ExpressionId> {
+    let Some(Expression::Name(name)) = tree.expression(function) else {
+        return None;
+    };
+    if Counting::of(symbols.text(name))?.replaces() {
+        tree.operands(arguments).first().copied()
+    } else {
+        None
+    }
+}
+
+/// Returns the field that a place is.
+fn field_at(tree: &Tree, place: Option<ExpressionId>) -> Option<Symbol> {
+    match tree.expression(place?)? {
+        Expression::Field { name, .. } => Some(name),
+        _ => None,
     }
 }
 

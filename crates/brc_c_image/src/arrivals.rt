@@ -21,7 +21,7 @@ pub fn arrivals_of(
     graph: &Graph,
 ) -> Result<Option<Vec<Arrival>>, AllocError> {
     let live = Liveness::of(alloc, graph)?;
-    let mut blocks = Blocks::new(alloc, graph)?;
+    let mut blocks = Blocks::new(alloc);
     let source = Source {
         alloc,
         rules,

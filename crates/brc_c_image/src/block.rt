@@ -1,12 +1,15 @@
+use crate::registers::items_of;
 use brc_c_graph::NodeId;
 use brc_c_store::{Choice, Register, RegisterSet, Rules, Store};
 use brc_lang::CheckCode;
 
-/// What the text's state has at a block: whether the lock is locked, and which registers own references.
+/// What the text's state has at a block: whether the lock is locked, and which registers own references, or have
+/// borrowed items.
 #[derive(Clone, Copy, Debug)]
 pub(crate) struct Held {
     pub(crate) is_locked: bool,
     pub(crate) owned: RegisterSet,
+    pub(crate) items: RegisterSet,
 }
 
 impl Held {
@@ -14,6 +17,7 @@ impl Held {
         Held {
             is_locked: store.is_locked(rules),
             owned: store.owned(),
+            items: items_of(store),
         }
     }
 }

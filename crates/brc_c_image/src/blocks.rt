@@ -46,14 +46,13 @@ pub(crate) struct Blocks {
 }
 
 impl Blocks {
-    /// Returns no blocks of a graph.
-    pub(crate) fn new(alloc: Global, graph: &Graph) -> Result<Blocks, AllocError> {
-        Ok(Blocks {
+    pub(crate) fn new(alloc: Global) -> Blocks {
+        Blocks {
             blocks: Vec::new(alloc),
             lines: Vec::new(alloc),
-            points: Points::new(alloc, graph)?,
+            points: Points::new(alloc),
             is_cut: false,
-        })
+        }
     }
 
     pub(crate) fn len(&self) -> usize {

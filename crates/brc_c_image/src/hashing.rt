@@ -18,7 +18,10 @@ pub(crate) fn hash_of(node: NodeId, store: &Store) -> usize {
         hash = mixed(mixed(hash, touched.field.0), word_of(touched.value));
     }
     for known in store.facts.iter() {
-        hash = mixed(hash, known.fact.0.wrapping_mul(2).wrapping_add(bit(known.holds)));
+        hash = mixed(
+            hash,
+            known.fact.0.wrapping_mul(2).wrapping_add(bit(known.holds)),
+        );
     }
     hash ^ (hash >> 32)
 }

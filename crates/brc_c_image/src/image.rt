@@ -1,10 +1,12 @@
 //! From a graph to texts.
 
 use crate::blocks::{Blocks, Source, explore};
-use crate::laying::{Laid, Layout, lay};
+use crate::laying::{Laid, lay};
+use crate::layout::{Layout, Part};
 use crate::liveness::Liveness;
 use crate::naming::name_of;
 use crate::order::{order_of, places_of};
+use crate::parting::{MOST_INSTRUCTIONS, part_with, parts_of};
 use crate::path::{Step, path_to};
 use crate::resolving::pass_by;
 use crate::writing::text_of;
@@ -12,9 +14,6 @@ use brc_c_graph::{Graph, NodeId};
 use brc_c_store::Rules;
 use brc_lang::CheckCode;
 use std::alloc::{AllocError, Global};
-
-/// How many instructions a function of a module has at most.
-const MOST_INSTRUCTIONS: usize = 256;
 
 /// A rule that a path breaks.
 #[derive(Debug, Drop)]
@@ -37,7 +36,7 @@ pub struct Text {
 /// What a function has too much of to be judged.
 #[derive(Clone, Copy, Debug, PartialEq, Eq)]
 pub enum Size {
-    /// More than 256 instructions.
+    /// More than 256 instructions where nothing can be left out.
     Instructions,
     /// More than 2,048 nodes in stores for which something is written, or more than 8 critical sections at once.
     Blocks,
@@ -49,8 +48,9 @@ pub enum Size {
 #[derive(Debug, Drop)]
 pub enum Image {
     TooLarge(Size),
-    /// No path breaks a rule.
-    Right(Text),
+    /// No path breaks a rule. Each text has a part of the blocks: it makes what the state has where it begins, and
+    /// gives that up where it ends.
+    Right(Vec<Text>),
     /// Each rule that is broken at a node, once, with a text in which only the paths to that node report something.
     Wrong(Vec<(Fault, Text)>),
 }
@@ -63,7 +63,7 @@ pub fn image_of(
     name: &[u8],
 ) -> Result<Image, AllocError> {
     let live = Liveness::of(alloc, graph)?;
-    let mut blocks = Blocks::new(alloc, graph)?;
+    let mut blocks = Blocks::new(alloc);
     let source = Source {
         alloc,
         rules,
@@ -86,62 +86,68 @@ fn image_in(alloc: Global, blocks: &Blocks, name: &[u8]) -> Result<Image, AllocE
         order: order.as_slice(),
         places: places.as_slice(),
         shown: None,
+        part: Part {
+            first: 0,
+            end: order.len(),
+        },
     };
     let broken = broken_blocks(alloc, blocks)?;
     if broken.is_empty() && blocks.is_cut {
         return Ok(Image::TooLarge(Size::Blocks));
     }
+    let Some(parts) = parts_of(alloc, &layout)? else {
+        return Ok(Image::TooLarge(Size::Instructions));
+    };
     if broken.is_empty() {
-        return right_image(alloc, name.as_str(), &layout);
+        return right_image(alloc, name.as_str(), &layout, parts.as_slice());
     }
-    wrong_image(alloc, name.as_str(), &layout, broken.as_slice())
+    wrong_image(
+        alloc,
+        name.as_str(),
+        &layout,
+        parts.as_slice(),
+        broken.as_slice(),
+    )
 }
 
-fn right_image(alloc: Global, name: &str, layout: &Layout) -> Result<Image, AllocError> {
-    match text_in(alloc, name, layout)? {
-        Some(text) => Ok(Image::Right(text)),
-        None => Ok(Image::TooLarge(Size::Instructions)),
+fn right_image(
+    alloc: Global,
+    name: &str,
+    layout: &Layout,
+    parts: &[Part],
+) -> Result<Image, AllocError> {
+    let mut texts = Vec::new(alloc);
+    for part in parts {
+        match text_in(alloc, name, layout, None, *part)? {
+            Some(text) => texts.push(text)?,
+            None => return Ok(Image::TooLarge(Size::Instructions)),
+        }
     }
+    Ok(Image::Right(texts))
 }
 
 fn wrong_image(
     alloc: Global,
     name: &str,
     layout: &Layout,
+    parts: &[Part],
     broken: &[usize],
 ) -> Result<Image, AllocError> {
     let mut wrong = Vec::new(alloc);
     for number in broken {
-        if !add_fault(alloc, name, layout, *number, &mut wrong)? {
+        let text = match part_with(parts, layout.place(*number)) {
+            Some(part) => text_in(alloc, name, layout, Some(*number), part)?,
+            None => None,
+        };
+        let Some(text) = text else {
             return Ok(Image::TooLarge(Size::Instructions));
+        };
+        if let Some((code, node)) = fault_at(layout.blocks, *number) {
+            let path = path_to(alloc, layout.blocks, *number)?;
+            wrong.push((Fault { code, node, path }, text))?;
         }
     }
     Ok(Image::Wrong(wrong))
-}
-
-/// Adds the fault of a block with its text. Returns whether the text isn't too large.
-fn add_fault(
-    alloc: Global,
-    name: &str,
-    layout: &Layout,
-    number: usize,
-    wrong: &mut Vec<(Fault, Text)>,
-) -> Result<bool, AllocError> {
-    let Some((code, node)) = fault_at(layout.blocks, number) else {
-        return Ok(true);
-    };
-    let showing = Layout {
-        blocks: layout.blocks,
-        order: layout.order,
-        places: layout.places,
-        shown: Some(number),
-    };
-    let Some(text) = text_in(alloc, name, &showing)? else {
-        return Ok(false);
-    };
-    let path = path_to(alloc, layout.blocks, number)?;
-    wrong.push((Fault { code, node, path }, text))?;
-    Ok(true)
 }
 
 fn fault_at(blocks: &Blocks, number: usize) -> Option<(CheckCode, NodeId)> {
@@ -189,10 +195,23 @@ fn left_before(blocks: &Blocks, broken: &[usize], fault: (CheckCode, NodeId)) ->
     left
 }
 
-/// Returns a text, unless it has too many instructions.
-fn text_in(alloc: Global, name: &str, layout: &Layout) -> Result<Option<Text>, AllocError> {
+/// Returns a text of a part that shows the fault of a block, if it is to show one, unless it has too many instructions.
+fn text_in(
+    alloc: Global,
+    name: &str,
+    layout: &Layout,
+    shown: Option<usize>,
+    part: Part,
+) -> Result<Option<Text>, AllocError> {
+    let parted = Layout {
+        blocks: layout.blocks,
+        order: layout.order,
+        places: layout.places,
+        shown,
+        part,
+    };
     let mut laid = Laid::new(alloc, layout.blocks.len())?;
-    lay(layout, &mut laid)?;
+    lay(alloc, &parted, &mut laid)?;
     if laid.lines.len() > MOST_INSTRUCTIONS {
         return Ok(None);
     }

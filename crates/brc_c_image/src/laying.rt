@@ -1,39 +1,11 @@
 //! The lines of a text, block after block.
 
+use crate::beginning::begin_at;
 use crate::block::{Block, Branch};
-use crate::blocks::Blocks;
+use crate::layout::Layout;
 use crate::line::{LOCK, Line, Target};
 use crate::tails::write_tail;
-use brc_lang::CheckCode;
 use std::alloc::{AllocError, Global};
-
-/// The blocks in their order.
-#[derive(Clone, Copy)]
-pub(crate) struct Layout<'a> {
-    pub(crate) blocks: &'a Blocks,
-    pub(crate) order: &'a [usize],
-    /// The place of each block in the order.
-    pub(crate) places: &'a [usize],
-    /// The block whose fault the text shows. At every other fault paths give up.
-    pub(crate) shown: Option<usize>,
-}
-
-impl Layout<'_> {
-    /// Returns the block that has to be the last of the text, since it runs off the end.
-    fn last(&self) -> Option<usize> {
-        let number = self.shown?;
-        let broken = self.blocks.get(number)?.broken?;
-        if broken.code == CheckCode::RunsOff {
-            Some(number)
-        } else {
-            None
-        }
-    }
-
-    fn place(&self, number: usize) -> usize {
-        self.places.get(number).copied().unwrap_or(0)
-    }
-}
 
 /// The lines of a text.
 #[derive(Drop)]
@@ -67,11 +39,12 @@ impl Laid {
     }
 }
 
-/// Writes all blocks.
-pub(crate) fn lay(layout: &Layout, laid: &mut Laid) -> Result<(), AllocError> {
+/// Writes the blocks of a text.
+pub(crate) fn lay(alloc: Global, layout: &Layout, laid: &mut Laid) -> Result<(), AllocError> {
     let last = layout.last();
+    begin_at(alloc, layout, laid)?;
     for (place, number) in layout.order.iter().enumerate() {
-        if last != Some(*number) {
+        if layout.part.has(place) && last != Some(*number) {
             lay_block(layout, place, *number, laid)?;
         }
     }
@@ -147,7 +120,7 @@ fn lay_branch(
 
 /// Returns where a line leads whose path goes on at a block: no line but `again` leads to one above.
 fn target(layout: &Layout, place: usize, to: usize, laid: &mut Laid) -> Result<Target, AllocError> {
-    if layout.place(to) > place {
+    if layout.place(to) > place && layout.has(to) {
         return Ok(Target::Block(to));
     }
     if !laid.wanted.iter().any(|known| *known == to) {
@@ -165,7 +138,7 @@ fn lay_next(
     let Some(next) = block.next else {
         return write_tail(&block.held, &mut laid.lines);
     };
-    if layout.place(next) <= place {
+    if layout.place(next) <= place || !layout.has(next) {
         return lay_jump(layout, next, laid);
     }
     let below = layout.order.get(place.saturating_add(1)).copied();
@@ -175,9 +148,12 @@ fn lay_next(
     Ok(())
 }
 
-/// The checker also walks past an `again`, with what the block above holds.
+/// Writes a jump to a block above. The checker also walks past an `again`, with what the block above holds. Where the
+/// text doesn't have the block, paths give up.
 fn lay_jump(layout: &Layout, to: usize, laid: &mut Laid) -> Result<(), AllocError> {
-    laid.lines.push(Line::Again(to))?;
+    if layout.has(to) {
+        laid.lines.push(Line::Again(to))?;
+    }
     match layout.blocks.get(to) {
         Some(block) => write_tail(&block.held, &mut laid.lines),
         None => Ok(()),

@@ -5,6 +5,7 @@
 #![tactic(auto)]
 
 mod arrivals;
+mod beginning;
 mod block;
 mod blocks;
 mod breaking;
@@ -14,14 +15,17 @@ mod following;
 mod hashing;
 mod image;
 mod laying;
+mod layout;
 mod line;
 mod liveness;
 mod naming;
 mod normal;
 mod normal_cells;
 mod order;
+mod parting;
 mod path;
 mod points;
+mod postorder;
 mod reading;
 mod registers;
 mod resolving;

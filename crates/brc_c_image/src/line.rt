@@ -14,6 +14,8 @@ pub(crate) enum Target {
     Block(usize),
     /// The lines from which a path goes back to a block above.
     Detour(usize),
+    /// The line of this number.
+    Line(usize),
     /// The line below.
     Below,
 }

@@ -1,8 +1,9 @@
 //! Which names and conditions a path reads again.
 
+use crate::postorder::{Postorder, postorder_of};
 use crate::reading::{fact_forgotten, fact_read, field_read, name_assigned, names_read};
 use brc_c_graph::{Graph, Node, NodeId, Ways};
-use brc_c_store::{Fact, Field, Local};
+use brc_c_store::{Event, Fact, Field, Local};
 use std::alloc::{AllocError, Global};
 
 const WORD: usize = 64;
@@ -38,7 +39,8 @@ impl Liveness {
             width,
             words,
         };
-        live.fill(graph);
+        let order = postorder_of(alloc, graph)?;
+        live.fill(graph, &order);
         Ok(live)
     }
 
@@ -107,22 +109,22 @@ impl Liveness {
         self.words.get(at).copied().unwrap_or(0)
     }
 
-    /// Each bit travels at least one node a pass.
-    fn fill(&mut self, graph: &Graph) {
-        for _ in 0..=graph.nodes().len() {
-            if !self.pass(graph) {
+    /// Each bit travels at least one node a pass. Without loops one pass takes each to its place.
+    fn fill(&mut self, graph: &Graph, order: &Postorder) {
+        for _ in 0..=order.nodes.len() {
+            let is_changed = self.pass(graph, order.nodes.as_slice());
+            if !is_changed || !order.has_loop {
                 return;
             }
         }
     }
 
-    /// Takes each node once, from the last to the first. Returns whether something is new.
-    fn pass(&mut self, graph: &Graph) -> bool {
+    /// Takes each node once. Returns whether something is new.
+    fn pass(&mut self, graph: &Graph, order: &[NodeId]) -> bool {
         let mut is_changed = false;
-        for number in (0..graph.nodes().len()).rev() {
-            let id = NodeId(number);
-            if let Some(node) = graph.node(id) {
-                if self.update(graph, id, &node) {
+        for id in order {
+            if let Some(node) = graph.node(*id) {
+                if self.update(graph, *id, &node) {
                     is_changed = true;
                 }
             }
@@ -130,65 +132,77 @@ impl Liveness {
         is_changed
     }
 
+    /// Adds what is read from a node on. Returns whether something is new.
     fn update(&mut self, graph: &Graph, id: NodeId, node: &Node) -> bool {
-        let mut is_changed = false;
-        for word in 0..self.width {
-            let live = self.before(node, word) | self.kept_at(graph, id, node, word);
-            let at = id.0.saturating_mul(self.width).saturating_add(word);
-            if let Some(old) = self.words.get_mut(at) {
-                if *old != live {
-                    *old = live;
-                    is_changed = true;
-                }
-            }
+        let mut is_changed = self.add_ways(id, node);
+        for bit in self.bits_read(node.event) {
+            is_changed = self.add_bit(id, bit) || is_changed;
         }
-        is_changed
-    }
-
-    /// Returns a word of what is read from a node on.
-    fn before(&self, node: &Node, word: usize) -> u64 {
-        let event = node.event;
-        let yes = self.word(node.ways.yes, word) & !self.name_mask(name_assigned(event), word);
-        let after = yes | self.word(node.ways.no, word) | self.word(node.ways.missing, word);
-        let kept = after & !self.fact_mask(fact_forgotten(event), word);
-        let [first, second] = names_read(event);
-        kept | self.name_mask(first, word)
-            | self.name_mask(second, word)
-            | self.fact_mask(fact_read(event), word)
-            | self.field_mask(field_read(event), word)
-    }
-
-    /// Returns a word of the names that are asked for where a path ends.
-    fn kept_at(&self, graph: &Graph, id: NodeId, node: &Node, word: usize) -> u64 {
-        let mut kept = 0;
+        // What is asked for where a path ends.
         if node.ways == Ways::NONE {
             for (end, local) in graph.kept() {
                 if *end == id {
-                    kept |= self.name_mask(Some(*local), word);
+                    let bit = self.name_bit(*local);
+                    is_changed = self.add_bit(id, bit) || is_changed;
                 }
             }
         }
-        kept
+        is_changed
     }
 
-    fn name_mask(&self, local: Option<Local>, word: usize) -> u64 {
-        match local {
-            Some(local) => mask(self.name_bit(local), word),
-            None => 0,
+    fn bits_read(&self, event: Event) -> [Option<usize>; 4] {
+        let [first, second] = names_read(event);
+        [
+            self.bit_of_name(first),
+            self.bit_of_name(second),
+            self.bit_of_fact(fact_read(event)),
+            self.bit_of_field(field_read(event)),
+        ]
+    }
+
+    fn bit_of_name(&self, local: Option<Local>) -> Option<usize> {
+        self.name_bit(local?)
+    }
+
+    fn bit_of_fact(&self, fact: Option<Fact>) -> Option<usize> {
+        self.fact_bit(fact?)
+    }
+
+    fn bit_of_field(&self, field: Option<Field>) -> Option<usize> {
+        self.field_bit(field?)
+    }
+
+    /// Adds what is read behind a node, but for what its event assigns or forgets.
+    fn add_ways(&mut self, id: NodeId, node: &Node) -> bool {
+        let assigned = self.bit_of_name(name_assigned(node.event));
+        let forgotten = self.bit_of_fact(fact_forgotten(node.event));
+        let mut is_changed = false;
+        for word in 0..self.width {
+            let yes = self.word(node.ways.yes, word) & !mask(assigned, word);
+            let after = yes | self.word(node.ways.no, word) | self.word(node.ways.missing, word);
+            let live = after & !mask(forgotten, word);
+            is_changed = self.add(id, word, live) || is_changed;
+        }
+        is_changed
+    }
+
+    fn add_bit(&mut self, id: NodeId, bit: Option<usize>) -> bool {
+        match bit {
+            Some(bit) => self.add(id, bit / WORD, mask(Some(bit), bit / WORD)),
+            None => false,
         }
     }
 
-    fn field_mask(&self, field: Option<Field>, word: usize) -> u64 {
-        match field {
-            Some(field) => mask(self.field_bit(field), word),
-            None => 0,
-        }
-    }
-
-    fn fact_mask(&self, fact: Option<Fact>, word: usize) -> u64 {
-        match fact {
-            Some(fact) => mask(self.fact_bit(fact), word),
-            None => 0,
+    /// Adds bits to a word of a node. Returns whether one is new.
+    fn add(&mut self, id: NodeId, word: usize, bits: u64) -> bool {
+        let at = id.0.saturating_mul(self.width).saturating_add(word);
+        match self.words.get_mut(at) {
+            Some(old) => {
+                let is_new = bits & !*old != 0;
+                *old |= bits;
+                is_new
+            }
+            None => false,
         }
     }
 }

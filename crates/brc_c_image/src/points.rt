@@ -1,13 +1,11 @@
 //! The nodes in normal stores to which a search has come, in their order.
 
 use crate::arrivals::Arrival;
-use brc_c_graph::{Graph, NodeId};
+use brc_c_graph::NodeId;
 use brc_c_store::Store;
 use std::alloc::{AllocError, Global};
+use std::collections::HashMap;
 use std::mem;
-
-/// How many slots there may be.
-const MOST_SLOTS: usize = 4096;
 
 /// A node in a normal store, and its block.
 #[derive(Debug, Drop)]
@@ -16,8 +14,7 @@ pub(crate) struct Point {
     /// Without anything while the point's event is followed.
     pub(crate) store: Store,
     block: usize,
-    hash: usize,
-    /// The point before this one in the same slot.
+    /// The point before this one that has the same hash.
     before: Option<usize>,
 }
 
@@ -41,24 +38,18 @@ pub(crate) struct Waiting {
 #[derive(Drop)]
 pub(crate) struct Points {
     points: Vec<Point>,
-    /// The last point in each slot.
-    slots: Vec<Option<usize>>,
+    /// The last point with each hash.
+    last: HashMap<usize, usize>,
     followed: usize,
 }
 
 impl Points {
-    /// Returns no points, with slots for those of a graph.
-    pub(crate) fn new(alloc: Global, graph: &Graph) -> Result<Points, AllocError> {
-        let count = graph.nodes().len().saturating_mul(2).min(MOST_SLOTS);
-        let mut slots = Vec::with_capacity(alloc, count)?;
-        for _ in 0..count {
-            slots.push(None)?;
-        }
-        Ok(Points {
+    pub(crate) fn new(alloc: Global) -> Points {
+        Points {
             points: Vec::new(alloc),
-            slots,
+            last: HashMap::new(alloc),
             followed: 0,
-        })
+        }
     }
 
     /// Takes the next point whose event wasn't followed yet.
@@ -91,11 +82,11 @@ impl Points {
         hash: usize,
         taken: Option<&Waiting>,
     ) -> Option<usize> {
-        let mut next = *self.slots.get(self.slot_of(hash))?;
+        let mut next = Some(*self.last.get(&hash)?);
         for _ in 0..self.points.len() {
             let number = next?;
             let point = self.points.get(number)?;
-            if point.hash == hash && point.node == node && is_in(point, number, taken, store) {
+            if point.node == node && is_in(point, number, taken, store) {
                 return Some(point.block);
             }
             next = point.before;
@@ -112,17 +103,11 @@ impl Points {
         block: usize,
     ) -> Result<(), AllocError> {
         let number = self.points.len();
-        let slot = self.slot_of(hash);
-        let mut before = None;
-        if let Some(last) = self.slots.get_mut(slot) {
-            before = *last;
-            *last = Some(number);
-        }
+        let before = self.last.insert(hash, number)?;
         self.points.push(Point {
             node,
             store,
             block,
-            hash,
             before,
         })?;
         Ok(())
@@ -131,10 +116,6 @@ impl Points {
     /// Returns the points.
     pub(crate) fn into_points(self) -> Vec<Point> {
         self.points
-    }
-
-    fn slot_of(&self, hash: usize) -> usize {
-        hash.checked_rem(self.slots.len()).unwrap_or(0)
     }
 }
 

@@ -78,6 +78,7 @@ fn number_of(laid: &Laid, at: usize, target: &Target) -> usize {
             Some(Some(start)) => *start,
             _ => 0,
         },
+        Target::Line(number) => *number,
         Target::Below => at.saturating_add(1),
     }
 }

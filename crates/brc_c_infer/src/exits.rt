@@ -1,7 +1,7 @@
 //! Into which exits the returns of a function fall, and which arguments each exit steals: what most returns do.
 
-use crate::records::{Fate, Record};
 use crate::outs::vote_on_out;
+use crate::records::{Fate, Record};
 use crate::sites::Sites;
 use brc_c_flow::{OwnOut, RowFlow};
 use brc_c_store::Signs;

@@ -6,6 +6,7 @@
 
 mod calls;
 mod concluding;
+mod entering;
 mod exits;
 mod file;
 mod helpers;
@@ -15,6 +16,7 @@ mod numbering;
 mod order;
 mod outs;
 mod own;
+mod pointed;
 mod records;
 mod results;
 mod rows;

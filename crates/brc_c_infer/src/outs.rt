@@ -1,13 +1,12 @@
 //! What a function leaves where its arguments point to: what most returns do.
 
+use crate::entering::is_read;
 use crate::exits::Split;
-use crate::records::{Fate, OutRecord, Record};
+use crate::pointed::OutRecord;
+use crate::records::{Fate, Record};
 use crate::sites::Sites;
 use crate::tracing::container_of;
 use brc_c_flow::{Left, LeftObject, OutNames, OwnOut, RowFlow};
-use brc_c_image::{name_assigned, names_read};
-use brc_c_graph::{Graph, Node, NodeId};
-use brc_c_store::{Event, Local, Source};
 use std::alloc::{AllocError, Global};
 
 /// What an exit leaves, and how many returns differ from that.
@@ -33,7 +32,7 @@ pub(crate) struct OutVote {
     pub(crate) cost: usize,
 }
 
-/// The returns of an exit that leave an object of each sort, and how many they are.
+/// How many returns of an exit leave an object of each sort.
 #[derive(Clone, Copy, Debug)]
 struct Counts {
     new: usize,
@@ -59,7 +58,7 @@ pub(crate) fn vote_on_out(
     let from = container_of(alloc, flow, names.local)?;
     let has_failure = records.iter().any(|record| split.fails(record));
     let counts = counts_of(alloc, flow, records, split, false, number)?;
-    let success = vote(&counts, from, true);
+    let success = vote_of(&counts, from, true);
     let mut failure = Vote {
         others: 0,
         doubts: 0,
@@ -67,8 +66,8 @@ pub(crate) fn vote_on_out(
     };
     if has_failure {
         let failing = counts_of(alloc, flow, records, split, true, number)?;
-        failure = vote(&failing, from, is_replaced);
-        // What is stored by failures only is nobody's idea of a failure.
+        failure = vote_of(&failing, from, is_replaced);
+        // No split is meant by which only failures leave a new reference.
         if counts.new == 0 && failing.new > 0 {
             failure.others = failure.others.saturating_add(flow.returns.len());
         }
@@ -107,7 +106,7 @@ fn counts_of(
                     OutRecord::Borrowed => borrowed.mark(record.site),
                     OutRecord::Unknown => unknown.mark(record.site),
                     OutRecord::Same => same.mark(record.site),
-                    OutRecord::Nothing => {}
+                    OutRecord::Nothing | OutRecord::Moved => {}
                 }
                 if out.may_be_null {
                     null.mark(record.site);
@@ -124,9 +123,9 @@ fn counts_of(
     })
 }
 
-/// Returns what an exit leaves. Of a success some return may leave nothing, as where nothing is found; of a failure most
+/// Returns what an exit leaves. Of a success some return may leave nothing, as where nothing is found. Of a failure most
 /// returns have to leave an object.
-fn vote(counts: &Counts, from: Option<usize>, is_any: bool) -> Vote {
+fn vote_of(counts: &Counts, from: Option<usize>, is_any: bool) -> Vote {
     let none = counts.null.saturating_add(counts.same);
     let is_new = counts.new > 0
         && counts.new >= counts.borrowed
@@ -147,82 +146,6 @@ fn vote(counts: &Counts, from: Option<usize>, is_any: bool) -> Vote {
             is_same: counts.same > 0,
         },
         others: if is_new { counts.borrowed } else { counts.new },
-        doubts: if object == LeftObject::None {
-            0
-        } else {
-            none
-        },
-    }
-}
-
-/// Returns whether a path reads what is there at the entry.
-fn is_read(alloc: Global, graph: &Graph, names: OutNames) -> Result<bool, AllocError> {
-    let mut seen = Vec::new(alloc);
-    for _ in graph.nodes() {
-        seen.push(false)?;
-    }
-    let mut open = Vec::new(alloc);
-    if let Some(first) = first_node(graph, names) {
-        open.push(first)?;
-    }
-    for _turn in 0..graph.nodes().len() {
-        let Some(id) = open.pop() else {
-            break;
-        };
-        let Some(node) = graph.node(id) else {
-            continue;
-        };
-        if reads(&node, names) {
-            return Ok(true);
-        }
-        if name_assigned(node.event) != Some(names.local) {
-            for way in [node.ways.yes, node.ways.no, node.ways.missing] {
-                enter(way, &mut seen, &mut open)?;
-            }
-        }
-    }
-    Ok(false)
-}
-
-fn enter(
-    way: Option<NodeId>,
-    seen: &mut Vec<bool>,
-    open: &mut Vec<NodeId>,
-) -> Result<(), AllocError> {
-    let Some(id) = way else {
-        return Ok(());
-    };
-    if let Some(is_seen) = seen.get_mut(id.0) {
-        if !*is_seen {
-            *is_seen = true;
-            open.push(id)?;
-        }
-    }
-    Ok(())
-}
-
-/// Returns the node behind the one that keeps what is there at the entry.
-fn first_node(graph: &Graph, names: OutNames) -> Option<NodeId> {
-    for node in graph.nodes() {
-        if copied_to(node, names.local) == Some(names.first) {
-            return node.ways.yes;
-        }
-    }
-    None
-}
-
-fn reads(node: &Node, names: OutNames) -> bool {
-    let is_end = copied_to(node, names.local) == Some(names.last);
-    !is_end && names_read(node.event).iter().any(|read| *read == Some(names.local))
-}
-
-/// Returns the name that gets what a name has.
-fn copied_to(node: &Node, local: Local) -> Option<Local> {
-    match node.event {
-        Event::Copy {
-            to,
-            from: Source::Local(from),
-        } if from == local => Some(to),
-        _ => None,
+        doubts: if object == LeftObject::None { 0 } else { none },
     }
 }

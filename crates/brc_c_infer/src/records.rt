@@ -1,5 +1,6 @@
 //! What is known at the returns of a function.
 
+use crate::pointed::{OutState, kind_by_outs, outs_in, outs_read};
 use brc_c_flow::{Returned, ReturnedValue, RowFlow};
 use brc_c_image::Arrival;
 use brc_c_store::{Base, Local, ObjectId, Signs, Store, Value};
@@ -36,27 +37,6 @@ pub(crate) enum Fate {
     Null,
 }
 
-/// What a path leaves where an argument points to.
-#[derive(Clone, Copy, Debug, PartialEq, Eq)]
-pub(crate) enum OutRecord {
-    /// No object that counts: NULL, or one that everybody knows by name.
-    Nothing,
-    /// What was there.
-    Same,
-    New,
-    Borrowed,
-    Unknown,
-}
-
-/// What a path has done where an argument points to.
-#[derive(Clone, Copy, Debug)]
-pub(crate) struct OutState {
-    /// What became of the reference that was there.
-    pub(crate) before: Fate,
-    pub(crate) after: OutRecord,
-    pub(crate) may_be_null: bool,
-}
-
 /// A return in a store.
 #[derive(Debug, Drop)]
 pub(crate) struct Record {
@@ -81,6 +61,7 @@ pub(crate) fn records_of(
     flow: &RowFlow,
     arrivals: &[Arrival],
 ) -> Result<Vec<Record>, AllocError> {
+    let read = outs_read(alloc, flow)?;
     let mut records = Vec::new(alloc);
     for arrival in arrivals {
         for (site, returned) in flow.returns.iter().enumerate() {
@@ -92,10 +73,18 @@ pub(crate) fn records_of(
                     signs: Signs::ALL,
                     kind: Kind::Nothing,
                     fates: fates_in(alloc, flow, &arrival.store)?,
-                    outs: outs_in(alloc, flow, &arrival.store)?,
+                    outs: outs_in(alloc, flow, read.as_slice(), *returned, &arrival.store)?,
                     nulls: nulls_in(alloc, flow, &arrival.store)?,
                 };
                 if fill(&mut record, flow, *returned, &arrival.store) {
+                    if let Some(kind) = kind_by_outs(
+                        flow,
+                        read.as_slice(),
+                        *returned,
+                        &arrival.store,
+                    ) {
+                        record.kind = kind;
+                    }
                     records.push(record)?;
                 }
             }
@@ -138,7 +127,7 @@ fn fates_in(alloc: Global, flow: &RowFlow, store: &Store) -> Result<Vec<Fate>, A
 }
 
 /// The name of a reference that was given up has nothing.
-fn fate_of(value: Value) -> Fate {
+pub(crate) fn fate_of(value: Value) -> Fate {
     match value {
         Value::Unset => Fate::GivenUp,
         Value::Null => Fate::Null,
@@ -165,38 +154,6 @@ fn fill(record: &mut Record, flow: &RowFlow, returned: Returned, store: &Store) 
         },
     }
     true
-}
-
-fn outs_in(alloc: Global, flow: &RowFlow, store: &Store) -> Result<Vec<OutState>, AllocError> {
-    let mut outs = Vec::new(alloc);
-    for names in flow.outs.iter() {
-        let last = store.value(names.last);
-        outs.push(OutState {
-            before: fate_of(store.value(names.first)),
-            after: left_in(store, store.object_of(names.first), last),
-            may_be_null: matches!(last, Value::Null | Value::Maybe(_)),
-        })?;
-    }
-    Ok(outs)
-}
-
-/// Returns what is left where an argument points to, where this object was before.
-fn left_in(store: &Store, before: Option<ObjectId>, last: Value) -> OutRecord {
-    let Some(id) = last.object() else {
-        return OutRecord::Nothing;
-    };
-    let object = store.object(id);
-    if before == Some(id) {
-        OutRecord::Same
-    } else if object.singleton.is_some() || !object.is_alive() {
-        OutRecord::Nothing
-    } else if !object.registers.is_empty() {
-        OutRecord::New
-    } else if object.is_assumed {
-        OutRecord::Unknown
-    } else {
-        OutRecord::Borrowed
-    }
 }
 
 fn nulls_in(alloc: Global, flow: &RowFlow, store: &Store) -> Result<Vec<bool>, AllocError> {

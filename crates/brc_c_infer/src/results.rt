@@ -49,11 +49,12 @@ pub(crate) fn given_by(
             is_assumed: false,
         });
     }
-    // Of what is only ever a singleton nobody asks whether each reference is given up.
+    // Of what is only ever a singleton nobody asks whether each reference is given up. A singleton says nothing of what
+    // else is given.
     let is_singleton = count.own == 0 && count.unknown == 0 && count.borrowed == 0;
     Ok(Given {
         gives: Gives::New,
-        is_assumed: is_singleton || (own == 0 && count.unknown > 0),
+        is_assumed: is_singleton || (count.own == 0 && count.unknown > 0),
     })
 }
 

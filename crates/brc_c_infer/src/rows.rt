@@ -2,11 +2,12 @@
 
 use crate::exits::{Exits, Split, exits_of};
 use crate::file::Files;
+use crate::pointed::OutRecord;
 use crate::records::{Kind, Record};
 use crate::results::{Given, given_by};
 use crate::rule::{name_of, plain_result};
 use crate::tracing::assumed_arguments;
-use brc_c_flow::{NullField, OwnRow, RowFlow};
+use brc_c_flow::{NullField, OwnOut, OwnRow, RowFlow};
 use brc_c_graph::Graph;
 use brc_c_store::{Event, Signs};
 use brc_c_table::{Fails, Gives, Row, Takes};
@@ -49,7 +50,7 @@ pub(crate) fn row_from(
         failure,
         is_assumed: given.is_assumed,
         assumed: assumed_arguments(alloc, flow)?,
-        outs: exits.outs,
+        outs: outs_of(alloc, records, exits.outs),
         nulls: nulls_of(alloc, flow, records)?,
     })
 }
@@ -64,6 +65,15 @@ fn plain_given(files: &Files<'_>, function: &Function, records: &[Record]) -> Gi
     }
 }
 
+/// Returns what is known of what arguments point to: nothing, if a return has moved it elsewhere.
+fn outs_of(alloc: Global, records: &[Record], outs: Vec<OwnOut>) -> Vec<OwnOut> {
+    let moves = records.iter().any(|record| record
+        .outs
+        .iter()
+        .any(|out| out.after == OutRecord::Moved));
+    if moves { Vec::new(alloc) } else { outs }
+}
+
 /// Returns the fields of arguments that are NULL at each return.
 fn nulls_of(
     alloc: Global,
@@ -72,7 +82,10 @@ fn nulls_of(
 ) -> Result<Vec<NullField>, AllocError> {
     let mut nulls = Vec::new(alloc);
     for (at, field) in flow.fields.iter().enumerate() {
-        if records.iter().all(|record| record.nulls.get(at) == Some(&true)) {
+        if records
+            .iter()
+            .all(|record| record.nulls.get(at) == Some(&true))
+        {
             nulls.push(field.null)?;
         }
     }

@@ -14,8 +14,8 @@ use std::alloc::{AllocError, Global};
 /// What is found of a function.
 #[derive(Debug, Drop)]
 pub enum Verdict {
-    /// The checker accepts its module.
-    Right(Accepted),
+    /// The checker accepts its modules: the first one, and those of its further parts.
+    Right(Accepted, Vec<Accepted>),
     /// Its faults, each of which the checker confirms.
     Wrong(Vec<Confirmed>),
     TooLarge(Size),
@@ -33,15 +33,35 @@ pub fn judge_function(
 ) -> Result<Verdict, AllocError> {
     match image_of(alloc, rules, graph, name)? {
         Image::TooLarge(size) => Ok(Verdict::TooLarge(size)),
-        Image::Right(text) => judge_right(alloc, text),
+        Image::Right(texts) => judge_right(alloc, texts),
         Image::Wrong(faults) => judge_faults(alloc, faults),
     }
 }
 
-fn judge_right(alloc: Global, text: Text) -> Result<Verdict, AllocError> {
+fn judge_right(alloc: Global, texts: Vec<Text>) -> Result<Verdict, AllocError> {
+    let mut first = None;
+    let mut others = Vec::new(alloc);
+    for text in texts {
+        let Some(accepted) = accept(alloc, text)? else {
+            return Ok(Verdict::Unconfirmed(Vec::new(alloc)));
+        };
+        if first.is_none() {
+            first = Some(accepted);
+        } else {
+            others.push(accepted)?;
+        }
+    }
+    match first {
+        Some(first) => Ok(Verdict::Right(first, others)),
+        None => Ok(Verdict::Unconfirmed(Vec::new(alloc))),
+    }
+}
+
+/// Returns a text as an accepted one, if the checker accepts it.
+fn accept(alloc: Global, text: Text) -> Result<Option<Accepted>, AllocError> {
     match judge(alloc, text.bytes.as_slice(), None)? {
-        Judged::Right => Ok(Verdict::Right(Accepted::new(text))),
-        Judged::Wrong(_) | Judged::Unconfirmed => Ok(Verdict::Unconfirmed(Vec::new(alloc))),
+        Judged::Right => Ok(Some(Accepted::new(text))),
+        Judged::Wrong(_) | Judged::Unconfirmed => Ok(None),
     }
 }
 

@@ -140,7 +140,7 @@ fn add_verdict(
 ) -> Result<(), AllocError> {
     let alloc = judging.known.alloc;
     match verdict {
-        Verdict::Right(_) => Ok(()),
+        Verdict::Right(..) => Ok(()),
         Verdict::Wrong(faults) => {
             add_findings(alloc, judged, faults.as_slice(), &mut seen.findings)
         }

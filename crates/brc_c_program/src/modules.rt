@@ -16,7 +16,7 @@ pub(crate) struct Written {
     pub(crate) text: Vec<u8>,
 }
 
-/// Notes the modules that the verdict on a function is about: one, or one for each fault.
+/// Notes the modules that the verdict on a function is about: one, or several if it is long, or one for each fault.
 pub(crate) fn note_modules(
     alloc: Global,
     rules: Rules,
@@ -24,7 +24,13 @@ pub(crate) fn note_modules(
     seen: &mut Seen,
 ) -> Result<(), AllocError> {
     match verdict {
-        Verdict::Right(accepted) => note(alloc, rules, accepted.text(), seen),
+        Verdict::Right(first, others) => {
+            note(alloc, rules, first.text(), seen)?;
+            for accepted in others.iter() {
+                note(alloc, rules, accepted.text(), seen)?;
+            }
+            Ok(())
+        }
         Verdict::Wrong(faults) => {
             for fault in faults.iter() {
                 note(alloc, rules, fault.text(), seen)?;

@@ -30,7 +30,8 @@ pub(crate) struct Readings {
 }
 
 impl Readings {
-    /// Returns the function of the same name at the same place as the free-threaded rules read it, if it isn't the same.
+    /// Returns the function of the same name at the same place as the free-threaded rules read it, if they read another
+    /// text.
     pub(crate) fn partner(&self, function: &Function) -> Option<&Function> {
         match &self.free {
             FreeReading::Own(unit) => unit.partner(function),
@@ -62,33 +63,36 @@ pub(crate) fn judge_pair(
         rules: Rules::GlobalLock,
         counts: asked.asks_for_global_lock(),
     };
+    let free = Judging {
+        rules: Rules::FreeThreaded,
+        counts: true,
+        ..locked
+    };
     match &readings.free {
         FreeReading::NotAsked => judge_if_there(&locked, pair.locked, seen)?,
-        FreeReading::Same => {
-            if let Some(function) = pair.locked {
-                let free = Judging {
-                    rules: Rules::FreeThreaded,
-                    counts: true,
-                    ..locked
-                };
-                judge_by_both(&locked, &free, function, seen)?;
-            }
-        }
+        FreeReading::Same => judge_both_if_there(&locked, &free, pair.locked, seen)?,
         FreeReading::Own(unit) => {
             judge_if_there(&locked, pair.locked, seen)?;
-            let free = Judging {
-                unit,
-                rules: Rules::FreeThreaded,
-                counts: true,
-                ..locked
-            };
-            judge_if_there(&free, pair.free, seen)?;
+            let own = Judging { unit, ..free };
+            judge_if_there(&own, pair.free, seen)?;
         }
     }
     if !asked.asks_for_global_lock() {
         seen.findings.retain(|finding| finding.by_free_threaded);
     }
     Ok(())
+}
+
+fn judge_both_if_there(
+    locked: &Judging<'_>,
+    free: &Judging<'_>,
+    function: Option<&Function>,
+    seen: &mut Seen,
+) -> Result<(), AllocError> {
+    match function {
+        Some(function) => judge_by_both(locked, free, function, seen),
+        None => Ok(()),
+    }
 }
 
 fn judge_if_there(

@@ -152,8 +152,9 @@ impl Report {
         };
         match asked.format {
             AskedFormat::Text => {
+                let paint = self.paint;
                 let text = &mut self.text;
-                add_head(text, self.paint, about.sources, place, LineKind::Warning)?;
+                add_head(text, paint, about.sources, place, LineKind::Warning)?;
                 write!(text, "{words}\n")
             }
             AskedFormat::Json => {

@@ -62,9 +62,13 @@ pub(crate) fn suppressions_in(
         tokens: scanned.tokens.as_slice(),
         number,
     };
+    let mut token = 0;
     for comment in scanned.comments.iter() {
-        if let Some(suppression) = source.suppression(comment)? {
-            found.push(suppression)?;
+        if source.is_marked(comment) {
+            token = source.token_behind(comment, token);
+            if let Some(suppression) = source.suppression(comment, token)? {
+                found.push(suppression)?;
+            }
         }
     }
     Ok(found)
@@ -72,8 +76,8 @@ pub(crate) fn suppressions_in(
 
 /// Returns whether the bytes have `brc:` anywhere.
 fn has_mark(bytes: &[u8]) -> bool {
-    for at in 0..bytes.len() {
-        if bytes.get(at..).unwrap_or(b"").starts_with(b"brc:") {
+    for (at, byte) in bytes.iter().enumerate() {
+        if *byte == b'b' && bytes.get(at..).unwrap_or(b"").starts_with(b"brc:") {
             return true;
         }
     }
@@ -99,20 +103,40 @@ const NO_FORM: &str =
 const IDLE: &str = "this suppression takes nothing away: delete it";
 
 impl Source<'_> {
-    /// Returns a comment, if it begins with `brc:`.
-    fn suppression(&self, comment: &Comment) -> Result<Option<Suppression>, AllocError> {
-        let bytes = self.bytes.get(comment.start..comment.end).unwrap_or(b"");
-        if !has_mark(bytes) {
-            return Ok(None);
+    fn bytes_of(&self, comment: &Comment) -> &[u8] {
+        self.bytes.get(comment.start..comment.end).unwrap_or(b"")
+    }
+
+    fn is_marked(&self, comment: &Comment) -> bool {
+        has_mark(self.bytes_of(comment))
+    }
+
+    /// Returns the number of the first token behind a comment. No token before this number is behind it.
+    fn token_behind(&self, comment: &Comment, first: usize) -> usize {
+        for at in first..self.tokens.len() {
+            if let Some(token) = self.tokens.get(at) {
+                if token.start as usize >= comment.end {
+                    return at;
+                }
+            }
         }
-        let text = String::from_utf8_lossy(self.alloc, bytes)?;
+        self.tokens.len()
+    }
+
+    /// Returns a comment, if it begins with `brc:`. The number is that of the first token behind it.
+    fn suppression(
+        &self,
+        comment: &Comment,
+        token: usize,
+    ) -> Result<Option<Suppression>, AllocError> {
+        let text = String::from_utf8_lossy(self.alloc, self.bytes_of(comment))?;
         let Some(said) = said_by(text.as_str()) else {
             return Ok(None);
         };
         Ok(Some(Suppression {
             place: self.place_of(comment),
             last_line: comment.last_line,
-            brace: self.brace_after(comment),
+            brace: self.brace_behind(token),
             order: order_of(self.alloc, said)?,
             is_done: false,
         }))
@@ -121,12 +145,11 @@ impl Source<'_> {
     /// Returns where a comment begins.
     fn place_of(&self, comment: &Comment) -> Place {
         let mut column: u32 = 1;
-        for byte in self.bytes.get(..comment.start).unwrap_or(b"") {
-            column = if *byte == b'\n' {
-                1
-            } else {
-                column.saturating_add(1)
-            };
+        for byte in self.bytes.get(..comment.start).unwrap_or(b"").iter().rev() {
+            if *byte == b'\n' {
+                break;
+            }
+            column = column.saturating_add(1);
         }
         Place {
             source: self.number,
@@ -135,10 +158,10 @@ impl Source<'_> {
         }
     }
 
-    /// Returns the first brace behind a comment, if it is an opening one and no declaration or directive is between.
-    fn brace_after(&self, comment: &Comment) -> Option<Place> {
-        for token in self.tokens {
-            if token.start as usize >= comment.end && ends_head(token.kind) {
+    /// Returns the first brace from a token on, if it is an opening one and no declaration or directive is between.
+    fn brace_behind(&self, first: usize) -> Option<Place> {
+        for token in self.tokens.get(first..).unwrap_or(&[]) {
+            if ends_head(token.kind) {
                 return self.brace(token);
             }
         }

@@ -127,12 +127,12 @@ fn is_head(head: &[Lexeme]) -> bool {
 
 /// Returns a head without the names at its end, which are macros for attributes.
 pub(crate) fn without_names(head: &[Lexeme]) -> &[Lexeme] {
-    let mut found = head;
-    for _turn in 0..head.len() {
-        match found {
-            [before @ .., last] if last.kind == LexemeKind::Name => found = before,
-            _ => break,
+    let mut end = head.len();
+    for lexeme in head.iter().rev() {
+        if lexeme.kind != LexemeKind::Name {
+            break;
         }
+        end = end.saturating_sub(1);
     }
-    found
+    head.get(..end).unwrap_or(&[])
 }

@@ -18,6 +18,8 @@ pub struct Owes {
     pub section: bool,
     /// Whether it is only assumed that it has a reference.
     pub is_assumed: bool,
+    /// Whether other functions leave it as it is, so that it has after a call what it had before.
+    pub is_steady: bool,
 }
 
 /// A field of an object, or a variable that is there after the call, too.
@@ -37,6 +39,7 @@ pub struct Touched {
     pub owes: Owes,
     /// `Unset` if another function may have set it.
     pub value: Value,
-    /// Whether it has a reference of its own.
+    /// Whether it has a reference of its own. Of one that another function may have set: whether this function hasn't
+    /// touched it yet.
     pub is_owner: bool,
 }

@@ -132,6 +132,9 @@ impl Store {
         let Some(touched) = self.cells.get(at).copied() else {
             return;
         };
+        if touched.value == Value::Unset {
+            return;
+        }
         if !touched.is_owner {
             self.give_to_cell(touched);
         }
@@ -143,7 +146,31 @@ impl Store {
 
     pub(crate) fn forget_cells(&mut self) {
         for at in 0..self.cells.len() {
-            self.forget_at(at);
+            if self.is_steady(at) {
+                self.give_at(at);
+            } else {
+                self.forget_at(at);
+            }
+        }
+    }
+
+    fn is_steady(&self, at: usize) -> bool {
+        match self.cells.get(at) {
+            Some(touched) => touched.owes.is_steady && touched.value != Value::Unset,
+            None => false,
+        }
+    }
+
+    /// Gives the cell at a place the reference that it has to have.
+    fn give_at(&mut self, at: usize) {
+        let Some(touched) = self.cells.get(at).copied() else {
+            return;
+        };
+        if !touched.is_owner {
+            let given = self.give_to_cell(touched);
+            if let Some(found) = self.cells.get_mut(at) {
+                *found = given;
+            }
         }
     }
 
@@ -166,13 +193,25 @@ impl Store {
         }
     }
 
-    /// What is only borrowed from a cell isn't alive any more.
+    /// What is only borrowed from a cell that another function may set isn't alive any more.
     pub(crate) fn end_fields(&mut self) {
-        for object in self.objects.iter_mut() {
-            if object.base == Base::Field {
-                object.base = Base::Gone;
+        for at in 0..self.objects.len() {
+            let id = ObjectId(at);
+            let object = self.object(id);
+            if object.base == Base::Field && !self.is_in_steady(id) {
+                let gone = Object {
+                    base: Base::Gone,
+                    ..object
+                };
+                self.set_object(id, gone);
             }
         }
+    }
+
+    fn is_in_steady(&self, id: ObjectId) -> bool {
+        self.cells.iter().any(|touched| {
+            touched.owes.is_steady && touched.is_owner && touched.value.object() == Some(id)
+        })
     }
 
     pub(crate) fn drop_cells(&mut self, field: Field) {
@@ -242,7 +281,15 @@ pub(crate) fn is_exposed(rules: Rules, store: &Store, cell: Cell) -> bool {
         return false;
     }
     match store.holder_of(cell) {
-        Some(id) => store.touched(cell).is_none() && !store.is_in_section(id),
+        Some(id) => !has_asked(store, cell) && !store.is_in_section(id),
+        None => false,
+    }
+}
+
+/// Returns whether the function has read or set a cell itself.
+fn has_asked(store: &Store, cell: Cell) -> bool {
+    match store.touched(cell) {
+        Some(touched) => touched.value != Value::Unset || !touched.is_owner,
         None => false,
     }
 }

@@ -40,7 +40,7 @@ pub(crate) fn forget_cell(next: &mut Store, cell: Cell) -> Result<(), AllocError
                 field: cell.field,
                 owes: cell.owes,
                 value: Value::Unset,
-                is_owner: false,
+                is_owner: true,
             })?;
         }
     }

@@ -1,8 +1,13 @@
-//! Tests of the reader of C: tokens, macros, the trees of functions, types, and the table of the C API.
+//! Tests of C functions: tokens, macros, the trees of functions, types, the table of the C API; and what is said of
+//! functions that are made at random or by a change of right ones, in each format.
 #![tactic(auto)]
 
 #[cfg(test)]
 mod bodies;
+#[cfg(test)]
+mod formats;
+#[cfg(test)]
+mod judged;
 #[cfg(test)]
 mod limits;
 #[cfg(test)]
@@ -12,7 +17,11 @@ mod outside;
 #[cfg(test)]
 mod random;
 #[cfg(test)]
+mod random_functions;
+#[cfg(test)]
 mod reading;
+#[cfg(test)]
+mod releases;
 #[cfg(test)]
 mod rendering;
 #[cfg(test)]

@@ -6,7 +6,7 @@ use std::alloc::Global;
 use std::test::Fail;
 
 /// Returns a number below the end that looks random, and goes on.
-fn below(state: &mut u64, end: usize) -> usize
+pub fn below(state: &mut u64, end: usize) -> usize
     requires { 0 < end }
     ensures { result < end }
 {

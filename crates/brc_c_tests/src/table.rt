@@ -337,7 +337,7 @@ fn carried_rows(alloc: Global) -> Result<usize, TableFault> {
 
 #[test]
 fn the_users_rows_come_first(rt: HostRuntime) -> Result<(), Fail> {
-    assert_eq!(rt; carried_rows(rt.alloc())?, 1294);
+    assert_eq!(rt; carried_rows(rt.alloc())?, 1318);
     assert_eq!(rt; carried(rt.alloc())?, (true, [None, Some(Gives::New)]));
     let wanted = [
         Some(Gives::Lent),

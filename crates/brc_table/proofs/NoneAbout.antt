@@ -17,7 +17,7 @@ none_about x (d ∷ rest) aside none =
     let counted : Duty → ℕ = λ e. cond (is_about x e) 1 0 in
     omega (arith, none, sum_by-cons counted d (rest ++ aside), sum_by-append counted rest aside)
 
-has_none : (v : View) (x : ℕ) → HasNoWork v x → HasNoneAbout v.actor x
+pub has_none : (v : View) (x : ℕ) → HasNoWork v x → HasNoneAbout v.actor x
 has_none v x free =
     none_about x v.actor.agenda v.actor.aside (sym (length-filter (is_about x) (v.actor.agenda ++ v.actor.aside))
     ∙ ap length free)

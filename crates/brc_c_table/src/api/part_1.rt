@@ -240,8 +240,8 @@ PyUnicode_AsUTF32String new b null pure
 PyUnicode_AsUnicodeEscapeString new b null pure
 PyUnicode_EncodeFSDefault new b null runs
 PyUnicode_EncodeLocale new b- null runs
-PyUnicode_FSConverter int bo zero runs
-PyUnicode_FSDecoder int bo zero runs
+PyUnicode_FSConverter int no zero runs
+PyUnicode_FSDecoder int no zero runs
 PyUnicode_FromWideChar new -- null pure
 PyUnicode_FromEncodedObject new b-- null runs
 PyUnicode_FromOrdinal new - null pure

@@ -1,6 +1,30 @@
 //! The rows of `api.txt`. `docs/api_table.py --write` writes this file.
 
 pub const ROWS: &str = "
+PyLong_IsZero int b none pure
+PyLong_GetInfo new . null pure
+PyDict_PopString int b-o miss runs
+PyIter_NextItem int bo miss runs
+PyMapping_GetOptionalItemString int b-o miss runs
+PyMapping_HasKeyWithError int bb less runs
+PyMapping_HasKeyStringWithError int b- less runs
+PyImport_ImportModuleAttr new bb null runs
+PyImport_ImportModuleAttrString new -- null runs
+PyWeakref_IsDead int b less pure
+PyWeakref_CheckProxy int b none pure
+PyWeakref_CheckRefExact int b none pure
+PyType_GetDict new b null pure
+PyType_FromMetaclass new bb-n null runs
+PyType_GetFullyQualifiedName new b null pure
+PyType_GetModuleName new b null pure
+PyType_GetBaseByToken int b-o miss pure
+PyType_Freeze int b neg runs
+PyType_AddWatcher int - neg pure
+PyType_Watch int -b neg pure
+PyType_Unwatch int -b neg pure
+PyDict_Watch int -b neg pure
+PyDict_Unwatch int -b neg pure
+PyType_GetTypeDataSize other b none pure
 PyFrameLocalsProxy_Check int b none pure
 PySys_AuditTuple int -n neg runs
 PyUnstable_Code_New new -----bbbbbbbbb-bb null pure
