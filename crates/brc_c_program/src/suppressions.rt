@@ -102,9 +102,10 @@ const NO_FORM: &str =
 
 const IDLE: &str = "this suppression takes nothing away: delete it";
 
-impl Source<'_> {
-    fn bytes_of(&self, comment: &Comment) -> &[u8] {
-        self.bytes.get(comment.start..comment.end).unwrap_or(b"")
+impl<'a> Source<'a> {
+    fn bytes_of(&self, comment: &Comment) -> &'a [u8] {
+        let bytes = self.bytes;
+        bytes.get(comment.start..comment.end).unwrap_or(&[])
     }
 
     fn is_marked(&self, comment: &Comment) -> bool {
