@@ -52,7 +52,7 @@ fn enter(number: Option<usize>, entered: &mut Vec<bool>) {
     }
 }
 
-/// Writes the lines that lead to a block. If others are to come, paths may go past them.
+/// Writes the lines that lead to a block. If further blocks follow, the first line asks whether to go past these.
 fn begin_one(
     alloc: Global,
     held: &Held,

@@ -123,8 +123,8 @@ fn counts_of(
     })
 }
 
-/// Returns what an exit leaves. Of a success some return may leave nothing, as where nothing is found. Of a failure most
-/// returns have to leave an object.
+/// Returns what an exit leaves. Of a success some return may leave nothing, as where nothing is found. Of a failure
+/// most returns have to leave an object.
 fn vote_of(counts: &Counts, from: Option<usize>, is_any: bool) -> Vote {
     let none = counts.null.saturating_add(counts.same);
     let is_new = counts.new > 0

@@ -58,7 +58,7 @@ pub(crate) fn given_by(
     })
 }
 
-/// A function that gives no object on any path gives NULL, if some path comes to each return.
+/// A function that returns an object on no path returns NULL, if each of its returns is reached.
 fn given_by_none(flow: &RowFlow, records: &[Record]) -> Given {
     let mut is_silent = false;
     for (site, returned) in flow.returns.iter().enumerate() {

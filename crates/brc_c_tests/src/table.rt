@@ -218,7 +218,7 @@ fn fault_of(alloc: Global, text: &[u8]) -> Option<(u64, RowFault)> {
     }
 }
 
-/// What is at fault in a text with a byte that stands there this often.
+/// Returns what is at fault in a text that repeats a byte this many times.
 fn fault_of_long(
     alloc: Global,
     before: &[u8],

@@ -152,7 +152,7 @@ fn tells_how_far_schedules_and_runs_are(rt: HostRuntime) {
 
 /// Two C functions, of which the first is at fault.
 const C: &[u8] =
-    b"int f(PyObject *o)\n{\n    PyObject *x = PyObject_Repr(o);\n    return x == NULL;\n}\nint g(int a) { return a; }\n";
+    b"int f(PyObject *o)\n{\n    PyObject *x = PyObject_Repr(o);\n    return !x;\n}\nint g(int a) { return a; }\n";
 
 // A terminal is given the number of C functions, and its line is wiped.
 #[test]
