@@ -33,23 +33,21 @@ TICKS = os.sysconf("SC_CLK_TCK")
 PARTS = ["code", "tests", "second check", "wrong bodies"]
 
 
-def part_of(words, folder, begun):
-    """Returns what a compiler's process works for: a crate and one of PARTS, or None. `begun` has the folders of kept work
-    that a process has begun with: the first one over such a folder checks the crate whole."""
+def part_of(words, folder):
+    """Returns what a compiler's process works for: a crate and one of PARTS, or None. A wrong body is checked over a copy of
+    the folder `seed`, which the second check has filled."""
     if "--crate-name" not in words or not any(word in words for word in ("check", "build", "compile")):
         return None
     crate = words[words.index("--crate-name") + 1]
     over = words[words.index("--incremental") + 1] if "--incremental" in words else ""
-    if "rt-edits-" in over and over not in begun:
-        begun.add(over)
+    if "rt-edits-" in over and over.endswith("/seed"):
         return crate, "second check"
     if "rt-edits-" in over or "rt-edit-" in folder:
-        # A check of a copy that no edit has changed is the second check too, if memory ran short.
         return crate, "wrong bodies"
     return crate, "tests" if "--test" in words else "code"
 
 
-def look(seen, below, folders):
+def look(seen, below):
     """Notes the time of each process of the run."""
     for name in os.listdir("/proc"):
         if not name.isdigit():
@@ -65,7 +63,7 @@ def look(seen, below, folders):
                 folder = os.readlink(f"/proc/{name}/cwd")
                 if os.getpgid(int(name)) != below and os.getsid(int(name)) != os.getsid(below):
                     continue
-                part = part_of(words, folder, folders)
+                part = part_of(words, folder)
                 if part is None:
                     continue
                 seen[begun] = [part, 0]
@@ -107,11 +105,11 @@ def edits_of(root):
 
 def gate_here():
     """Runs the gate in this checkout, and prints what it has cost. A fault of the measure changes nothing of the status."""
-    start, seen, folders = time.time(), {}, set()
+    start, seen = time.time(), {}
     ran = subprocess.Popen(["rt", "ci"], cwd=ROOT, start_new_session=True)
     try:
         while ran.poll() is None:
-            look(seen, ran.pid, folders)
+            look(seen, ran.pid)
             time.sleep(1)
         used = resource.getrusage(resource.RUSAGE_CHILDREN)
         closing = "passed" if ran.returncode == 0 else "failed"
@@ -132,10 +130,10 @@ def main():
     with tempfile.TemporaryDirectory(prefix="gate-cost-") as room, open(sys.argv[1], "w") as log:
         clone = Path(room) / "clone"
         subprocess.run(["git", "clone", "-q", ROOT, clone], check=True)
-        start, seen, folders = time.time(), {}, set()
+        start, seen = time.time(), {}
         ran = subprocess.Popen(["rt", "ci", *sys.argv[2:]], cwd=clone, stdout=log, stderr=subprocess.STDOUT, start_new_session=True)
         while ran.poll() is None:
-            look(seen, ran.pid, folders)
+            look(seen, ran.pid)
             time.sleep(1)
         wall = time.time() - start
         used = resource.getrusage(resource.RUSAGE_CHILDREN)

@@ -116,25 +116,46 @@ struct Found {
     waits: usize,
 }
 
-/// Visits the state after the moves, if the last move leads to a new one. Returns what that move did, and whether the
-/// state is new and all its threads are gone.
+/// Returns whether no move has led to this state before.
+fn is_new(
+    alloc: Global,
+    world: &World<'_>,
+    seen: &mut BTreeSet<String>,
+) -> Result<bool, AllocError> {
+    seen.insert(format!(in alloc; "{world:?}")?)
+}
+
+/// Returns whether all threads of a new state are gone, or `None` if the state isn't new.
+fn last_if_new(
+    alloc: Global,
+    world: &World<'_>,
+    objects: u64,
+    seen: &mut BTreeSet<String>,
+) -> Result<Option<bool>, Fail> {
+    if is_new(alloc, world, seen)? {
+        Ok(Some(is_last(world, objects)?))
+    } else {
+        Ok(None)
+    }
+}
+
+/// Visits the state after the moves, if the last move leads to a new one. Returns what that move did, and of a new state
+/// whether all its threads are gone.
 fn visit(
     alloc: Global,
     checked: &Checked,
     objects: u64,
-    moves: Vec<u8>,
+    moves: &[u8],
     seen: &mut BTreeSet<String>,
-    paths: &mut Vec<Vec<u8>>,
-) -> Result<(Option<Did>, bool), Fail>
+) -> Result<(Option<Did>, Option<bool>), Fail>
     requires { HasCallableEnds checked.now.module }
 {
-    let (world, did) = after(alloc, checked, &moves)?;
-    if did != Some(Did::Moved) || !seen.insert(format!(in alloc; "{world:?}")?)? {
-        return Ok((did, false));
+    let (world, did) = after(alloc, checked, moves)?;
+    if did != Some(Did::Moved) {
+        return Ok((did, None));
     }
-    let last = is_last(&world, objects)?;
-    paths.push(moves)?;
-    Ok((did, last))
+    let found = last_if_new(alloc, &world, objects, seen)?;
+    Ok((did, found))
 }
 
 /// Visits each state that moves lead to.
@@ -154,8 +175,11 @@ fn search(alloc: Global, checked: &Checked, objects: u64) -> Result<Found, Fail>
         let mut is_end = true;
         for turn in 0..MOVES {
             let more = one_move_more(alloc, &moves, turn)?;
-            let (did, is_last) = visit(alloc, checked, objects, more, &mut seen, &mut paths)?;
-            last = last.saturating_add(usize::from(is_last));
+            let (did, found) = visit(alloc, checked, objects, &more, &mut seen)?;
+            if let Some(is_last) = found {
+                last = last.saturating_add(usize::from(is_last));
+                paths.push(more)?;
+            }
             waits = waits.saturating_add(usize::from(turn < THREADS && did == Some(Did::Same)));
             is_end = is_end && did != Some(Did::Moved);
         }

@@ -1,9 +1,8 @@
 //! The pages: each example is a text with that code, and its mended form has none.
 
-ghost use Rattle.std.specs.Prelude.{IfOk};
 ghost use Rattle.brc_lang.specs.Grammar.{IsModule};
 
-use brc_check::check;
+use brc_check::{Refused, check};
 use brc_lang::{Module, ReadFault, read};
 use brc_pages::{ExampleLine, Topic, page_of, topic_named, write_page};
 use brc_report::Paint;
@@ -15,24 +14,37 @@ const CODES: &[&str] = &[
     "L4", "L5", "L6", "L7", "L8", "L9", "L10",
 ];
 
-/// The module of a text, or its fault.
-fn module_of(alloc: Global, text: &[u8]) -> Result<Module, ReadFault>
-    ensures { IfOk result (λ m. IsModule m) }
+/// What a text is.
+#[derive(Clone, Copy, Drop)]
+enum Verdict {
+    Unreadable(ReadFault),
+    Refused(Refused),
+    Accepted,
+}
+
+fn verdict_of(alloc: Global, text: &[u8]) -> Verdict {
+    match read(alloc, text) {
+        Ok(module) => verdict_of_module(alloc, module),
+        Err(fault) => Verdict::Unreadable(fault),
+    }
+}
+
+fn verdict_of_module(alloc: Global, module: Module) -> Verdict
+    requires { IsModule «module» }
 {
-    read(alloc, text)
+    match check(alloc, module) {
+        Ok(_) => Verdict::Accepted,
+        Err(refused) => Verdict::Refused(refused),
+    }
 }
 
 /// What a text is, as `brc check` says it, but for the numbers of an accepted module.
 fn check_line(alloc: Global, text: &[u8]) -> Result<String, Fail> {
-    let module = match module_of(alloc, text) {
-        Ok(module) => module,
-        Err(fault) => return Ok(format!(in alloc; "unreadable {fault}")?),
-    };
-    let Some(refused) = check(alloc, module).err() else {
-        return Ok(format!(in alloc; "accepted")?);
-    };
-    let name = str::from_utf8(refused.function.as_bytes()).unwrap_or("");
-    Ok(format!(in alloc; "refused {name} @{} {}", refused.at, refused.code)?)
+    Ok(match verdict_of(alloc, text) {
+        Verdict::Unreadable(fault) => format!(in alloc; "unreadable {fault}")?,
+        Verdict::Refused(refused) => format!(in alloc; "{refused}")?,
+        Verdict::Accepted => format!(in alloc; "accepted")?,
+    })
 }
 
 /// Whether the text has the part.
@@ -87,8 +99,8 @@ fn page_text(alloc: Global, code: &str, paint: Paint) -> Result<Vec<u8>, Fail> {
     Ok(out)
 }
 
-/// Each code has a page, whose example has the code and whose mended example has none. A page has colours if they are asked
-/// for.
+/// Each code has a page, whose example has the code and whose mended example has none. A page has colours if they are
+/// asked for.
 #[test]
 fn each_code_has_its_page(rt: HostRuntime) -> Result<(), Fail> {
     for code in CODES {

@@ -1,4 +1,5 @@
-//! The tables of accepted functions, made up and random ones, compared with full ones that are filled by a plain walk over all exits.
+//! The tables of accepted functions, made up and random ones, compared with full ones that are filled by a plain walk
+//! over all exits.
 
 ghost use Rattle.std.specs.Prelude.{◌<◌};
 

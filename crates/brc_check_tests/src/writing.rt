@@ -1,6 +1,8 @@
 //! Texts that are written: modules, as they were read and over writers that stop, numbers, and reports.
 
-use brc_lang::{FaultCode, Kind, ReadFault, Sequence, read, write, write_bytes, write_number};
+use brc_lang::{
+    FaultCode, Kind, Module, ReadFault, Sequence, read, write, write_bytes, write_number,
+};
 use brc_report::{Left, Tally, write_entry, write_tally};
 use std::alloc::{AllocError, Global};
 use std::io;
@@ -45,9 +47,16 @@ fn largest(alloc: Global) -> Result<Vec<u8>, AllocError> {
 
 /// Whether the module that a text is read as is written as this text.
 pub fn is_written_back(alloc: Global, text: &[u8]) -> Result<bool, Fail> {
-    let module = read(alloc, text).ok().ok_or("the text is a module")?;
+    match read(alloc, text) {
+        Ok(module) => is_written_as(alloc, &module, text),
+        Err(_) => Ok(false),
+    }
+}
+
+/// Whether the module is written as this text.
+fn is_written_as(alloc: Global, module: &Module, text: &[u8]) -> Result<bool, Fail> {
     let mut out: Vec<u8> = Vec::new(alloc);
-    write(&module, &mut out)?;
+    write(module, &mut out)?;
     Ok(out.as_slice() == text)
 }
 
@@ -87,18 +96,22 @@ impl Write for Narrow {
 /// Whether a writer that takes so many bytes gets the beginning of the smallest module, and no error only if it takes
 /// all.
 fn is_begun(alloc: Global, stop: Stop, left: usize) -> Result<bool, Fail> {
-    let module = read(alloc, SMALLEST).ok().ok_or("the text is a module")?;
+    match read(alloc, SMALLEST) {
+        Ok(module) => Ok(writes_beginning(alloc, &module, stop, left)),
+        Err(_) => Ok(false),
+    }
+}
+
+fn writes_beginning(alloc: Global, module: &Module, stop: Stop, left: usize) -> bool {
     let mut writer = Narrow {
         taken: Vec::new(alloc),
         left,
         stop,
     };
-    let is_whole = write(&module, &mut writer).is_ok();
-    Ok(
-        is_whole == (left == SMALLEST.len())
-            && writer.taken.len() == left
-            && SMALLEST.starts_with(writer.taken.as_slice()),
-    )
+    let is_whole = write(module, &mut writer).is_ok();
+    is_whole == (left == SMALLEST.len())
+        && writer.taken.len() == left
+        && SMALLEST.starts_with(writer.taken.as_slice())
 }
 
 /// Whether two mebibytes are written as they are.
