@@ -97,15 +97,18 @@ impl<'a> Parser<'a> {
         if !self.cursor.peek().is(Punctuator::LeftParen) {
             return Ok(());
         }
-        let name = self.cursor.ahead(2).symbol;
-        if CLEANUPS.contains(&self.symbols.text(name)) {
-            return Err(not_read(place, Reason::Cleanup));
-        }
+        let first = self.cursor;
         if !self
             .cursor
             .skip_nested(Punctuator::LeftParen, Punctuator::RightParen)
         {
             return Err(not_read(place, Reason::NotClosed));
+        }
+        // It may be one of several attributes in the parentheses.
+        for by in 0..first.left().saturating_sub(self.cursor.left()) {
+            if CLEANUPS.contains(&self.symbols.text(first.ahead(by).symbol)) {
+                return Err(not_read(place, Reason::Cleanup));
+            }
         }
         Ok(())
     }
