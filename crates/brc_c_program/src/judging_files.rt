@@ -44,7 +44,7 @@ struct Work<'f, 'a, F: Files> {
     errors: String,
 }
 
-/// Judges the functions of a command's files, unless there are more than `FILES_LIMIT`, or one of its tables isn't read.
+/// Judges the functions of a command's files, unless there are more than `FILES_LIMIT` or a table isn't read.
 /// Returns an error only if memory is refused.
 pub fn judge_files<F: Files>(
     alloc: Global,
