@@ -19,12 +19,15 @@ use brc_c_text::{Symbols, TextFault};
 use brc_c_tree::Function;
 use std::alloc::{AllocError, Global};
 
+/// The greatest number of files in a command.
+pub const FILES_LIMIT: usize = 256;
+
 /// What a command says of its files.
 #[derive(Drop)]
 pub struct Judgement {
     /// What is found of functions, and last the counts, in the format that is asked for.
     pub text: String,
-    /// The lines about files that can't be read.
+    /// The lines about files that can't be read, and about headers that are taken as empty.
     pub errors: String,
     pub status: Status,
 }
@@ -41,8 +44,8 @@ struct Work<'f, 'a, F: Files> {
     errors: String,
 }
 
-/// Judges the functions of a command's files, unless one of its tables isn't read. Returns an error only if memory is
-/// refused.
+/// Judges the functions of a command's files, unless there are more than `FILES_LIMIT` or a table isn't read.
+/// Returns an error only if memory is refused.
 pub fn judge_files<F: Files>(
     alloc: Global,
     asked: &Asked<'_>,
@@ -50,6 +53,13 @@ pub fn judge_files<F: Files>(
 ) -> Result<Judgement, AllocError> {
     let mut errors = String::new(alloc);
     let tables = read_tables(alloc, asked.tables, files, &mut errors)?;
+    if asked.files.len() > FILES_LIMIT {
+        let count = asked.files.len();
+        write!(
+            errors,
+            "{count} files: a command takes {FILES_LIMIT} at most\n"
+        )?;
+    }
     if !errors.is_empty() {
         return Ok(Judgement {
             text: String::new(alloc),
@@ -94,7 +104,7 @@ impl<F: Files> Work<'_, '_, F> {
         let alloc = self.known.alloc;
         let Work {
             known: _,
-            sources: _,
+            sources,
             suppressions: _,
             counts,
             report,
@@ -112,6 +122,8 @@ impl<F: Files> Work<'_, '_, F> {
             Status::NotRead
         };
         let text = report.end(alloc, asked, &counts, errors.is_empty())?;
+        // What a header would have said may not matter, so a missing one changes no status.
+        sources.add_missing(&mut errors)?;
         Ok(Judgement {
             text,
             errors,
@@ -149,7 +161,9 @@ impl<F: Files> Work<'_, '_, F> {
             write!(self.errors, "{path}: unreadable file\n")?;
             return Ok(None);
         };
-        match self.readings_of(asked, bytes.as_slice(), number, file) {
+        let read = self.readings_of(asked, bytes.as_slice(), number, file);
+        self.sources.place_missing(bytes.as_slice(), number)?;
+        match read {
             Ok(readings) => {
                 self.note_comments(bytes.as_slice(), number)?;
                 Ok(Some(readings))

@@ -1,7 +1,9 @@
 //! The sources of a program: its files, and the headers that they include.
 
 use crate::files::Files;
+use crate::missing::{Absence, Missing};
 use brc_c_macros::Headers;
+use brc_c_text::FILE_LIMIT;
 use std::alloc::{AllocError, Global};
 
 /// Headers of Python itself, of which the table says what is to be known.
@@ -15,6 +17,7 @@ pub(crate) struct Sources<'f, 'a, F: Files> {
     folders: &'a [&'a str],
     /// The paths of the sources, by their numbers.
     names: Vec<String>,
+    missing: Missing,
 }
 
 impl<'f, 'a, F: Files> Sources<'f, 'a, F> {
@@ -24,6 +27,7 @@ impl<'f, 'a, F: Files> Sources<'f, 'a, F> {
             files,
             folders,
             names: Vec::new(alloc),
+            missing: Missing::new(alloc),
         }
     }
 
@@ -59,6 +63,29 @@ impl<'f, 'a, F: Files> Sources<'f, 'a, F> {
         }
     }
 
+    /// Finds the place where the first header is named that is taken as empty, if a file or its headers name it. The
+    /// bytes are the file's, which has this number.
+    pub(crate) fn place_missing(&mut self, bytes: &[u8], number: usize) -> Result<(), AllocError> {
+        let Some(from) = self.missing.unplaced() else {
+            return Ok(());
+        };
+        if from == number {
+            self.missing.place_in(bytes);
+            return Ok(());
+        }
+        let mut header = Vec::new(self.alloc);
+        if let Some(path) = self.names.get(from) {
+            self.files.read(path.as_str(), &mut header)?;
+        }
+        self.missing.place_in(header.as_slice());
+        Ok(())
+    }
+
+    /// Appends a line about the headers that are taken as empty, if there are any.
+    pub(crate) fn add_missing(&self, text: &mut String) -> Result<(), AllocError> {
+        self.missing.add_note(self.names.as_slice(), text)
+    }
+
     /// Returns the path of a header beside a source.
     fn beside(&self, name: &[u8], from: usize) -> Result<String, AllocError> {
         let source = match self.names.get(from) {
@@ -80,6 +107,27 @@ impl<'f, 'a, F: Files> Sources<'f, 'a, F> {
         }
         path.extend_from_slice(name)?;
         String::from_utf8_lossy(self.alloc, path.as_slice())
+    }
+
+    /// Reads the header that a source includes, beside the source or else in a folder, and returns its number.
+    fn find(
+        &mut self,
+        name: &[u8],
+        from: usize,
+        bytes: &mut Vec<u8>,
+    ) -> Result<Option<usize>, AllocError> {
+        let path = self.beside(name, from)?;
+        if let Some(number) = self.header(path.as_str(), bytes)? {
+            return Ok(Some(number));
+        }
+        let folders = self.folders;
+        for folder in folders {
+            let path = self.under(folder, name)?;
+            if let Some(number) = self.header(path.as_str(), bytes)? {
+                return Ok(Some(number));
+            }
+        }
+        Ok(None)
     }
 
     /// Reads the header at a path, and returns its number, or `None` if it can't be read.
@@ -104,18 +152,13 @@ impl<F: Files> Headers for Sources<'_, '_, F> {
         if PYTHONS.iter().any(|known| *known == name) {
             return Ok(None);
         }
-        let path = self.beside(name, from)?;
-        if let Some(number) = self.header(path.as_str(), bytes)? {
-            return Ok(Some(number));
+        let found = self.find(name, from, bytes)?;
+        if found.is_none() {
+            self.missing.add(name, from, Absence::NotFound)?;
+        } else if bytes.len() > FILE_LIMIT {
+            self.missing.add(name, from, Absence::TooLong)?;
         }
-        let folders = self.folders;
-        for folder in folders {
-            let path = self.under(folder, name)?;
-            if let Some(number) = self.header(path.as_str(), bytes)? {
-                return Ok(Some(number));
-            }
-        }
-        Ok(None)
+        Ok(found)
     }
 }
 

@@ -11,7 +11,7 @@ use brc_c_store::Rules;
 use brc_c_table::Tables;
 use brc_c_text::{Lexeme, LexemeKind, Symbol, Symbols, TextFault, lexemes_of, scan};
 use brc_c_tree::{Function, SourceTree};
-use brc_c_types::{Types, cast_result};
+use brc_c_types::Types;
 use std::alloc::{AllocError, AllocFailed, Global};
 use std::collections::HashSet;
 
@@ -178,10 +178,10 @@ fn add_casts(
         if lexeme.kind == LexemeKind::Name && types.result_of(lexeme.symbol).is_none() {
             if let Some(found) = macros.find(lexeme.symbol) {
                 if found.is_cast {
+                    casts.insert(lexeme.symbol)?;
                     let body = macros.body(&found)?;
-                    if let Some(given) = cast_result(body.as_slice()) {
+                    if let Some(given) = types.cast_result(body.as_slice()) {
                         types.add_result(lexeme.symbol, given)?;
-                        casts.insert(lexeme.symbol)?;
                     }
                 }
             }

@@ -1,10 +1,11 @@
 //! Declarations of variables.
 
+use crate::ending::Ending;
 use crate::infix::ASSIGNMENT;
 use crate::parsing::Parser;
 use crate::specifying::Specifiers;
 use crate::stop::{Stop, not_read};
-use brc_c_text::{Keyword, Punctuator};
+use brc_c_text::{Keyword, Punctuator, Symbol};
 use brc_c_tree::{Declaration, Expression, ExpressionId, Reason, Statement, StatementId};
 
 impl<'a> Parser<'a> {
@@ -12,13 +13,16 @@ impl<'a> Parser<'a> {
     pub(crate) fn declaration(&mut self, depth: usize) -> Result<StatementId, Stop> {
         let place = self.cursor.peek().place;
         let is_typedef = self.cursor.eat_keyword(Keyword::Typedef);
+        self.cleanup = None;
         let specifiers = self.specifiers()?;
+        let cleanup = self.cleanup;
         let mut found = Vec::new(self.alloc);
         for _turn in 0..self.cursor.left() {
             // `struct s { .. };` declares no variable.
             if self.cursor.peek().is(Punctuator::Semicolon) {
                 break;
             }
+            self.cleanup = cleanup;
             let mut declared = self.declarator(specifiers)?;
             if is_typedef {
                 self.declare_type(declared.name)?;
@@ -27,6 +31,7 @@ impl<'a> Parser<'a> {
             } else {
                 // Its first value may speak of it.
                 declared.name = self.declare(declared.name)?;
+                self.end_with_call(declared.name)?;
                 declared.value = self.first_value_of(depth)?;
                 found.push(declared)?;
             }
@@ -37,6 +42,14 @@ impl<'a> Parser<'a> {
         self.cursor.expect(Punctuator::Semicolon)?;
         let list = self.tree.add_declarations(found.as_slice())?;
         self.statement_at(Statement::Declare(list), place)
+    }
+
+    /// Notes that the end of a variable calls a function, if an attribute says so.
+    fn end_with_call(&mut self, variable: Symbol) -> Result<(), Stop> {
+        if let Some(function) = self.cleanup {
+            self.endings.push(Ending { function, variable })?;
+        }
+        Ok(())
     }
 
     /// Reads a variable's stars, name and dimensions.

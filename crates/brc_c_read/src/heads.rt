@@ -15,10 +15,15 @@ pub(crate) struct Head<'a> {
     pub(crate) name: Lexeme,
     pub(crate) before: &'a [Lexeme],
     pub(crate) inside: &'a [Lexeme],
+    /// The declarations of its parameters, if it is one of the style of K&R, and otherwise nothing.
+    pub(crate) declared: &'a [Lexeme],
 }
 
 /// Returns the parts of a head, or `None` if it isn't one.
-pub(crate) fn head_of<'a>(symbols: &Symbols, lexemes: &'a [Lexeme]) -> Option<Head<'a>> {
+pub(crate) fn head_of<'a>(symbols: &Symbols, whole: &'a [Lexeme]) -> Option<Head<'a>> {
+    let behind = declared_from(whole).unwrap_or(whole.len());
+    let lexemes = whole.get(..behind)?;
+    let declared = whole.get(behind..)?;
     // Attributes may follow the parameters.
     let mut end = without_names(lexemes).len();
     for _turn in 0..lexemes.len() {
@@ -33,11 +38,45 @@ pub(crate) fn head_of<'a>(symbols: &Symbols, lexemes: &'a [Lexeme]) -> Option<He
                 name: *name,
                 before: lexemes.get(..at)?,
                 inside: lexemes.get(open.checked_add(1)?..end.checked_sub(1)?)?,
+                declared,
             });
         }
         end = at;
     }
     None
+}
+
+/// Returns where the declarations of the parameters begin in a head of the style of K&R.
+fn declared_from(head: &[Lexeme]) -> Option<usize> {
+    if head.last()?.is(Punctuator::Semicolon) {
+        names_end(head)
+    } else {
+        None
+    }
+}
+
+/// Returns the place after the first parentheses, if they come after a name, enclose names only, and a declaration
+/// follows: so a head of the style of K&R begins.
+pub(crate) fn names_end(lexemes: &[Lexeme]) -> Option<usize> {
+    let open = lexemes
+        .iter()
+        .position(|lexeme| lexeme.is(Punctuator::LeftParen))?;
+    let inside = open.checked_add(1)?;
+    let names = lexemes.get(inside..)?.iter().position(|lexeme| lexeme.kind != LexemeKind::Name
+        && !lexeme.is(Punctuator::Comma))?;
+    let close = inside.checked_add(names)?;
+    let end = close.checked_add(1)?;
+    let follows_name = lexemes.get(open.checked_sub(1)?)?.kind == LexemeKind::Name;
+    let is_closed = names > 0 && lexemes.get(close)?.is(Punctuator::RightParen);
+    let is_declared = matches!(
+        lexemes.get(end)?.kind,
+        LexemeKind::Name | LexemeKind::Keyword(_)
+    );
+    if follows_name && is_closed && is_declared {
+        Some(end)
+    } else {
+        None
+    }
 }
 
 fn is_attribute(name: &[u8]) -> bool {
@@ -109,6 +148,9 @@ pub(crate) fn parameters_of(
     types: &TypeNames,
     head: &Head<'_>,
 ) -> Result<Vec<Parameter>, Stop> {
+    if !head.declared.is_empty() {
+        return declared_parameters(alloc, symbols, types, head);
+    }
     let cursor = Cursor::new(head.inside, head.name.place);
     let mut parser = Parser::new(alloc, cursor, symbols, types);
     let mut found = Vec::new(alloc);
@@ -128,7 +170,71 @@ pub(crate) fn parameters_of(
     Ok(found)
 }
 
+/// Reads the parameters of a head in the style of K&R.
+fn declared_parameters(
+    alloc: Global,
+    symbols: &Symbols,
+    types: &TypeNames,
+    head: &Head<'_>,
+) -> Result<Vec<Parameter>, Stop> {
+    let mut found = Vec::new(alloc);
+    for lexeme in head.inside {
+        if lexeme.kind == LexemeKind::Name {
+            found.push(Parameter {
+                name: Some(lexeme.symbol),
+                type_name: TypeName {
+                    symbol: types.int(),
+                    tag: None,
+                    stars: 0,
+                    is_function: false,
+                },
+                is_variadic: false,
+            })?;
+        }
+    }
+    let cursor = Cursor::new(head.declared, head.name.place);
+    let mut parser = Parser::new(alloc, cursor, symbols, types);
+    for _turn in 0..head.declared.len() {
+        if parser.cursor.left() == 0 {
+            break;
+        }
+        let specifiers = parser.specifiers()?;
+        parser.type_parameters(specifiers.type_name, &mut found)?;
+        parser.cursor.expect(Punctuator::Semicolon)?;
+    }
+    Ok(found)
+}
+
 impl<'a> Parser<'a> {
+    /// Reads the names after the specifiers of a declaration, and gives the parameters of these names their types.
+    fn type_parameters(
+        &mut self,
+        base: TypeName,
+        parameters: &mut Vec<Parameter>,
+    ) -> Result<(), Stop> {
+        for _turn in 0..self.cursor.left() {
+            let mut type_name = self.stars(base);
+            let name = if self.cursor.peek().is(Punctuator::LeftParen) {
+                type_name.is_function = true;
+                self.function_pointer()?
+            } else {
+                Some(self.cursor.name()?)
+            };
+            let dimensions = self.dimensions()?;
+            type_name.stars = type_name.stars.saturating_add(dimensions);
+            let symbol = name.map(|lexeme| lexeme.symbol);
+            for parameter in parameters.iter_mut() {
+                if parameter.name == symbol {
+                    parameter.type_name = type_name;
+                }
+            }
+            if !self.cursor.eat(Punctuator::Comma) {
+                break;
+            }
+        }
+        Ok(())
+    }
+
     /// Reads a parameter as far as it is understood.
     fn parameter(&mut self) -> Result<Parameter, Stop> {
         let is_variadic = self.cursor.eat(Punctuator::Ellipsis);

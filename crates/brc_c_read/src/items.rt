@@ -131,6 +131,7 @@ fn read_body(
             parser.declare(name)?;
         }
     }
+    parser.result = function.result;
     let whole = parser.block(NESTING_LIMIT)?;
     Ok((parser.tree, whole))
 }

@@ -67,14 +67,18 @@ impl<'a> Parser<'a> {
     pub(crate) fn while_statement(&mut self, depth: usize) -> Result<StatementId, Stop> {
         let place = self.cursor.take().place;
         let condition = self.condition(depth)?;
+        let outside = self.begin_loop();
         let body = self.nested(depth)?;
+        self.staying = outside;
         self.statement_at(Statement::While { condition, body }, place)
     }
 
     #[cycle(statement)]
     pub(crate) fn do_statement(&mut self, depth: usize) -> Result<StatementId, Stop> {
         let place = self.cursor.take().place;
+        let outside = self.begin_loop();
         let body = self.nested(depth)?;
+        self.staying = outside;
         if !self.cursor.eat_keyword(Keyword::While) {
             return Err(self.instead(Expected::Keyword(Keyword::While)));
         }
@@ -91,7 +95,9 @@ impl<'a> Parser<'a> {
         let first = self.first_of_for(depth)?;
         let condition = self.expression_before(Punctuator::Semicolon, depth)?;
         let next = self.expression_before(Punctuator::RightParen, depth)?;
+        let outside = self.begin_loop();
         let body = self.nested(depth)?;
+        self.staying = outside;
         self.end_scope(scope);
         self.statement_at(
             Statement::For {
@@ -106,10 +112,16 @@ impl<'a> Parser<'a> {
 
     /// Reads what a `for` does first, with its semicolon.
     fn first_of_for(&mut self, depth: usize) -> Result<Option<StatementId>, Stop> {
-        if self.is_declaration() {
-            return Ok(Some(self.declaration(depth)?));
-        }
         let place = self.cursor.peek().place;
+        if self.is_declaration() {
+            let count = self.endings.len();
+            let first = self.declaration(depth)?;
+            // The loop's end would end the variable.
+            if self.endings.len() > count {
+                return Err(not_read(place, Reason::Cleanup));
+            }
+            return Ok(Some(first));
+        }
         match self.expression_before(Punctuator::Semicolon, depth)? {
             Some(value) => Ok(Some(self.statement_at(Statement::Expression(value), place)?)),
             None => Ok(None),
@@ -134,7 +146,9 @@ impl<'a> Parser<'a> {
     pub(crate) fn switch_statement(&mut self, depth: usize) -> Result<StatementId, Stop> {
         let place = self.cursor.take().place;
         let value = self.in_parens(depth)?;
+        let outside = self.begin_switch();
         let body = self.nested(depth)?;
+        self.staying = outside;
         self.statement_at(Statement::Switch { value, body }, place)
     }
 
@@ -159,7 +173,7 @@ impl<'a> Parser<'a> {
         self.cursor.take();
         let (statement, end) = self.leaf(keyword, depth)?;
         self.cursor.expect(end)?;
-        self.statement_at(statement, place)
+        self.leaving(statement, place)
     }
 
     /// Reads what comes after the keyword of such a statement, and returns what ends it.

@@ -7,6 +7,7 @@ mod braces;
 mod cursor;
 mod declarations;
 mod declaring;
+mod ending;
 mod fields;
 mod heads;
 mod infix;

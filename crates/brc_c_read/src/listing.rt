@@ -1,8 +1,12 @@
 //! The items of a source: where each declaration and each function begins and ends.
 
 use crate::braces::closing;
+use crate::heads::names_end;
 use brc_c_text::{Keyword, Lexeme, LexemeKind, Punctuator};
 use std::alloc::{AllocError, Global};
+
+/// How many declarations may come after a head of the style of K&R.
+const DECLARED_LIMIT: usize = 64;
 
 /// Where an item is among the lexemes.
 #[derive(Clone, Copy, Debug, PartialEq, Eq)]
@@ -90,13 +94,44 @@ impl Listing {
             self.items.push(Item::Function { start, open, end })?;
             self.begin(end);
         } else if head.is_empty() {
-            // They belong to nothing that is understood, as those of a head in the style of K&R.
+            if let Some(start) = self.take_declared_head(lexemes) {
+                self.items.push(Item::Function { start, open, end })?;
+            }
             self.begin(end);
         } else if self.braces.is_none() {
             // The first braces count: those of a struct come before those of a value.
             self.braces = Some((open, end));
         }
         Ok(end)
+    }
+
+    /// Takes back the declarations before a brace that begin with a head of the style of K&R, and returns where it
+    /// begins.
+    fn take_declared_head(&mut self, lexemes: &[Lexeme]) -> Option<usize> {
+        let mut next = self.start;
+        let mut left = self.items.len();
+        for _turn in 0..DECLARED_LIMIT {
+            left = left.checked_sub(1)?;
+            let Some(
+                Item::Declaration {
+                    start,
+                    end,
+                    braces: None,
+                },
+            ) = self.items.get(left).copied()
+            else {
+                return None;
+            };
+            if end.checked_add(1)? != next {
+                return None;
+            }
+            if names_end(lexemes.get(start..end)?).is_some() {
+                self.items.truncate(left);
+                return Some(start);
+            }
+            next = start;
+        }
+        None
     }
 }
 

@@ -1,10 +1,12 @@
 use crate::cursor::Cursor;
+use crate::ending::{Ending, Staying};
 use crate::pending::Pending;
 use crate::stop::{Stop, not_read};
 use crate::type_names::TypeNames;
 use brc_c_text::{Lexeme, LexemeKind, Place, Symbol, Symbols};
 use brc_c_tree::{
-    Expected, Expression, ExpressionId, List, Reason, Statement, StatementId, Tree, names_objects,
+    Expected, Expression, ExpressionId, List, Reason, Statement, StatementId, Tree, TypeName,
+    names_objects,
 };
 use std::alloc::{AllocError, Global};
 use std::collections::{HashMap, HashSet};
@@ -35,6 +37,13 @@ pub(crate) struct Parser<'a> {
     pub(crate) tree: Tree,
     /// The operators of all expressions that are being read, the innermost's last.
     pub(crate) pending: Vec<Pending>,
+    /// What the function gives.
+    pub(crate) result: TypeName,
+    /// The function that the last attribute says to be called at the end of a variable.
+    pub(crate) cleanup: Option<Symbol>,
+    /// The variables whose end calls a function, of the blocks that are being read, the innermost's last.
+    pub(crate) endings: Vec<Ending>,
+    pub(crate) staying: Staying,
 }
 
 impl<'a> Parser<'a> {
@@ -55,6 +64,13 @@ impl<'a> Parser<'a> {
             own_types: HashSet::new(alloc),
             tree: Tree::new(alloc),
             pending: Vec::new(alloc),
+            result: types.whole_number(),
+            cleanup: None,
+            endings: Vec::new(alloc),
+            staying: Staying {
+                at_break: 0,
+                at_continue: 0,
+            },
         }
     }
 
@@ -70,6 +86,14 @@ impl<'a> Parser<'a> {
         self.variables.insert(name, number.saturating_add(1))?;
         self.scope.push(InScope { name, symbol })?;
         Ok(symbol)
+    }
+
+    /// Adds a variable that no name of the source means, and returns its symbol.
+    pub(crate) fn unnamed(&mut self, name: Symbol) -> Result<Symbol, AllocError> {
+        let base = name.of_variable(0);
+        let number = self.variables.get(&base).copied().unwrap_or(1);
+        self.variables.insert(base, number.saturating_add(1))?;
+        Ok(base.of_variable(number))
     }
 
     /// Says that a name means what is declared outside the function.

@@ -91,21 +91,28 @@ impl<'a> Parser<'a> {
         ATTRIBUTES.contains(&self.symbols.text(lexeme.symbol))
     }
 
-    /// Passes an attribute, unless it is `cleanup`.
+    /// Passes an attribute, and notes the function that it says to be called at the end of a variable.
     fn attribute(&mut self) -> Result<(), Stop> {
         let place = self.cursor.take().place;
         if !self.cursor.peek().is(Punctuator::LeftParen) {
             return Ok(());
         }
-        let name = self.cursor.ahead(2).symbol;
-        if CLEANUPS.contains(&self.symbols.text(name)) {
-            return Err(not_read(place, Reason::Cleanup));
-        }
+        let first = self.cursor;
         if !self
             .cursor
             .skip_nested(Punctuator::LeftParen, Punctuator::RightParen)
         {
             return Err(not_read(place, Reason::NotClosed));
+        }
+        // It may be one of several attributes in the parentheses.
+        for by in 0..first.left().saturating_sub(self.cursor.left()) {
+            if CLEANUPS.contains(&self.symbols.text(first.ahead(by).symbol)) {
+                let function = first.ahead(by.saturating_add(2));
+                if function.kind != LexemeKind::Name {
+                    return Err(not_read(place, Reason::Cleanup));
+                }
+                self.cleanup = Some(function.symbol);
+            }
         }
         Ok(())
     }
@@ -217,6 +224,9 @@ impl<'a> Parser<'a> {
         if behind > 2 && self.cursor.ahead(behind).is(Punctuator::LeftBracket) {
             return true;
         }
+        if self.is_any_function_pointer(behind) {
+            return true;
+        }
         if !self.cursor.ahead(behind).is(Punctuator::RightParen) {
             return false;
         }
@@ -232,6 +242,16 @@ impl<'a> Parser<'a> {
             }
             _ => false,
         }
+    }
+
+    /// Returns whether `(*)` is at a place, counted from the next lexeme.
+    fn is_any_function_pointer(&self, at: usize) -> bool {
+        self.cursor.ahead(at).is(Punctuator::LeftParen)
+            && self.cursor.ahead(at.saturating_add(1)).is(Punctuator::Star)
+            && self
+                .cursor
+                .ahead(at.saturating_add(2))
+                .is(Punctuator::RightParen)
     }
 
     /// Returns the first place from this one on, counted from the next lexeme, that has neither a star nor `const`.

@@ -47,6 +47,7 @@ impl<'a> Parser<'a> {
         let place = self.cursor.peek().place;
         self.cursor.expect(Punctuator::LeftBrace)?;
         let scope = self.begin_scope();
+        let staying = self.endings.len();
         let mut all = Vec::new(self.alloc);
         // Each turn takes a lexeme.
         for _turn in 0..self.cursor.left() {
@@ -56,9 +57,12 @@ impl<'a> Parser<'a> {
             }
             all.push(self.nested(depth)?)?;
         }
+        let end = self.cursor.peek().place;
         if !self.cursor.eat(Punctuator::RightBrace) {
             return Err(not_read(place, Reason::NotClosed));
         }
+        self.end_variables(staying, end, &mut all)?;
+        self.endings.truncate(staying);
         self.end_scope(scope);
         self.block_at(all.as_slice(), place)
     }
@@ -88,7 +92,7 @@ impl<'a> Parser<'a> {
             if behind.is(Punctuator::Colon) && !self.cursor.ahead(2).is(Punctuator::Colon) {
                 self.cursor.take();
                 self.cursor.take();
-                return self.statement_at(Statement::Label(first.symbol), place);
+                return self.leaving(Statement::Label(first.symbol), place);
             }
             if let Some(known) = Known::of(self.symbols.text(first.symbol)) {
                 return self.known_statement(known, depth);
@@ -118,7 +122,7 @@ impl<'a> Parser<'a> {
         }
         self.cursor.eat(Punctuator::Semicolon);
         let arguments = self.list_of(found.as_slice())?;
-        self.statement_at(Statement::Known { known, arguments }, place)
+        self.leaving(Statement::Known { known, arguments }, place)
     }
 
     /// Reads an expression and its semicolon, which may be missing after a macro at a line's end.

@@ -1,4 +1,5 @@
 use brc_c_text::{Symbol, Symbols};
+use brc_c_tree::TypeName;
 use std::alloc::{AllocError, Global};
 use std::collections::HashSet;
 
@@ -62,6 +63,8 @@ pub struct TypeNames {
     declared: HashSet<Symbol>,
     /// `int`, which a type without a symbol is.
     int: Symbol,
+    /// `result`, the name of what is computed to be returned.
+    result: Symbol,
 }
 
 impl TypeNames {
@@ -75,6 +78,7 @@ impl TypeNames {
             basic,
             declared: HashSet::new(alloc),
             int: symbols.symbol(b"int")?,
+            result: symbols.symbol(b"result")?,
         })
     }
 
@@ -86,6 +90,21 @@ impl TypeNames {
     /// Returns the symbol of a type that has none.
     pub fn int(&self) -> Symbol {
         self.int
+    }
+
+    /// Returns the name of what is computed to be returned.
+    pub(crate) fn result(&self) -> Symbol {
+        self.result
+    }
+
+    /// Returns the type `int`.
+    pub(crate) fn whole_number(&self) -> TypeName {
+        TypeName {
+            symbol: self.int,
+            tag: None,
+            stars: 0,
+            is_function: false,
+        }
     }
 
     /// Returns whether the symbol is one of a basic type, of which a type may have several.

@@ -3,7 +3,7 @@ use std::alloc::Global;
 use std::test::Fail;
 
 /// The body of a function with the parameters `a` and `b`, and the text of its tree.
-const ROWS: [(&str, &str); 39] = [
+const ROWS: [(&str, &str); 43] = [
     ("", "{ }"),
     (";", "{ { } }"),
     ("a = 1;", "{ (a = 1); }"),
@@ -121,6 +121,25 @@ const ROWS: [(&str, &str); 39] = [
         "{ let UINT t; let int u; }",
     ),
     ("{ a; } { { b; } }", "{ { a; } { { b; } } }"),
+    (
+        "int x __attribute__((cleanup(g))) = b; if (b) return b; return x + 1;",
+        "{ let int x = b; if b { g((Address x)); return b; } \
+        { let int result = (x Add 1); g((Address x)); return result; } g((Address x)); }",
+    ),
+    (
+        "while (b) { int x __attribute__((unused, cleanup(g))); if (a) break; continue; } return;",
+        "{ while b { let int x; if a { g((Address x)); break; } { g((Address x)); continue; } \
+        g((Address x)); } return ; }",
+    ),
+    (
+        "int x __attribute__((cleanup(g))), y; for (;;) switch (b) { case 1: break; default: continue; }",
+        "{ let int x;let int y; for ( ; ) switch b { case 1; break; default; continue; } g((Address x)); }",
+    ),
+    (
+        "__attribute__((cleanup(g))) int x, y; goto done;",
+        "{ let int x;let int y; { g((Address y)); g((Address x)); goto done; } \
+        g((Address y)); g((Address x)); }",
+    ),
 ];
 
 /// The body of a function that isn't read, from line 2 on, and where and why it isn't.
@@ -137,8 +156,8 @@ const NOT_READ: [(&str, &str); 23] = [
     ("a = @;", "2:5 `@` is read, which begins nothing in C"),
     ("a = 'x;", "2:5 `'` is read, which begins nothing in C"),
     (
-        "int x __attribute__((cleanup(f))) = 1;",
-        "2:7 a variable whose end calls a function",
+        "int x __attribute__((cleanup(f))) = 1; done: return 0;",
+        "2:40 a variable whose end calls a function",
     ),
     (
         "else b = 1;",

@@ -34,8 +34,36 @@ pub struct Said {
 
 /// Judges a file by both sets of rules, and shows what is possible, too.
 pub fn said_of(alloc: Global, source: &str, format: AskedFormat) -> Result<Said, AllocError> {
+    let Judgement {
+        text,
+        errors: _,
+        status,
+    } = judged(alloc, source, FILES, format)?;
+    Ok(Said { text, status })
+}
+
+/// Judges a file that a command names this often, and returns what standard error has.
+pub fn errors_of(alloc: Global, source: &str, times: usize) -> Result<String, AllocError> {
+    let mut files = Vec::new(alloc);
+    for _time in 0..times {
+        files.push(FILE)?;
+    }
+    let Judgement {
+        text: _,
+        errors,
+        status: _,
+    } = judged(alloc, source, files.as_slice(), AskedFormat::Text)?;
+    Ok(errors)
+}
+
+fn judged(
+    alloc: Global,
+    source: &str,
+    files: &[&str],
+    format: AskedFormat,
+) -> Result<Judgement, AllocError> {
     let asked = Asked {
-        files: FILES,
+        files,
         function: None,
         rules: AskedRules::Both,
         format,
@@ -49,10 +77,5 @@ pub fn said_of(alloc: Global, source: &str, format: AskedFormat) -> Result<Said,
         allows_not_read: false,
         shows_modules: false,
     };
-    let Judgement {
-        text,
-        errors: _,
-        status,
-    } = judge_files(alloc, &asked, &mut OneFile { text: source })?;
-    Ok(Said { text, status })
+    judge_files(alloc, &asked, &mut OneFile { text: source })
 }

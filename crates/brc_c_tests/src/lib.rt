@@ -1,5 +1,5 @@
 //! Tests of C functions: tokens, macros, the trees of functions, types, the table of the C API; and what is said of
-//! functions that are made at random or by a change of right ones, in each format.
+//! functions that are made at random, by a change of right ones, or so long that they are cut, in each format.
 #![tactic(auto)]
 
 #[cfg(test)]
@@ -14,6 +14,8 @@ mod limits;
 mod macros;
 #[cfg(test)]
 mod outside;
+#[cfg(test)]
+mod parts;
 #[cfg(test)]
 mod random;
 #[cfg(test)]

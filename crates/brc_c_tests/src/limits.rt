@@ -1,4 +1,6 @@
+use crate::judged::errors_of;
 use crate::reading::{bodies_of, preprocessed, same};
+use brc_c_program::FILES_LIMIT;
 use brc_c_text::Symbols;
 use brc_c_tree::FUNCTION_LIMIT;
 use std::alloc::{AllocError, Global};
@@ -139,5 +141,20 @@ fn many(rt: HostRuntime) -> Result<(), Fail> {
         alloc,
         EMPTY,
         "8:16 a macro makes too much before `A`\n{ return 1; }\n",
+    )
+}
+
+/// A command takes 256 files at most.
+#[test]
+fn files(rt: HostRuntime) -> Result<(), Fail> {
+    let alloc = rt.alloc();
+    let source = "int f(int a) { return a; }\n";
+    let whole = errors_of(alloc, source, FILES_LIMIT)?;
+    same(source, whole.as_str(), "")?;
+    let beyond = errors_of(alloc, source, FILES_LIMIT + 1)?;
+    same(
+        source,
+        beyond.as_str(),
+        "257 files: a command takes 256 at most\n",
     )
 }

@@ -104,7 +104,7 @@ fn add(
     text.push_str("; ")
 }
 
-const ROWS: [(&str, &str); 22] = [
+const ROWS: [(&str, &str); 24] = [
     (
         "typedef struct { PyObject_HEAD PyObject *owner; int n; } CardObject;",
         "record CardObject/0 object owner:PyObject* n:int; ",
@@ -188,6 +188,14 @@ const ROWS: [(&str, &str); 22] = [
         "variable a:int; function f:int; ",
     ),
     ("UNKNOWN(x)\nint f(void) { }", "function f:int; "),
+    (
+        "int f(a, b) int a; PyObject *b; { } int g(void) { }",
+        "function f:int; (a:int) (b:PyObject*) function g:int; ",
+    ),
+    (
+        "static PyObject *f(o, c, n) struct s *o, **n; int (*c)(); { }",
+        "static f:PyObject*; (o:s*) (c:int()) (n:s**) ",
+    ),
 ];
 
 /// Fails unless this is what a text declares.

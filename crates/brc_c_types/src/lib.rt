@@ -7,6 +7,5 @@ mod objects;
 mod types;
 mod typing;
 
-pub use casts::cast_result;
 pub use types::Types;
 pub use typing::types_of;

@@ -50,6 +50,23 @@ impl Types {
         found
     }
 
+    /// Returns what the functions give to which a type's values point, if the type is one of pointers to functions.
+    pub(crate) fn result_of_pointer(&self, pointer: Symbol) -> Option<TypeName> {
+        let found = self.resolved(TypeName {
+            symbol: pointer,
+            tag: None,
+            stars: 0,
+            is_function: false,
+        });
+        if !found.is_function {
+            return None;
+        }
+        Some(TypeName {
+            is_function: false,
+            ..found
+        })
+    }
+
     fn record(&self, name: Symbol) -> Option<Named> {
         self.records.get(&name).copied()
     }

@@ -75,6 +75,8 @@ impl<'a> Typing<'a> {
     fn behind(&self, operator: Unary, operand: ExpressionId) -> Option<TypeName> {
         let inside = self.at(operand)?;
         match operator {
+            // What a pointer to a function points to is called as the pointer is.
+            Unary::Dereference if self.types.resolved(inside).is_function => Some(inside),
             Unary::Dereference => self.types.pointee(inside),
             Unary::Address => Some(inside.pointer()),
             _ => None,
