@@ -3,8 +3,8 @@
 use brc_c_text::{Lexeme, LexemeKind, Punctuator, Symbol, Symbols};
 use std::alloc::{AllocError, Global};
 
-/// Returns the lexemes with neighbouring strings joined to one. A name between them, or after the last one, is a
-/// macro of a system's header that stands for a string: it adds nothing.
+/// Returns the lexemes with neighbouring strings joined to one. A name before them, between them, or after the last one
+/// is a macro that stands for a string, as `__FILE__` and those of a system's header: it adds nothing.
 pub(crate) fn glued(
     alloc: Global,
     symbols: &mut Symbols,
@@ -16,7 +16,9 @@ pub(crate) fn glued(
         let last = match before {
             Some(last) if last.kind == LexemeKind::Text => last,
             _ => {
-                all.push(*lexeme)?;
+                if !begins_text(lexemes, at) {
+                    all.push(*lexeme)?;
+                }
                 continue;
             }
         };
@@ -29,6 +31,14 @@ pub(crate) fn glued(
         }
     }
     Ok(all)
+}
+
+/// Returns whether this lexeme is a name right before a string.
+fn begins_text(lexemes: &[Lexeme], at: usize) -> bool {
+    match lexemes.get(at..) {
+        Some([name, text, ..]) => { name.kind == LexemeKind::Name && text.kind == LexemeKind::Text }
+        _ => false,
+    }
 }
 
 /// Returns whether after this lexeme a string goes on, or the operand that it is part of ends.
