@@ -41,9 +41,10 @@ fn begins_text(lexemes: &[Lexeme], at: usize) -> bool {
     }
 }
 
-/// Returns whether after this lexeme a string goes on, or the operand that it is part of ends.
+/// Returns whether after this name, and those that follow it, a string goes on, or the operand that it is part of ends.
 fn ends_text(lexemes: &[Lexeme], at: usize) -> bool {
-    match lexemes.get(at.saturating_add(1)) {
+    let rest = lexemes.get(at..).unwrap_or(&[]);
+    match rest.iter().find(|lexeme| lexeme.kind != LexemeKind::Name) {
         Some(next) => {
             next.kind == LexemeKind::Text
                 || next.is(Punctuator::Comma)
