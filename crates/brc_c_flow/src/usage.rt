@@ -21,8 +21,9 @@ pub struct Usage {
     called: HashSet<Symbol>,
     /// The functions that call nothing, and set nothing but variables of their own.
     idle: HashSet<Symbol>,
-    /// Functions, each with a field that it sets.
+    /// Functions, each with a field in which it stores something else than NULL, and with one where it stores NULL.
     setters: HashSet<(Symbol, Symbol)>,
+    clearers: HashSet<(Symbol, Symbol)>,
     /// The fields that some function sets, and those that one sets which neither makes objects nor ends them.
     set: HashSet<Symbol>,
     set_late: HashSet<Symbol>,
@@ -38,6 +39,7 @@ impl Usage {
             called: HashSet::new(alloc),
             idle: HashSet::new(alloc),
             setters: HashSet::new(alloc),
+            clearers: HashSet::new(alloc),
             set: HashSet::new(alloc),
             set_late: HashSet::new(alloc),
             frees: false,
@@ -72,9 +74,14 @@ impl Usage {
         self.idle.contains(&function)
     }
 
-    /// Returns whether a function sets a field of this name.
+    /// Returns whether a function stores something else than NULL in a field of this name.
     pub(crate) fn sets(&self, function: Symbol, field: Symbol) -> bool {
         self.setters.contains(&(function, field))
+    }
+
+    /// Returns whether a function stores NULL in a field of this name.
+    pub(crate) fn clears(&self, function: Symbol, field: Symbol) -> bool {
+        self.clearers.contains(&(function, field))
     }
 
     /// Returns whether a field of this name has what it had when its object was made, as long as the object lives.
@@ -107,7 +114,11 @@ impl Usage {
                 _ => None,
             };
             if let Some(field) = field_at(tree, target) {
-                self.setters.insert((setter, field))?;
+                if stores_null(symbols, tree, *expression) {
+                    self.clearers.insert((setter, field))?;
+                } else {
+                    self.setters.insert((setter, field))?;
+                }
                 self.set.insert(field)?;
                 if is_late {
                     self.set_late.insert(field)?;
@@ -217,6 +228,42 @@ fn replaced(
     } else {
         None
     }
+}
+
+/// Returns whether an expression that stores something stores NULL.
+fn stores_null(symbols: &Symbols, tree: &Tree, expression: Expression) -> bool {
+    match expression {
+        Expression::Assign {
+            operator: None,
+            right,
+            ..
+        } => is_null(symbols, tree, right),
+        Expression::Call { function, .. } => match tree.expression(function) {
+            Some(Expression::Name(name)) => {
+                matches!(
+                    Counting::of(symbols.text(name)),
+                    Some(Counting::Clear)
+                )
+            }
+            _ => false,
+        },
+        _ => false,
+    }
+}
+
+/// Returns whether an expression is NULL as it is written.
+fn is_null(symbols: &Symbols, tree: &Tree, id: ExpressionId) -> bool {
+    let mut found = id;
+    for _turn in 0..CAST_LIMIT {
+        match tree.expression(found) {
+            Some(Expression::Cast { operand, .. }) => found = operand,
+            Some(Expression::Name(name) | Expression::Number(name)) => {
+                return matches!(symbols.text(name), b"NULL" | b"0");
+            }
+            _ => return false,
+        }
+    }
+    false
 }
 
 /// Returns the field that a place is.
