@@ -58,6 +58,7 @@ impl<'a> Builder<'a> {
         };
         let failing = self.pass_arguments(how, ids, operands, site)?;
         self.assume_arguments(callee, operands, how, site)?;
+        self.stow_elements(callee, ids, site)?;
         if !is_any_given_or_lost(how) {
             self.run(callee, site)?;
         }

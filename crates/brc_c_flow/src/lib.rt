@@ -4,6 +4,7 @@
 #![tactic(auto)]
 
 mod arguments;
+mod arrays;
 mod asserting;
 mod assigning;
 mod assumed;

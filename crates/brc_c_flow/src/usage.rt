@@ -1,5 +1,6 @@
 //! What the functions of a source do with fields, with variables outside them, and with each other.
 
+use crate::arrays::gives_elements;
 use crate::habits::begins_or_ends;
 use crate::references::Counting;
 use brc_c_text::{Symbol, Symbols};
@@ -24,6 +25,8 @@ pub struct Usage {
     /// Functions, each with a field in which it stores something else than NULL, and with one where it stores NULL.
     setters: HashSet<(Symbol, Symbol)>,
     clearers: HashSet<(Symbol, Symbol)>,
+    /// Functions, each with the number of an argument, an array of which it gives elements up.
+    element_givers: HashSet<(Symbol, usize)>,
     /// The fields that some function sets, and those that one sets which neither makes objects nor ends them.
     set: HashSet<Symbol>,
     set_late: HashSet<Symbol>,
@@ -40,6 +43,7 @@ impl Usage {
             idle: HashSet::new(alloc),
             setters: HashSet::new(alloc),
             clearers: HashSet::new(alloc),
+            element_givers: HashSet::new(alloc),
             set: HashSet::new(alloc),
             set_late: HashSet::new(alloc),
             frees: false,
@@ -49,6 +53,7 @@ impl Usage {
                 usage.add_calls(symbols, tree)?;
                 usage.add_assigned(tree)?;
                 usage.add_set(symbols, function, tree)?;
+                usage.add_given(alloc, symbols, function, tree)?;
                 if is_idle(alloc, function, tree)? {
                     usage.idle.insert(function.name)?;
                 }
@@ -82,6 +87,11 @@ impl Usage {
     /// Returns whether a function stores NULL in a field of this name.
     pub(crate) fn clears(&self, function: Symbol, field: Symbol) -> bool {
         self.clearers.contains(&(function, field))
+    }
+
+    /// Returns whether a function gives up elements of an array that is its argument of this number, from 0.
+    pub(crate) fn gives_elements(&self, function: Symbol, argument: usize) -> bool {
+        self.element_givers.contains(&(function, argument))
     }
 
     /// Returns whether a field of this name has what it had when its object was made, as long as the object lives.
@@ -122,6 +132,24 @@ impl Usage {
                 self.set.insert(field)?;
                 if is_late {
                     self.set_late.insert(field)?;
+                }
+            }
+        }
+        Ok(())
+    }
+
+    /// Adds the arguments that are pointers to pointers, if the function gives up what is there.
+    fn add_given(
+        &mut self,
+        alloc: Global,
+        symbols: &Symbols,
+        function: &Function,
+        tree: &Tree,
+    ) -> Result<(), AllocError> {
+        for (number, parameter) in function.parameters.iter().enumerate() {
+            if let (true, Some(name)) = (parameter.type_name.stars > 1, parameter.name) {
+                if gives_elements(alloc, symbols, tree, name)? {
+                    self.element_givers.insert((function.name, number))?;
                 }
             }
         }
