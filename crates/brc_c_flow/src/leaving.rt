@@ -23,6 +23,7 @@ impl<'a> Builder<'a> {
     ) -> Result<(), Stop> {
         if left.object == LeftObject::None && !left.is_null {
             if out.is_replaced && left.is_freed() {
+                self.read_passed(local, site)?;
                 self.at_site(Event::Give(local), site)?;
             }
             return Ok(());
@@ -47,14 +48,33 @@ impl<'a> Builder<'a> {
         operands: &[Operand],
         site: Site,
     ) -> Result<(), Stop> {
+        self.read_passed(local, site)?;
         if out.is_replaced {
             self.at_site(Event::Give(local), site)?;
         }
         match left_by(left.object, operands) {
-            None => self.copy(local, Source::Null, site.place),
-            Some(gives) if left.is_null => self.store_or_miss(gives, local, site),
-            Some(gives) => self.store_out(gives, local, site),
+            None => self.copy(local, Source::Null, site.place)?,
+            Some(gives) if left.is_null => self.store_or_miss(gives, local, site)?,
+            Some(gives) => self.store_out(gives, local, site)?,
         }
+        if let Some(cell) = self.passed_cell(local) {
+            self.at_site(
+                Event::Put {
+                    cell,
+                    from: Some(local),
+                },
+                site,
+            )?;
+        }
+        Ok(())
+    }
+
+    /// Reads the cell whose address is passed under a name, if it is one, before something else is stored there.
+    fn read_passed(&mut self, local: Local, site: Site) -> Result<(), Stop> {
+        if let Some(cell) = self.passed_cell(local) {
+            self.at_site(Event::Read { cell, to: local }, site)?;
+        }
+        Ok(())
     }
 
     /// Stores an object, or NULL, since the function finds nothing.

@@ -3,6 +3,7 @@
 //! What can't be followed makes its function *not read*, with a place and a reason.
 #![tactic(auto)]
 
+mod addresses;
 mod arguments;
 mod arrays;
 mod asserting;

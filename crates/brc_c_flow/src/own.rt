@@ -76,6 +76,12 @@ impl OwnOut {
             && !self.is_replaced
     }
 
+    /// Returns whether it is known what becomes of the reference that is there. One that the function reads and doesn't
+    /// give up may be NULL where something is stored.
+    pub(crate) fn is_told(self) -> bool {
+        !self.stores_unknown() && (self.is_replaced || !self.is_read)
+    }
+
     /// Returns whether nothing is known of an object that the function may leave.
     pub(crate) fn stores_unknown(self) -> bool {
         self.success.object == LeftObject::Unknown || self.failure.object == LeftObject::Unknown

@@ -82,7 +82,7 @@ impl<'a> Builder<'a> {
                     };
                 }
                 Passing::Table(Takes::Out) => {}
-                Passing::Own(out) if out.is_sure() => {
+                Passing::Own(out) if out.is_sure() && self.passed_cell(local).is_none() => {
                     if let Some(gives) = left_by(out.success.object, operands) {
                         outcome.gives = gives;
                         outcome.into = Some(local);
