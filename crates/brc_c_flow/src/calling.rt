@@ -250,10 +250,7 @@ fn is_any_given_or_lost(how: &[Passing]) -> bool {
 
 /// Returns whether what a call gives, or what it gets beside objects, may say which way the function goes.
 fn shows_way(callee: Callee<'_>, operands: &[Operand]) -> bool {
-    callee.row.gives != Gives::Void
-        || operands
-            .iter()
-            .any(|operand| operand.object().is_none())
+    callee.row.gives != Gives::Void || operands.iter().any(|operand| operand.object().is_none())
 }
 
 /// Returns whether a call with this argument is about an object.

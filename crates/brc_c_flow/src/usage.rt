@@ -268,10 +268,7 @@ fn stores_null(symbols: &Symbols, tree: &Tree, expression: Expression) -> bool {
         } => is_null(symbols, tree, right),
         Expression::Call { function, .. } => match tree.expression(function) {
             Some(Expression::Name(name)) => {
-                matches!(
-                    Counting::of(symbols.text(name)),
-                    Some(Counting::Clear)
-                )
+                matches!(Counting::of(symbols.text(name)), Some(Counting::Clear))
             }
             _ => false,
         },
