@@ -41,6 +41,26 @@ pub(crate) fn gives_elements(
     Ok(gives)
 }
 
+/// Returns whether an array is passed to a function that gives elements up of what it gets there.
+pub(crate) fn is_passed_on(tree: &Tree, givers: &HashSet<(Symbol, usize)>, array: Symbol) -> bool {
+    for (expression, _) in tree.expressions() {
+        if let Expression::Call {
+            function,
+            arguments,
+        } = *expression
+        {
+            if let Some(Expression::Name(called)) = tree.expression(function) {
+                for (at, id) in tree.operands(arguments).iter().enumerate() {
+                    if name_at(tree, *id) == Some(array) && givers.contains(&(called, at)) {
+                        return true;
+                    }
+                }
+            }
+        }
+    }
+    false
+}
+
 /// Returns the variables that get elements of an array.
 fn names_of_elements(
     alloc: Global,

@@ -156,7 +156,7 @@ impl<'a> Builder<'a> {
         let Some(called) = self.called_symbol(site.id) else {
             return Ok(());
         };
-        let is_known = shows_way(callee, operands);
+        let is_known = shows_way(callee, operands) || self.shares_field(called);
         let mut fields = Vec::new(self.alloc);
         for field in self.set_fields.iter() {
             let is_cleared = is_known && self.usage.clears(called, *field);
@@ -173,6 +173,14 @@ impl<'a> Builder<'a> {
             }
         }
         Ok(())
+    }
+
+    /// Returns whether the function speaks of a field by which the one goes that it calls.
+    fn shares_field(&self, called: Symbol) -> bool {
+        self.tree.expressions().iter().any(|(expression, _)| match *expression {
+            Expression::Field { name, .. } => self.usage.goes_by(called, name),
+            _ => false,
+        })
     }
 
     /// Returns the name of the function or the field that is called.

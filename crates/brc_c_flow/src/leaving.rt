@@ -23,8 +23,7 @@ impl<'a> Builder<'a> {
     ) -> Result<(), Stop> {
         if left.object == LeftObject::None && !left.is_null {
             if out.is_replaced && left.is_freed() {
-                self.read_passed(local, site)?;
-                self.at_site(Event::Give(local), site)?;
+                self.give_passed(local, site)?;
             }
             return Ok(());
         }
@@ -48,9 +47,8 @@ impl<'a> Builder<'a> {
         operands: &[Operand],
         site: Site,
     ) -> Result<(), Stop> {
-        self.read_passed(local, site)?;
         if out.is_replaced {
-            self.at_site(Event::Give(local), site)?;
+            self.give_passed(local, site)?;
         }
         match left_by(left.object, operands) {
             None => self.copy(local, Source::Null, site.place)?,
@@ -69,11 +67,12 @@ impl<'a> Builder<'a> {
         Ok(())
     }
 
-    /// Reads the cell whose address is passed under a name, if it is one, before something else is stored there.
-    fn read_passed(&mut self, local: Local, site: Site) -> Result<(), Stop> {
+    /// Gives up what is where an argument points to. If that is a cell, it is read first.
+    fn give_passed(&mut self, local: Local, site: Site) -> Result<(), Stop> {
         if let Some(cell) = self.passed_cell(local) {
             self.at_site(Event::Read { cell, to: local }, site)?;
         }
+        self.at_site(Event::Give(local), site)?;
         Ok(())
     }
 

@@ -47,6 +47,7 @@ mod singled;
 mod slices;
 mod statements;
 mod stop;
+mod storing;
 mod strings;
 mod surroundings;
 mod traits;
