@@ -1,5 +1,5 @@
 use crate::file::{File, Files};
-use crate::records::{Record, records_of};
+use crate::records::{Fate, Record, records_of};
 use crate::rows::row_from;
 use brc_c_flow::{OwnFunctions, OwnRow, Program, RowFlow, row_flow_of};
 use brc_c_image::arrivals_of;
@@ -29,11 +29,10 @@ pub(crate) fn conclude(
     let Some(right) = records_in(alloc, &flow, false)? else {
         return Ok(None);
     };
-    let records = if right.is_empty() {
-        // Each path gives something up twice, or none returns.
+    let records = if is_cut(right.as_slice(), flow.arguments.len()) {
         match records_in(alloc, &flow, true)? {
             Some(found) => found,
-            None => return Ok(None),
+            None => right,
         }
     } else {
         right
@@ -55,4 +54,18 @@ fn records_in(
         Some(arrivals) => Ok(Some(records_of(alloc, flow, arrivals.as_slice())?)),
         None => Ok(None),
     }
+}
+
+/// Returns whether no path returns, or none to which an argument is passed that isn't NULL: each may give something up
+/// twice.
+fn is_cut(records: &[Record], arguments: usize) -> bool {
+    for number in 0..arguments {
+        if records
+            .iter()
+            .all(|record| record.fates.get(number) == Some(&Fate::Null))
+        {
+            return true;
+        }
+    }
+    records.is_empty()
 }
