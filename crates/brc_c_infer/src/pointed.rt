@@ -66,14 +66,17 @@ pub(crate) fn outs_in(
             after = OutRecord::Moved;
         }
         let before = fate_of(store.value(names.first));
+        let argument = match last.object() {
+            Some(id) => argument_with(flow, store, id),
+            None => None,
+        };
+        // An argument that is left there is NULL if the caller passes NULL.
+        let is_any = argument.is_some() || after == OutRecord::Same;
         outs.push(OutState {
             before,
             after,
-            argument: match last.object() {
-                Some(id) => argument_with(flow, store, id),
-                None => None,
-            },
-            may_be_null: after != OutRecord::Same && is_null(last, before),
+            argument,
+            may_be_null: !is_any && is_null(last, before),
         })?;
     }
     Ok(outs)
