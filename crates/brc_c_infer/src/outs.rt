@@ -106,8 +106,8 @@ fn is_passed_null(record: &Record, argument: Option<usize>) -> bool {
     }
 }
 
-/// Counts each return of an exit once for each sort of object that it leaves. `left` is the argument that it leaves: where
-/// that is NULL, NULL says nothing.
+/// Counts each return of an exit once for each sort of object that it leaves. `left` is the argument that it leaves:
+/// where that is NULL, NULL says nothing.
 fn counts_of(
     alloc: Global,
     flow: &RowFlow,
