@@ -1,5 +1,6 @@
 //! The graph as it is made: a path is open at its end, and each event goes on with it.
 
+use crate::addresses::PassedCell;
 use crate::cells::PlainCell;
 use crate::elements::{Element, LentElement};
 use crate::entries::KeptArgument;
@@ -110,6 +111,8 @@ pub(crate) struct Builder<'a> {
     /// The cells in memory that is no object's, and those that were read, by the places of their expressions.
     pub(crate) plain_cells: Vec<PlainCell>,
     pub(crate) cells_read: HashMap<usize, Cell>,
+    /// The cells whose addresses functions of the program get.
+    pub(crate) passed_cells: Vec<PassedCell>,
     pub(crate) conditions: Vec<KnownCondition>,
     pub(crate) orders: Vec<KnownOrder>,
     pub(crate) singletons: Vec<KnownSingleton>,
@@ -167,6 +170,7 @@ impl<'a> Builder<'a> {
             set_fields: HashSet::new(alloc),
             plain_cells: Vec::new(alloc),
             cells_read: HashMap::new(alloc),
+            passed_cells: Vec::new(alloc),
             conditions: Vec::new(alloc),
             orders: Vec::new(alloc),
             singletons: Vec::new(alloc),

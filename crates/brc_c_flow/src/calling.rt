@@ -58,6 +58,7 @@ impl<'a> Builder<'a> {
         };
         let failing = self.pass_arguments(how, ids, operands, site)?;
         self.assume_arguments(callee, operands, how, site)?;
+        self.stow_elements(callee, ids, site)?;
         if !is_any_given_or_lost(how) {
             self.run(callee, site)?;
         }
@@ -141,7 +142,8 @@ impl<'a> Builder<'a> {
         }
     }
 
-    /// Adds that a function of the program may have set fields of its arguments which this one sets, too.
+    /// Adds that a function of the program may have set fields of its arguments which this one sets, too. A field that
+    /// it only clears has what it had before, on some way: nothing is forgotten, if nobody can know which way it was.
     fn forget_set(
         &mut self,
         callee: Callee<'a>,
@@ -154,9 +156,11 @@ impl<'a> Builder<'a> {
         let Some(called) = self.called_symbol(site.id) else {
             return Ok(());
         };
+        let is_known = shows_way(callee, operands) || self.shares_field(called);
         let mut fields = Vec::new(self.alloc);
         for field in self.set_fields.iter() {
-            if self.usage.sets(called, *field) {
+            let is_cleared = is_known && self.usage.clears(called, *field);
+            if is_cleared || self.usage.sets(called, *field) {
                 fields.push(*field)?;
             }
         }
@@ -169,6 +173,14 @@ impl<'a> Builder<'a> {
             }
         }
         Ok(())
+    }
+
+    /// Returns whether the function speaks of a field by which the one goes that it calls.
+    fn shares_field(&self, called: Symbol) -> bool {
+        self.tree.expressions().iter().any(|(expression, _)| match *expression {
+            Expression::Field { name, .. } => self.usage.goes_by(called, name),
+            _ => false,
+        })
     }
 
     /// Returns the name of the function or the field that is called.
@@ -242,6 +254,11 @@ fn sets_items(name: &[u8]) -> bool {
 fn is_any_given_or_lost(how: &[Passing]) -> bool {
     how.iter()
         .any(|passing| matches!(*passing, Passing::GivenOrLost))
+}
+
+/// Returns whether what a call gives, or what it gets beside objects, may say which way the function goes.
+fn shows_way(callee: Callee<'_>, operands: &[Operand]) -> bool {
+    callee.row.gives != Gives::Void || operands.iter().any(|operand| operand.object().is_none())
 }
 
 /// Returns whether a call with this argument is about an object.

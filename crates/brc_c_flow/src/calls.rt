@@ -53,7 +53,7 @@ impl<'a> Builder<'a> {
                 None if is_unknown => self.undecided(*argument, depth)?,
                 None => {
                     let want = self.want_of(name, how.as_slice(), at);
-                    self.value(*argument, want, depth)?
+                    self.argument(*argument, passed(how.as_slice(), at), want, depth)?
                 }
             };
             operands.push(operand)?;

@@ -59,7 +59,7 @@ impl<'a> Builder<'a> {
     }
 
     /// Returns the variable that is an array of objects.
-    fn array_in(&self, id: ExpressionId) -> Option<Symbol> {
+    pub(crate) fn array_in(&self, id: ExpressionId) -> Option<Symbol> {
         let name = self.name_in(id)?;
         if self.kind(name) == Some(Kind::Array) {
             Some(name)
@@ -87,6 +87,17 @@ impl<'a> Builder<'a> {
             local,
         })?;
         Ok(())
+    }
+
+    /// Returns the names of the elements of an array that are followed.
+    pub(crate) fn elements_of(&self, array: Symbol) -> Result<Vec<Local>, AllocError> {
+        let mut names = Vec::new(self.alloc);
+        for element in self.elements.iter() {
+            if element.array == array {
+                names.push(element.local)?;
+            }
+        }
+        Ok(names)
     }
 
     fn known_element(&self, array: Symbol, index: i64) -> Option<Local> {
@@ -210,6 +221,7 @@ impl<'a> Builder<'a> {
                     && variable.is_parameter
                     && !self.mixed.contains(&name)
                     && !self.traits_of(id).has_effect
+                    && !self.gives_elements_of(name)
             }
             None => false,
         }

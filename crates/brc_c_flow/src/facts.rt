@@ -12,6 +12,9 @@ use brc_c_text::{Place, Symbol};
 use brc_c_tree::{Binary, Expression, ExpressionId, List, Statement, Unary};
 use std::alloc::AllocError;
 
+/// How many copies of a value are followed, one after another.
+const COPY_ROUNDS: usize = 2;
+
 /// A condition in words.
 #[derive(Drop)]
 pub(crate) struct KnownCondition {
@@ -37,6 +40,7 @@ impl<'a> Builder<'a> {
                 self.find_tested_arguments(function, arguments)?;
             }
         }
+        self.find_tested_copies()?;
         for id in &asked {
             self.find_condition(*id)?;
         }
@@ -100,6 +104,48 @@ impl<'a> Builder<'a> {
             Some(Expression::Comma { right, .. }) => self.find_tested_side(right),
             _ => self.find_tested_side(id),
         }
+    }
+
+    /// Notes the variables of numbers whose values go into others that are asked for.
+    fn find_tested_copies(&mut self) -> Result<(), AllocError> {
+        let tree = self.tree;
+        for _round in 0..COPY_ROUNDS {
+            for (expression, _) in tree.expressions() {
+                if let Expression::Assign {
+                    operator: None,
+                    left,
+                    right,
+                } = *expression
+                {
+                    self.find_tested_copy(self.name_in(left), right)?;
+                }
+            }
+            for (statement, _) in tree.statements() {
+                if let Statement::Declare(list) = statement {
+                    for declared in tree.declarations(*list) {
+                        if let Some(value) = declared.value {
+                            self.find_tested_copy(Some(declared.name), value)?;
+                        }
+                    }
+                }
+            }
+        }
+        Ok(())
+    }
+
+    fn find_tested_copy(
+        &mut self,
+        to: Option<Symbol>,
+        value: ExpressionId,
+    ) -> Result<(), AllocError> {
+        if let (Some(to), Some(from)) = (to, self.name_in(value)) {
+            let are_numbers = self.kind(to) == Some(Kind::Plain)
+                && self.kind(from) == Some(Kind::Plain);
+            if are_numbers && self.tested.contains(&to) {
+                self.tested.insert(from)?;
+            }
+        }
+        Ok(())
     }
 
     /// Notes a variable that is asked for.

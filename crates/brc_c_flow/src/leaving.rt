@@ -23,7 +23,7 @@ impl<'a> Builder<'a> {
     ) -> Result<(), Stop> {
         if left.object == LeftObject::None && !left.is_null {
             if out.is_replaced && left.is_freed() {
-                self.at_site(Event::Give(local), site)?;
+                self.give_passed(local, site)?;
             }
             return Ok(());
         }
@@ -48,13 +48,32 @@ impl<'a> Builder<'a> {
         site: Site,
     ) -> Result<(), Stop> {
         if out.is_replaced {
-            self.at_site(Event::Give(local), site)?;
+            self.give_passed(local, site)?;
         }
         match left_by(left.object, operands) {
-            None => self.copy(local, Source::Null, site.place),
-            Some(gives) if left.is_null => self.store_or_miss(gives, local, site),
-            Some(gives) => self.store_out(gives, local, site),
+            None => self.copy(local, Source::Null, site.place)?,
+            Some(gives) if left.is_null => self.store_or_miss(gives, local, site)?,
+            Some(gives) => self.store_out(gives, local, site)?,
         }
+        if let Some(cell) = self.passed_cell(local) {
+            self.at_site(
+                Event::Put {
+                    cell,
+                    from: Some(local),
+                },
+                site,
+            )?;
+        }
+        Ok(())
+    }
+
+    /// Gives up what is where an argument points to. If that is a cell, it is read first.
+    fn give_passed(&mut self, local: Local, site: Site) -> Result<(), Stop> {
+        if let Some(cell) = self.passed_cell(local) {
+            self.at_site(Event::Read { cell, to: local }, site)?;
+        }
+        self.at_site(Event::Give(local), site)?;
+        Ok(())
     }
 
     /// Stores an object, or NULL, since the function finds nothing.

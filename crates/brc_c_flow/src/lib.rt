@@ -3,7 +3,9 @@
 //! What can't be followed makes its function *not read*, with a place and a reason.
 #![tactic(auto)]
 
+mod addresses;
 mod arguments;
+mod arrays;
 mod asserting;
 mod assigning;
 mod assumed;
@@ -45,6 +47,7 @@ mod singled;
 mod slices;
 mod statements;
 mod stop;
+mod storing;
 mod strings;
 mod surroundings;
 mod traits;

@@ -109,7 +109,7 @@ impl<'a> Builder<'a> {
         Ok(())
     }
 
-    fn parameter_number(&self, name: Symbol) -> Option<usize> {
+    pub(crate) fn parameter_number(&self, name: Symbol) -> Option<usize> {
         for (number, parameter) in self.function.parameters.iter().enumerate() {
             if parameter.name == Some(name) {
                 return Some(number);

@@ -1,5 +1,6 @@
 //! The functions that have a body in the program, and what is known of them.
 
+use crate::operand::Operand;
 use brc_c_store::Signs;
 use brc_c_table::{Gives, Row};
 use brc_c_text::Symbol;
@@ -55,6 +56,8 @@ pub struct OwnOut {
     pub is_read: bool,
     /// Whether it gives the reference up that is there.
     pub is_replaced: bool,
+    /// The number of the argument that a success leaves there, from 0.
+    pub left: Option<usize>,
     pub success: Left,
     pub failure: Left,
 }
@@ -67,6 +70,22 @@ impl Left {
 }
 
 impl OwnOut {
+    /// Returns what a success leaves where these are the arguments: NULL, if that is passed to be left there.
+    pub(crate) fn success_for(self, operands: &[Operand]) -> Left {
+        let passed = match self.left {
+            Some(number) => operands.get(number).copied(),
+            None => None,
+        };
+        match passed {
+            Some(operand) if operand.is_null() => Left {
+                object: LeftObject::None,
+                is_null: true,
+                ..self.success
+            },
+            _ => self.success,
+        }
+    }
+
     /// Returns whether each success leaves an object in place of what was there.
     pub(crate) fn is_sure(self) -> bool {
         let success = self.success;
@@ -74,6 +93,12 @@ impl OwnOut {
             && !success.is_null
             && !success.is_same
             && !self.is_replaced
+    }
+
+    /// Returns whether it is known what becomes of the reference that is there. One that the function reads and doesn't
+    /// give up may be NULL where something is stored.
+    pub(crate) fn is_told(self) -> bool {
+        !self.stores_unknown() && (self.is_replaced || !self.is_read)
     }
 
     /// Returns whether nothing is known of an object that the function may leave.

@@ -6,6 +6,7 @@ use crate::building::Builder;
 use crate::callee::Callee;
 use crate::leaving::left_by;
 use crate::operand::{Operand, Site, Want};
+use crate::own::OwnOut;
 use crate::passing::{Passing, passed};
 use crate::stop::Stop;
 use brc_c_store::{Calling, Choice, Event, Gives, Local, Signs, Source};
@@ -82,7 +83,7 @@ impl<'a> Builder<'a> {
                     };
                 }
                 Passing::Table(Takes::Out) => {}
-                Passing::Own(out) if out.is_sure() => {
+                Passing::Own(out) if self.is_first(out, local, operands) => {
                     if let Some(gives) = left_by(out.success.object, operands) {
                         outcome.gives = gives;
                         outcome.into = Some(local);
@@ -95,6 +96,13 @@ impl<'a> Builder<'a> {
             outcome.into = Some(local);
             return;
         }
+    }
+
+    /// Returns whether each success stores an object in a variable of the function.
+    fn is_first(&self, out: OwnOut, local: Local, operands: &[Operand]) -> bool {
+        out.is_sure()
+            && out.success_for(operands) == out.success
+            && self.passed_cell(local).is_none()
     }
 
     /// Returns whether the function asks whether a variable has NULL.
@@ -145,7 +153,8 @@ impl<'a> Builder<'a> {
                 }
                 (Passing::Own(out), Operand::Address(local)) => {
                     if outcome.into != Some(local) {
-                        self.leave_at(out, out.success, local, operands, site)?;
+                        let left = out.success_for(operands);
+                        self.leave_at(out, left, local, operands, site)?;
                     }
                 }
                 (Passing::GivenOrLost, _) => self.give_argument(*operand, container, site)?,

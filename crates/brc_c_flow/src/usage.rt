@@ -1,7 +1,9 @@
 //! What the functions of a source do with fields, with variables outside them, and with each other.
 
+use crate::arrays::{gives_elements, is_passed_on};
 use crate::habits::begins_or_ends;
 use crate::references::Counting;
+use crate::storing::{field_at, replaced, stores_null};
 use brc_c_text::{Symbol, Symbols};
 use brc_c_tree::{
     Body, Expression, ExpressionId, Function, List, SourceTree, Statement, Tree, Unary,
@@ -12,6 +14,9 @@ use std::collections::HashSet;
 /// How many casts of one expression are passed.
 const CAST_LIMIT: usize = 64;
 
+/// Through how many functions an array is followed whose elements the last one gives up.
+const PASSING_ROUNDS: usize = 3;
+
 /// What is known of a source beside its declarations.
 #[derive(Drop)]
 pub struct Usage {
@@ -21,8 +26,13 @@ pub struct Usage {
     called: HashSet<Symbol>,
     /// The functions that call nothing, and set nothing but variables of their own.
     idle: HashSet<Symbol>,
-    /// Functions, each with a field that it sets.
+    /// Functions, each with a field in which it stores something else than NULL, and with one where it stores NULL.
     setters: HashSet<(Symbol, Symbol)>,
+    clearers: HashSet<(Symbol, Symbol)>,
+    /// Functions, each with a field that it reads or sets.
+    speakers: HashSet<(Symbol, Symbol)>,
+    /// Functions, each with the number of an argument, an array of which it gives elements up.
+    element_givers: HashSet<(Symbol, usize)>,
     /// The fields that some function sets, and those that one sets which neither makes objects nor ends them.
     set: HashSet<Symbol>,
     set_late: HashSet<Symbol>,
@@ -38,6 +48,9 @@ impl Usage {
             called: HashSet::new(alloc),
             idle: HashSet::new(alloc),
             setters: HashSet::new(alloc),
+            clearers: HashSet::new(alloc),
+            speakers: HashSet::new(alloc),
+            element_givers: HashSet::new(alloc),
             set: HashSet::new(alloc),
             set_late: HashSet::new(alloc),
             frees: false,
@@ -47,10 +60,14 @@ impl Usage {
                 usage.add_calls(symbols, tree)?;
                 usage.add_assigned(tree)?;
                 usage.add_set(symbols, function, tree)?;
+                usage.add_given(alloc, symbols, function, tree)?;
                 if is_idle(alloc, function, tree)? {
                     usage.idle.insert(function.name)?;
                 }
             }
+        }
+        for _round in 0..PASSING_ROUNDS {
+            usage.add_passed(source)?;
         }
         Ok(usage)
     }
@@ -72,9 +89,24 @@ impl Usage {
         self.idle.contains(&function)
     }
 
-    /// Returns whether a function sets a field of this name.
+    /// Returns whether a function stores something else than NULL in a field of this name.
     pub(crate) fn sets(&self, function: Symbol, field: Symbol) -> bool {
         self.setters.contains(&(function, field))
+    }
+
+    /// Returns whether a function stores NULL in a field of this name.
+    pub(crate) fn clears(&self, function: Symbol, field: Symbol) -> bool {
+        self.clearers.contains(&(function, field))
+    }
+
+    /// Returns whether a function may go by what a field of this name has: it speaks of it, and doesn't clear it.
+    pub(crate) fn goes_by(&self, function: Symbol, field: Symbol) -> bool {
+        self.speakers.contains(&(function, field)) && !self.clears(function, field)
+    }
+
+    /// Returns whether a function gives up elements of an array that is its argument of this number, from 0.
+    pub(crate) fn gives_elements(&self, function: Symbol, argument: usize) -> bool {
+        self.element_givers.contains(&(function, argument))
     }
 
     /// Returns whether a field of this name has what it had when its object was made, as long as the object lives.
@@ -106,11 +138,52 @@ impl Usage {
                 } => replaced(symbols, tree, function, arguments),
                 _ => None,
             };
+            if let Expression::Field { name, .. } = *expression {
+                self.speakers.insert((setter, name))?;
+            }
             if let Some(field) = field_at(tree, target) {
-                self.setters.insert((setter, field))?;
+                if stores_null(symbols, tree, *expression) {
+                    self.clearers.insert((setter, field))?;
+                } else {
+                    self.setters.insert((setter, field))?;
+                }
                 self.set.insert(field)?;
                 if is_late {
                     self.set_late.insert(field)?;
+                }
+            }
+        }
+        Ok(())
+    }
+
+    /// Adds the arguments that are pointers to pointers, if the function gives up what is there.
+    fn add_given(
+        &mut self,
+        alloc: Global,
+        symbols: &Symbols,
+        function: &Function,
+        tree: &Tree,
+    ) -> Result<(), AllocError> {
+        for (number, parameter) in function.parameters.iter().enumerate() {
+            if let (true, Some(name)) = (parameter.type_name.stars > 1, parameter.name) {
+                if gives_elements(alloc, symbols, tree, name)? {
+                    self.element_givers.insert((function.name, number))?;
+                }
+            }
+        }
+        Ok(())
+    }
+
+    /// Adds the arguments that a function passes to another one, which gives up what is there.
+    fn add_passed(&mut self, source: &SourceTree) -> Result<(), AllocError> {
+        for function in source.functions.iter() {
+            if let Body::Read(tree, _) = &function.body {
+                for (number, parameter) in function.parameters.iter().enumerate() {
+                    if let (true, Some(name)) = (parameter.type_name.stars > 1, parameter.name) {
+                        if is_passed_on(tree, &self.element_givers, name) {
+                            self.element_givers.insert((function.name, number))?;
+                        }
+                    }
                 }
             }
         }
@@ -199,31 +272,6 @@ impl Usage {
             Some(to) if self.released.contains(&to) => self.add_released(tree, value),
             _ => Ok(()),
         }
-    }
-}
-
-/// Returns the place that `Py_CLEAR` and its like set.
-fn replaced(
-    symbols: &Symbols,
-    tree: &Tree,
-    function: ExpressionId,
-    arguments: List,
-) -> Option<ExpressionId> {
-    let Some(Expression::Name(name)) = tree.expression(function) else {
-        return None;
-    };
-    if Counting::of(symbols.text(name))?.replaces() {
-        tree.operands(arguments).first().copied()
-    } else {
-        None
-    }
-}
-
-/// Returns the field that a place is.
-fn field_at(tree: &Tree, place: Option<ExpressionId>) -> Option<Symbol> {
-    match tree.expression(place?)? {
-        Expression::Field { name, .. } => Some(name),
-        _ => None,
     }
 }
 

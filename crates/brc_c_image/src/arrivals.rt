@@ -14,11 +14,13 @@ pub struct Arrival {
 }
 
 /// Returns each return of a graph in each store in which a path reaches it, or `None` if there are too
-/// many blocks or references. A store knows the names that the graph asks for there.
+/// many blocks or references. A store knows the names that the graph asks for there. If `goes_on`, a path doesn't end
+/// where it gives something up a second time.
 pub fn arrivals_of(
     alloc: Global,
     rules: Rules,
     graph: &Graph,
+    goes_on: bool,
 ) -> Result<Option<Vec<Arrival>>, AllocError> {
     let live = Liveness::of(alloc, graph)?;
     let mut blocks = Blocks::new(alloc);
@@ -27,6 +29,7 @@ pub fn arrivals_of(
         rules,
         graph,
         live: &live,
+        goes_on,
     };
     if explore(&source, &mut blocks)?.is_some() {
         return Ok(None);

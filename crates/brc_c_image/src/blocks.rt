@@ -11,8 +11,8 @@ use crate::image::Size;
 use crate::line::Line;
 use crate::liveness::Liveness;
 use crate::points::{Points, Waiting};
-use crate::taking::take_lent;
-use brc_c_graph::{Graph, NodeId};
+use crate::taking::{gives_again, take_lent};
+use brc_c_graph::{Graph, Node, NodeId};
 use brc_c_store::{Event, RegisterSet, Rules, Store, faults, left_by};
 use brc_lang::CheckCode;
 use std::alloc::{AllocError, Global};
@@ -33,6 +33,8 @@ pub(crate) struct Source<'a> {
     pub(crate) rules: Rules,
     pub(crate) graph: &'a Graph,
     pub(crate) live: &'a Liveness,
+    /// Whether a path goes on where it gives something up a second time.
+    pub(crate) goes_on: bool,
 }
 
 /// The blocks of a function. The first one is the function's entry.
@@ -194,6 +196,10 @@ fn build(
             Some(taken) => {
                 let first = blocks.lines.len();
                 go_on_in(source.rules, blocks, waiting, taken, first)?;
+            }
+            None if source.goes_on && gives_again(node.event, code, &waiting.store) => {
+                let event = Event::Pass;
+                return follow(source, blocks, waiting, &Node { event, ..node });
             }
             None => break_rule(source.rules, blocks, waiting, node.event, code)?,
         }

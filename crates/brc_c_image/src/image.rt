@@ -69,6 +69,7 @@ pub fn image_of(
         rules,
         graph,
         live: &live,
+        goes_on: false,
     };
     if let Some(size) = explore(&source, &mut blocks)? {
         return Ok(Image::TooLarge(size));

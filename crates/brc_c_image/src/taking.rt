@@ -26,6 +26,15 @@ pub(crate) fn take_lent(
     }
 }
 
+/// Returns whether an event gives up once more what the function has given up.
+pub(crate) fn gives_again(event: Event, code: CheckCode, store: &Store) -> bool {
+    let local = match event {
+        Event::Release(local) | Event::Give(local) | Event::GiveTo { local, .. } => local,
+        _ => return false,
+    };
+    code == CheckCode::EmptyUsed && store.object_of(local).is_some()
+}
+
 fn take(graph: &Graph, store: &Store, id: ObjectId) -> Result<Option<Store>, AllocError> {
     let object = store.object(id);
     if object.base != Base::Call || !is_asked_for(graph, store, id) {

@@ -43,6 +43,8 @@ struct Vote {
     is_stolen: bool,
     /// How many returns differ.
     others: usize,
+    /// Whether there is a return at which the argument isn't NULL.
+    is_cast: bool,
 }
 
 /// The exits of a function, and how it takes each argument.
@@ -91,11 +93,15 @@ fn exits_by(
             continue;
         }
         let success = vote_on(alloc, flow, records, split, false, number)?;
-        let failure = if has_failure {
+        let mut failure = if has_failure {
             vote_on(alloc, flow, records, split, true, number)?
         } else {
             success
         };
+        // It fails for NULL only, of which there is no reference.
+        if !failure.is_cast {
+            failure.is_stolen = success.is_stolen;
+        }
         exits.takes.push(takes_by(success, failure))?;
         exits.cost = exits.cost.saturating_add(success.others);
         if split != Split::One {
@@ -152,5 +158,6 @@ fn majority(given: &Sites, left: &Sites) -> Vote {
         } else {
             given.count()
         },
+        is_cast: given.count() > 0 || left.count() > 0,
     }
 }

@@ -57,7 +57,8 @@ pub(crate) fn vote_on_out(
     });
     let from = container_of(alloc, flow, names.local)?;
     let has_failure = records.iter().any(|record| split.fails(record));
-    let counts = counts_of(alloc, flow, records, split, false, number)?;
+    let left = argument_left(records, split, number);
+    let counts = counts_of(alloc, flow, records, split, false, number, left)?;
     let success = vote_of(&counts, from, true);
     let mut failure = Vote {
         others: 0,
@@ -65,7 +66,7 @@ pub(crate) fn vote_on_out(
         ..success
     };
     if has_failure {
-        let failing = counts_of(alloc, flow, records, split, true, number)?;
+        let failing = counts_of(alloc, flow, records, split, true, number, None)?;
         failure = vote_of(&failing, from, is_replaced);
         // No split is meant by which only failures leave a new reference.
         if counts.new == 0 && failing.new > 0 {
@@ -77,6 +78,7 @@ pub(crate) fn vote_on_out(
             argument: names.argument,
             is_read: is_read(alloc, &flow.graph, names)?,
             is_replaced,
+            left,
             success: success.left,
             failure: failure.left,
         },
@@ -84,7 +86,28 @@ pub(crate) fn vote_on_out(
     })
 }
 
-/// Counts each return of an exit once for each sort of object that it leaves.
+/// Returns the number of the argument that a success leaves where another one points to.
+fn argument_left(records: &[Record], split: Split, number: usize) -> Option<usize> {
+    for record in records {
+        if let (false, Some(out)) = (split.fails(record), record.outs.get(number)) {
+            if out.after != OutRecord::Same && out.argument.is_some() {
+                return out.argument;
+            }
+        }
+    }
+    None
+}
+
+/// Returns whether this argument is NULL where a return is reached.
+fn is_passed_null(record: &Record, argument: Option<usize>) -> bool {
+    match argument {
+        Some(number) => record.fates.get(number) == Some(&Fate::Null),
+        None => false,
+    }
+}
+
+/// Counts each return of an exit once for each sort of object that it leaves. `left` is the argument that it leaves:
+/// where that is NULL, NULL says nothing.
 fn counts_of(
     alloc: Global,
     flow: &RowFlow,
@@ -92,6 +115,7 @@ fn counts_of(
     split: Split,
     fails: bool,
     number: usize,
+    left: Option<usize>,
 ) -> Result<Counts, AllocError> {
     let mut new = Sites::new(alloc, flow)?;
     let mut borrowed = Sites::new(alloc, flow)?;
@@ -108,7 +132,7 @@ fn counts_of(
                     OutRecord::Same => same.mark(record.site),
                     OutRecord::Nothing | OutRecord::Moved => {}
                 }
-                if out.may_be_null {
+                if out.may_be_null && !is_passed_null(record, left) {
                     null.mark(record.site);
                 }
             }

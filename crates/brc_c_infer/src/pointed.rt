@@ -1,7 +1,7 @@
 //! What a path leaves where the arguments of a function point to.
 
 use crate::entering::is_read;
-use crate::records::{Fate, Kind, fate_of};
+use crate::records::{Fate, Kind, argument_with, fate_of};
 use brc_c_flow::{OutNames, Returned, ReturnedValue, RowFlow};
 use brc_c_store::{ObjectId, Store, Value};
 use std::alloc::{AllocError, Global};
@@ -27,6 +27,8 @@ pub(crate) struct OutState {
     /// What became of the reference that was there.
     pub(crate) before: Fate,
     pub(crate) after: OutRecord,
+    /// The argument that is there then, by its number.
+    pub(crate) argument: Option<usize>,
     /// Whether NULL is there, or may be, where it wasn't before.
     pub(crate) may_be_null: bool,
 }
@@ -64,10 +66,17 @@ pub(crate) fn outs_in(
             after = OutRecord::Moved;
         }
         let before = fate_of(store.value(names.first));
+        let argument = match last.object() {
+            Some(id) => argument_with(flow, store, id),
+            None => None,
+        };
+        // An argument that is left there is NULL if the caller passes NULL.
+        let is_any = argument.is_some() || after == OutRecord::Same;
         outs.push(OutState {
             before,
             after,
-            may_be_null: after != OutRecord::Same && is_null(last, before),
+            argument,
+            may_be_null: !is_any && is_null(last, before),
         })?;
     }
     Ok(outs)

@@ -1,6 +1,6 @@
 //! What is known at the returns of a function.
 
-use crate::pointed::{OutState, kind_by_outs, outs_in, outs_read};
+use crate::pointed::{OutRecord, OutState, kind_by_outs, outs_in, outs_read};
 use brc_c_flow::{Returned, ReturnedValue, RowFlow};
 use brc_c_image::Arrival;
 use brc_c_store::{Base, Local, ObjectId, Signs, Store, Value};
@@ -93,6 +93,9 @@ pub(crate) fn records_of(
     for number in 0..flow.arguments.len() {
         give_returned(&mut records, number);
     }
+    for number in 0..flow.outs.len() {
+        steal_stored(&mut records, number);
+    }
     Ok(records)
 }
 
@@ -112,6 +115,40 @@ fn give_returned(records: &mut Vec<Record>, number: usize) {
                 *fate = Fate::GivenUp;
             }
         }
+    }
+}
+
+/// Counts an argument as stolen that is left where another one points to, if the function gives up what was there: a
+/// reference is owned there.
+fn steal_stored(records: &mut Vec<Record>, number: usize) {
+    let is_replaced = records.iter().any(|record| match record.outs.get(number) {
+        Some(out) => out.before == Fate::GivenUp,
+        None => false,
+    });
+    if !is_replaced {
+        return;
+    }
+    for record in records.iter_mut() {
+        if let Some(argument) = stored_in(record, number) {
+            if let Some(fate) = record.fates.get_mut(argument) {
+                *fate = Fate::GivenUp;
+            }
+            if let Some(out) = record.outs.get_mut(number) {
+                out.after = OutRecord::New;
+            }
+        }
+    }
+}
+
+/// Returns the number of the argument that a return leaves in place of what was there, without a reference of its own.
+fn stored_in(record: &Record, number: usize) -> Option<usize> {
+    let out = record.outs.get(number)?;
+    let argument = out.argument?;
+    let is_left = record.fates.get(argument) == Some(&Fate::Left);
+    if out.after == OutRecord::Borrowed && out.before != Fate::Left && is_left {
+        Some(argument)
+    } else {
+        None
     }
 }
 
@@ -214,7 +251,7 @@ fn lent_kind(flow: &RowFlow, store: &Store, local: Local, base: Base) -> Kind {
 }
 
 /// Returns the number of the argument that is the object.
-fn argument_with(flow: &RowFlow, store: &Store, id: ObjectId) -> Option<usize> {
+pub(crate) fn argument_with(flow: &RowFlow, store: &Store, id: ObjectId) -> Option<usize> {
     for (number, argument) in flow.arguments.iter().enumerate() {
         if let Some(kept) = argument.kept {
             if store.object_of(kept) == Some(id) {
