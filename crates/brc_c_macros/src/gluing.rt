@@ -3,6 +3,9 @@
 use brc_c_text::{Lexeme, LexemeKind, Punctuator, Symbol, Symbols};
 use std::alloc::{AllocError, Global};
 
+/// Fewer names than these may stand for strings in a row.
+const NAMES_LIMIT: usize = 8;
+
 /// Returns the lexemes with neighbouring strings joined to one. A name before them, between them, or after the last one
 /// is a macro that stands for a string, as `__FILE__` and those of a system's header: it adds nothing.
 pub(crate) fn glued(
@@ -26,25 +29,24 @@ pub(crate) fn glued(
             let symbol = joined(alloc, symbols, last.symbol, lexeme.symbol)?;
             let _ = all.pop();
             all.push(Lexeme { symbol, ..last })?;
-        } else if lexeme.kind != LexemeKind::Name || !ends_text(lexemes, at) {
+        } else if !ends_text(lexemes, at) {
             all.push(*lexeme)?;
         }
     }
     Ok(all)
 }
 
-/// Returns whether this lexeme is a name right before a string.
+/// Returns whether this lexeme is a name, and a string comes after it and the names that follow it.
 fn begins_text(lexemes: &[Lexeme], at: usize) -> bool {
-    match lexemes.get(at..) {
-        Some([name, text, ..]) => { name.kind == LexemeKind::Name && text.kind == LexemeKind::Text }
-        _ => false,
+    match after_names(lexemes, at) {
+        Some(next) => next.kind == LexemeKind::Text,
+        None => false,
     }
 }
 
 /// Returns whether after this name, and those that follow it, a string goes on, or the operand that it is part of ends.
 fn ends_text(lexemes: &[Lexeme], at: usize) -> bool {
-    let rest = lexemes.get(at..).unwrap_or(&[]);
-    match rest.iter().find(|lexeme| lexeme.kind != LexemeKind::Name) {
+    match after_names(lexemes, at) {
         Some(next) => {
             next.kind == LexemeKind::Text
                 || next.is(Punctuator::Comma)
@@ -52,6 +54,18 @@ fn ends_text(lexemes: &[Lexeme], at: usize) -> bool {
         }
         None => false,
     }
+}
+
+/// Returns what comes after the names from this place on, if there is one at least and not too many.
+fn after_names(lexemes: &[Lexeme], at: usize) -> Option<Lexeme> {
+    let mut next = lexemes.get(at)?;
+    for ahead in 1..NAMES_LIMIT {
+        if next.kind != LexemeKind::Name {
+            return if ahead > 1 { Some(*next) } else { None };
+        }
+        next = lexemes.get(at.checked_add(ahead)?)?;
+    }
+    None
 }
 
 fn joined(
