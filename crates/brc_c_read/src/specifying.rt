@@ -236,6 +236,8 @@ impl<'a> Parser<'a> {
         let next = self.cursor.ahead(behind.saturating_add(1));
         match next.kind {
             LexemeKind::Name | LexemeKind::Number | LexemeKind::Text => true,
+            // A value in braces is of the type before it.
+            LexemeKind::Punctuator(Punctuator::LeftBrace) => true,
             LexemeKind::Keyword(keyword) => keyword == Keyword::Sizeof,
             LexemeKind::Punctuator(Punctuator::LeftParen | Punctuator::And) => {
                 sounds_like_type(self.symbols.text(first.symbol))
@@ -297,6 +299,9 @@ impl<'a> Parser<'a> {
         if first.kind != LexemeKind::Name || self.is_variable(&first) {
             return false;
         }
+        if self.declares_function_pointer() {
+            return true;
+        }
         let behind = self.behind_stars(1);
         let follows = self.cursor.ahead(behind.saturating_add(1));
         self.cursor.ahead(behind).kind == LexemeKind::Name
@@ -304,6 +309,15 @@ impl<'a> Parser<'a> {
                 || follows.is(Punctuator::Semicolon)
                 || follows.is(Punctuator::Comma)
                 || follows.is(Punctuator::LeftBracket))
+    }
+
+    /// Returns whether `(*name)(` comes after the next lexeme.
+    fn declares_function_pointer(&self) -> bool {
+        self.cursor.ahead(1).is(Punctuator::LeftParen)
+            && self.cursor.ahead(2).is(Punctuator::Star)
+            && self.cursor.ahead(3).kind == LexemeKind::Name
+            && self.cursor.ahead(4).is(Punctuator::RightParen)
+            && self.cursor.ahead(5).is(Punctuator::LeftParen)
     }
 
     /// Returns that a name is expected.
