@@ -96,7 +96,7 @@ fn image_in(alloc: Global, blocks: &Blocks, name: &[u8]) -> Result<Image, AllocE
     if broken.is_empty() && blocks.is_cut {
         return Ok(Image::TooLarge(Size::Blocks));
     }
-    let Some(parts) = parts_of(alloc, &layout)? else {
+    let Some(parts) = parts_of(alloc, &layout, !broken.is_empty())? else {
         return Ok(Image::TooLarge(Size::Instructions));
     };
     if broken.is_empty() {

@@ -10,23 +10,26 @@ pub(crate) const MOST_INSTRUCTIONS: usize = 256;
 /// How many instructions a text has at most that has a part of the blocks. A fault may take some more.
 const MOST_OF_A_PART: usize = 224;
 
-/// Returns parts that together have all blocks, or `None` if a block is too large for a text.
-pub(crate) fn parts_of(alloc: Global, layout: &Layout) -> Result<Option<Vec<Part>>, AllocError> {
+/// Returns parts that together have all blocks, or `None` if a block is too large for a text. One part has them all, if
+/// its text isn't too long; a fault needs room in it.
+pub(crate) fn parts_of(
+    alloc: Global,
+    layout: &Layout,
+    is_at_fault: bool,
+) -> Result<Option<Vec<Part>>, AllocError> {
     let mut parts = Vec::new(alloc);
     let count = layout.order.len();
-    if fits(
-        alloc,
-        layout,
-        Part {
-            first: 0,
-            end: count,
-        },
-        MOST_INSTRUCTIONS,
-    )? {
-        parts.push(Part {
-            first: 0,
-            end: count,
-        })?;
+    let whole = Part {
+        first: 0,
+        end: count,
+    };
+    let most = if is_at_fault {
+        MOST_OF_A_PART
+    } else {
+        MOST_INSTRUCTIONS
+    };
+    if fits(alloc, layout, whole, most)? {
+        parts.push(whole)?;
         return Ok(Some(parts));
     }
     let mut first = 0;

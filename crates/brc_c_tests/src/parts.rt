@@ -36,6 +36,10 @@ const BEFORE: [usize; 2] = [92, 114];
 /// .. and how often at the second one: no function fits into one module.
 const BEHIND: usize = 70;
 
+/// How often they are at the first `@` where nothing is at the second one: the function just fits into one module, or
+/// just doesn't, and a fault may need the room that is left.
+const ALONE: [usize; 2] = [108, 130];
+
 /// Returns the function with the instructions this often at the first `@` and at the second one.
 fn filled(alloc: Global, marked: &str, times: [usize; 2]) -> Result<String, AllocError> {
     let mut source = String::new(alloc);
@@ -71,10 +75,22 @@ fn verdict_on(alloc: Global, source: &str) -> Result<String, AllocError> {
 fn same_wherever_cut(alloc: Global, marked: &str) -> Result<(), Fail> {
     let short = filled(alloc, marked, [0, 0])?;
     let wanted = verdict_on(alloc, short.as_str())?;
-    for before in BEFORE[0]..BEFORE[1] {
-        let source = filled(alloc, marked, [before, BEHIND])?;
+    same_with(alloc, marked, BEFORE, BEHIND, wanted.as_str())?;
+    same_with(alloc, marked, ALONE, 0, wanted.as_str())
+}
+
+/// Fails unless the verdict on the function with so many instructions is the wanted one.
+fn same_with(
+    alloc: Global,
+    marked: &str,
+    before: [usize; 2],
+    behind: usize,
+    wanted: &str,
+) -> Result<(), Fail> {
+    for times in before[0]..before[1] {
+        let source = filled(alloc, marked, [times, behind])?;
         let found = verdict_on(alloc, source.as_str())?;
-        same(source.as_str(), found.as_str(), wanted.as_str())?;
+        same(source.as_str(), found.as_str(), wanted)?;
     }
     Ok(())
 }
