@@ -30,7 +30,8 @@ pub(crate) fn number_functions(
     Ok(numbered)
 }
 
-/// A macro that takes a function from a table has the name of the function, which is static in another file.
+/// A macro that takes a function from a table has the name of the function, which is in another file: a static one, if
+/// there is one. So it is called by its name, though the table has it as a value.
 fn name_through_tables(
     files: &Files<'_>,
     statics: &HashMap<Symbol, usize>,
@@ -38,9 +39,11 @@ fn name_through_tables(
 ) -> Result<(), AllocError> {
     for (file, read) in files.files.iter().enumerate() {
         for name in read.casts.iter() {
-            if let (Some(number), Some(here)) = (statics.get(name), names.here.get_mut(file)) {
-                if add_once(here, *name, *number)? {
-                    names.through_tables.insert(*number)?;
+            let elsewhere = names.elsewhere.get(name).copied();
+            let found = statics.get(name).copied().or(elsewhere);
+            if let (Some(number), Some(here)) = (found, names.here.get_mut(file)) {
+                if add_once(here, *name, number)? {
+                    names.through_tables.insert(number)?;
                 }
             }
         }
