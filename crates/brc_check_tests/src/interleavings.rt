@@ -122,7 +122,7 @@ fn is_new(
     world: &World<'_>,
     seen: &mut BTreeSet<String>,
 ) -> Result<bool, AllocError> {
-    seen.insert(format!(in alloc; "{world:?}")?)
+    Ok(seen.insert(format!(in alloc; "{world:?}")?)?)
 }
 
 /// Returns whether all threads of a new state are gone, or `None` if the state isn't new.
