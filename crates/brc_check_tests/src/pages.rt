@@ -32,9 +32,9 @@ fn verdict_of(alloc: Global, text: &[u8]) -> Verdict {
 fn verdict_of_module(alloc: Global, module: Module) -> Verdict
     requires { IsModule «module» }
 {
-    match check(alloc, module) {
-        Ok(_) => Verdict::Accepted,
-        Err(refused) => Verdict::Refused(refused),
+    match check(alloc, module).err() {
+        Some(refused) => Verdict::Refused(refused),
+        None => Verdict::Accepted,
     }
 }
 
