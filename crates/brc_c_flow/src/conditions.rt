@@ -84,6 +84,8 @@ impl<'a> Builder<'a> {
                 }
             }
             _ => {
+                self.hold_for_null(id, branches.holds)?;
+                self.fail_for_zero(id, branches.fails)?;
                 let value = self.value(id, Want::ASKED, inside)?;
                 if self.is_known_kind(id) {
                     self.jump(branches.holds);

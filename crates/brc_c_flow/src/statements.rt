@@ -24,14 +24,17 @@ impl<'a> Builder<'a> {
         let Some(statement) = self.tree.statement(id) else {
             return Ok(());
         };
+        if !matches!(statement, Statement::If { .. }) {
+            self.just_given = None;
+        }
         match statement {
-            Statement::Block(list) => self.block(list, inside),
-            Statement::If { .. } => self.if_statement(id, inside),
+            Statement::Block(list) => return self.block(list, inside),
+            Statement::If { .. } => self.if_statement(id, inside)?,
             Statement::While { condition, body } => {
-                self.while_statement(condition, body, place, inside)
+                self.while_statement(condition, body, place, inside)?;
             }
             Statement::DoWhile { body, condition } => {
-                self.do_statement(body, condition, place, inside)
+                self.do_statement(body, condition, place, inside)?;
             }
             Statement::For {
                 first,
@@ -42,11 +45,16 @@ impl<'a> Builder<'a> {
                 if let Some(first) = first {
                     self.statement(first, inside)?;
                 }
-                self.for_statement(condition, next, body, place, inside)
+                self.for_statement(condition, next, body, place, inside)?;
             }
-            Statement::Switch { value, body } => self.switch_statement(value, body, place, inside),
-            _ => self.leaf_statement(statement, place),
+            Statement::Switch { value, body } => {
+                self.switch_statement(value, body, place, inside)?;
+            }
+            _ => return self.leaf_statement(statement, place),
         }
+        // Paths meet here.
+        self.just_given = None;
+        Ok(())
     }
 
     fn statement_place(&self, id: StatementId) -> Place {
@@ -87,6 +95,7 @@ impl<'a> Builder<'a> {
             };
             let branches = self.branches(self.statement_place(next))?;
             self.condition(condition, branches, EXPRESSION_DEPTH)?;
+            self.just_given = None;
             self.land(branches.holds);
             self.statement(then, depth)?;
             self.jump(end);
@@ -102,6 +111,7 @@ impl<'a> Builder<'a> {
         match statement {
             Statement::Expression(value) => {
                 self.value(value, Want::NOTHING, EXPRESSION_DEPTH)?;
+                self.note_assigned(value);
                 Ok(())
             }
             Statement::Declare(list) => self.declare(list),
@@ -130,6 +140,7 @@ impl<'a> Builder<'a> {
                 self.initialize(declared)?;
             }
         }
+        self.note_declared(list);
         Ok(())
     }
 
