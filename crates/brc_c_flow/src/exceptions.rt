@@ -54,7 +54,7 @@ impl<'a> Builder<'a> {
 
     /// Where it is asked whether an exception is set, and a call has just given NULL, there is one: leads these paths to
     /// where they go on then.
-    pub(crate) fn hold_for_null(&mut self, id: ExpressionId, holds: NodeId) -> Result<(), Stop> {
+    pub(crate) fn lead_null(&mut self, id: ExpressionId, to: NodeId) -> Result<(), Stop> {
         let Some(Expression::Call { function, .. }) = self.tree.expression(id) else {
             return Ok(());
         };
@@ -68,9 +68,17 @@ impl<'a> Builder<'a> {
             return Ok(());
         }
         let place = self.place_of(id);
-        let fails = self.meeting(place)?;
-        self.ask(Event::Null(local), place, None, Branches { holds, fails })?;
-        self.land(fails);
+        let other = self.meeting(place)?;
+        self.ask(
+            Event::Null(local),
+            place,
+            None,
+            Branches {
+                holds: to,
+                fails: other,
+            },
+        )?;
+        self.land(other);
         Ok(())
     }
 }

@@ -132,7 +132,7 @@ fn is_zero(symbols: &Symbols, tree: &Tree, id: ExpressionId) -> bool {
 
 impl<'a> Builder<'a> {
     /// Leads paths on which a call gives 0, since it gets 0, to where they go on then. Others go on to the call.
-    pub(crate) fn fail_for_zero(&mut self, call: ExpressionId, fails: NodeId) -> Result<(), Stop> {
+    pub(crate) fn lead_zero(&mut self, call: ExpressionId, to: NodeId) -> Result<(), Stop> {
         let Some(of) = self.zero_passed(call) else {
             return Ok(());
         };
@@ -147,7 +147,7 @@ impl<'a> Builder<'a> {
             place,
             None,
             Branches {
-                holds: fails,
+                holds: to,
                 fails: other,
             },
         )?;
