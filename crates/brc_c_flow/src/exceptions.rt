@@ -52,8 +52,8 @@ impl<'a> Builder<'a> {
         }
     }
 
-    /// Where it is asked whether an exception is set, and a call has just given NULL, there is one: leads these paths to
-    /// where they go on then.
+    /// Where it is asked whether an exception is set, and a call has just given NULL, there is one: leads these paths
+    /// to where they go on then.
     pub(crate) fn lead_null(&mut self, id: ExpressionId, to: NodeId) -> Result<(), Stop> {
         let Some(Expression::Call { function, .. }) = self.tree.expression(id) else {
             return Ok(());

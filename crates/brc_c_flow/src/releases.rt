@@ -11,8 +11,8 @@ use std::collections::HashSet;
 const CAST_LIMIT: usize = 64;
 
 impl Usage {
-    /// Adds the fields and variables whose references a function gives up: itself, or by a variable of its own into which
-    /// they go.
+    /// Adds the fields and variables whose references a function gives up: itself, or by a variable of its own into
+    /// which they go.
     pub(crate) fn add_releases(
         &mut self,
         alloc: Global,

@@ -28,13 +28,36 @@ impl<'a> Builder<'a> {
             self.just_given = None;
         }
         match statement {
-            Statement::Block(list) => return self.block(list, inside),
-            Statement::If { .. } => self.if_statement(id, inside)?,
+            Statement::Block(list) => self.block(list, inside),
+            Statement::If { .. }
+            | Statement::While { .. }
+            | Statement::DoWhile { .. }
+            | Statement::For { .. }
+            | Statement::Switch { .. } => {
+                self.dividing_statement(id, statement, place, inside)?;
+                // Paths meet here.
+                self.just_given = None;
+                Ok(())
+            }
+            _ => self.leaf_statement(statement, place),
+        }
+    }
+
+    /// Adds a statement at which paths divide.
+    #[cycle(statement)]
+    fn dividing_statement(
+        &mut self,
+        id: StatementId,
+        statement: Statement,
+        place: Place,
+        depth: usize,
+    ) -> Result<(), Stop> {
+        match statement {
             Statement::While { condition, body } => {
-                self.while_statement(condition, body, place, inside)?;
+                self.while_statement(condition, body, place, depth)
             }
             Statement::DoWhile { body, condition } => {
-                self.do_statement(body, condition, place, inside)?;
+                self.do_statement(body, condition, place, depth)
             }
             Statement::For {
                 first,
@@ -43,18 +66,13 @@ impl<'a> Builder<'a> {
                 body,
             } => {
                 if let Some(first) = first {
-                    self.statement(first, inside)?;
+                    self.statement(first, depth)?;
                 }
-                self.for_statement(condition, next, body, place, inside)?;
+                self.for_statement(condition, next, body, place, depth)
             }
-            Statement::Switch { value, body } => {
-                self.switch_statement(value, body, place, inside)?;
-            }
-            _ => return self.leaf_statement(statement, place),
+            Statement::Switch { value, body } => self.switch_statement(value, body, place, depth),
+            _ => self.if_statement(id, depth),
         }
-        // Paths meet here.
-        self.just_given = None;
-        Ok(())
     }
 
     fn statement_place(&self, id: StatementId) -> Place {
