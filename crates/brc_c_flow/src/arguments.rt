@@ -22,6 +22,7 @@ impl<'a> Builder<'a> {
         for (at, operand) in operands.iter().enumerate() {
             self.use_argument(passed(how, at), *operand, site)?;
         }
+        self.give_variables(how, ids, operands, site)?;
         let mut failure = None;
         for (at, (id, operand)) in ids.iter().zip(operands.iter()).enumerate() {
             if let (true, Passing::Table(takes)) = (
@@ -78,6 +79,22 @@ impl<'a> Builder<'a> {
         Ok(Some(end))
     }
 
+    /// Adds that what variables have is given away which the call replaces, also if it fails for NULL.
+    fn give_variables(
+        &mut self,
+        how: &[Passing],
+        ids: &[ExpressionId],
+        operands: &[Operand],
+        site: Site,
+    ) -> Result<(), Stop> {
+        for (at, (id, operand)) in ids.iter().zip(operands.iter()).enumerate() {
+            if let Passing::Table(Takes::InOut | Takes::InOutOrNull) = passed(how, at) {
+                self.give_variable(*id, *operand, site)?;
+            }
+        }
+        Ok(())
+    }
+
     /// Adds that arguments are given away, or are where the call stores something.
     fn give_arguments(
         &mut self,
@@ -94,9 +111,6 @@ impl<'a> Builder<'a> {
                 }
                 Passing::Table(Takes::StolenAndKept) => {
                     self.give_argument(*operand, container, site)?;
-                }
-                Passing::Table(Takes::InOut | Takes::InOutOrNull) => {
-                    self.give_variable(*id, *operand, site)?;
                 }
                 Passing::Table(Takes::Out | Takes::OutBorrowed)
                 | Passing::Lent { .. }

@@ -106,6 +106,9 @@ impl<'a> Builder<'a> {
         match target {
             Target::Object(local) => {
                 self.settle(right, value, Want::OBJECT.into(local))?;
+                if let Some(name) = self.name_in(left) {
+                    self.settle_conditions(name, right, place)?;
+                }
                 Ok(Operand::Object(local))
             }
             Target::Counted(local) => {

@@ -127,6 +127,8 @@ pub(crate) struct Builder<'a> {
     pub(crate) returns: Vec<Returned>,
     /// Whether the function gives an object or NULL.
     pub(crate) gives_objects: bool,
+    /// The name that has got what a call gives which sets an exception if that is NULL, with nothing called since.
+    pub(crate) just_given: Option<Local>,
     /// Whether some event is about an object.
     pub(crate) has_objects: bool,
     /// Whether texts say which one of several variables of a name is meant.
@@ -181,6 +183,7 @@ impl<'a> Builder<'a> {
             kept: Vec::new(alloc),
             returns: Vec::new(alloc),
             gives_objects: false,
+            just_given: None,
             has_objects: false,
             is_exact: true,
             graph: Graph::new(alloc),

@@ -37,6 +37,7 @@ impl<'a> Builder<'a> {
         if is_nothing(name, want) {
             return Ok(Operand::Plain);
         }
+        self.just_given = None;
         if self.is_assertion(function, ids) {
             return self.assertion(ids, depth);
         }

@@ -168,7 +168,7 @@ fn constant_of(value: Operand) -> i64 {
     }
 }
 
-fn compares(comparison: Comparison, left: i64, right: i64) -> bool {
+pub(crate) fn compares(comparison: Comparison, left: i64, right: i64) -> bool {
     match comparison {
         Comparison::Equal => left == right,
         Comparison::NotEqual => left != right,
@@ -179,7 +179,7 @@ fn compares(comparison: Comparison, left: i64, right: i64) -> bool {
     }
 }
 
-fn comparison_of(operator: Binary) -> Comparison {
+pub(crate) fn comparison_of(operator: Binary) -> Comparison {
     match operator {
         Binary::NotEqual => Comparison::NotEqual,
         Binary::Less => Comparison::Less,

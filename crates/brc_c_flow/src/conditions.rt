@@ -2,6 +2,7 @@
 
 use crate::building::{Branches, Builder};
 use crate::calls::is_expectation;
+use crate::comparing::{compares, comparison_of};
 use crate::facts::is_comparison;
 use crate::names::Kind;
 use crate::operand::{Operand, Want};
@@ -63,6 +64,7 @@ impl<'a> Builder<'a> {
                     right,
                 },
             ) if is_comparison(operator) => {
+                self.foresee(operator, left, right, branches)?;
                 let one = self.value(left, Want::ASKED, inside)?;
                 let other = self.value(right, Want::ASKED, inside)?;
                 self.compare(id, operator, one, other, branches)
@@ -84,6 +86,8 @@ impl<'a> Builder<'a> {
                 }
             }
             _ => {
+                self.lead_null(id, branches.holds)?;
+                self.lead_zero(id, branches.fails)?;
                 let value = self.value(id, Want::ASKED, inside)?;
                 if self.is_known_kind(id) {
                     self.jump(branches.holds);
@@ -92,6 +96,30 @@ impl<'a> Builder<'a> {
                 let holds = self.unless_null_asked(id, branches.holds)?;
                 self.ask_value(id, value, Branches { holds, ..branches })
             }
+        }
+    }
+
+    /// Leads paths on which it is known what a call gives that is compared with a constant to where they go on then.
+    fn foresee(
+        &mut self,
+        operator: Binary,
+        left: ExpressionId,
+        right: ExpressionId,
+        branches: Branches,
+    ) -> Result<(), Stop> {
+        let Some(constant) = self.constant_in(right) else {
+            return Ok(());
+        };
+        if constant == 0 && operator == Binary::NotEqual {
+            self.lead_null(left, branches.holds)?;
+        }
+        if constant == 0 && operator == Binary::Equal {
+            self.lead_null(left, branches.fails)?;
+        }
+        if compares(comparison_of(operator), 0, constant) {
+            self.lead_zero(left, branches.holds)
+        } else {
+            self.lead_zero(left, branches.fails)
         }
     }
 

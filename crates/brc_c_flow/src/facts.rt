@@ -167,10 +167,10 @@ impl<'a> Builder<'a> {
         function: ExpressionId,
         arguments: List,
     ) -> Result<(), AllocError> {
-        let Some(Expression::Name(name)) = self.tree.expression(function) else {
+        let Some(Expression::Name(called)) = self.tree.expression(function) else {
             return Ok(());
         };
-        let name = self.symbols.text(name);
+        let name = self.symbols.text(called);
         let asks = match Counting::of(name) {
             Some(counting) => counting.may_be_null(),
             None => false,
@@ -183,7 +183,7 @@ impl<'a> Builder<'a> {
         };
         let tree = self.tree;
         for (at, argument) in tree.operands(arguments).iter().enumerate() {
-            if asks || may_be_null(letter(takes, at)) {
+            if asks || may_be_null(letter(takes, at)) || self.is_zero_passed(called, at) {
                 self.find_tested_side(*argument)?;
             }
         }
@@ -231,7 +231,10 @@ impl<'a> Builder<'a> {
                 let is_counted = (self.is_counted(left) && self.is_constant(right))
                     || (self.is_counted(right) && self.is_constant(left));
                 let asks_singleton = self.is_singleton(left) || self.is_singleton(right);
-                asks_singleton || (!is_counted && !self.is_object(left) && !self.is_object(right))
+                let asks_stream = self.is_stream(left) || self.is_stream(right);
+                asks_singleton
+                    || asks_stream
+                    || (!is_counted && !self.is_object(left) && !self.is_object(right))
             }
             Some(
                 Expression::Unary {

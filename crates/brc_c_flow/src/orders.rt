@@ -54,7 +54,7 @@ impl<'a> Builder<'a> {
         Ok(true)
     }
 
-    /// Returns the sides of a comparison of values that are no objects.
+    /// Returns the sides of a comparison of values that are no objects, or of which one is a standard stream.
     fn compared(&self, id: ExpressionId) -> Option<(ExpressionId, ExpressionId)> {
         let Some(
             Expression::Binary {
@@ -67,7 +67,8 @@ impl<'a> Builder<'a> {
             return None;
         };
         let has_objects = self.is_object(left) || self.is_object(right);
-        if is_comparison(operator) && !has_objects && self.traits_of(id).is_pure {
+        let is_of_stream = self.is_stream(left) || self.is_stream(right);
+        if is_comparison(operator) && (!has_objects || is_of_stream) && self.traits_of(id).is_pure {
             Some((left, right))
         } else {
             None

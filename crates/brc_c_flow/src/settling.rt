@@ -41,6 +41,9 @@ impl<'a> Builder<'a> {
         let Some(to) = to else {
             return Ok(());
         };
+        if self.opens(value) {
+            return self.find_opened(to);
+        }
         if let Some(constant) = self.settled_by(to, value) {
             let left = self.symbol_text(to)?;
             let right = self.symbol_text(constant)?;
@@ -64,7 +67,7 @@ impl<'a> Builder<'a> {
         }
     }
 
-    fn symbol_text(&self, symbol: Symbol) -> Result<String, AllocError> {
+    pub(crate) fn symbol_text(&self, symbol: Symbol) -> Result<String, AllocError> {
         String::from_utf8_lossy(self.alloc, self.symbols.text(symbol))
     }
 
@@ -75,6 +78,9 @@ impl<'a> Builder<'a> {
         value: ExpressionId,
         place: Place,
     ) -> Result<(), Stop> {
+        if self.opens(value) {
+            return self.settle_opened(to, place);
+        }
         let Some(constant) = self.settled_by(to, value) else {
             return Ok(());
         };

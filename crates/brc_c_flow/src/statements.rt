@@ -24,14 +24,40 @@ impl<'a> Builder<'a> {
         let Some(statement) = self.tree.statement(id) else {
             return Ok(());
         };
+        if !matches!(statement, Statement::If { .. }) {
+            self.just_given = None;
+        }
         match statement {
             Statement::Block(list) => self.block(list, inside),
-            Statement::If { .. } => self.if_statement(id, inside),
+            Statement::If { .. }
+            | Statement::While { .. }
+            | Statement::DoWhile { .. }
+            | Statement::For { .. }
+            | Statement::Switch { .. } => {
+                self.dividing_statement(id, statement, place, inside)?;
+                // Paths meet here.
+                self.just_given = None;
+                Ok(())
+            }
+            _ => self.leaf_statement(statement, place),
+        }
+    }
+
+    /// Adds a statement at which paths divide.
+    #[cycle(statement)]
+    fn dividing_statement(
+        &mut self,
+        id: StatementId,
+        statement: Statement,
+        place: Place,
+        depth: usize,
+    ) -> Result<(), Stop> {
+        match statement {
             Statement::While { condition, body } => {
-                self.while_statement(condition, body, place, inside)
+                self.while_statement(condition, body, place, depth)
             }
             Statement::DoWhile { body, condition } => {
-                self.do_statement(body, condition, place, inside)
+                self.do_statement(body, condition, place, depth)
             }
             Statement::For {
                 first,
@@ -40,12 +66,12 @@ impl<'a> Builder<'a> {
                 body,
             } => {
                 if let Some(first) = first {
-                    self.statement(first, inside)?;
+                    self.statement(first, depth)?;
                 }
-                self.for_statement(condition, next, body, place, inside)
+                self.for_statement(condition, next, body, place, depth)
             }
-            Statement::Switch { value, body } => self.switch_statement(value, body, place, inside),
-            _ => self.leaf_statement(statement, place),
+            Statement::Switch { value, body } => self.switch_statement(value, body, place, depth),
+            _ => self.if_statement(id, depth),
         }
     }
 
@@ -87,6 +113,7 @@ impl<'a> Builder<'a> {
             };
             let branches = self.branches(self.statement_place(next))?;
             self.condition(condition, branches, EXPRESSION_DEPTH)?;
+            self.just_given = None;
             self.land(branches.holds);
             self.statement(then, depth)?;
             self.jump(end);
@@ -102,6 +129,7 @@ impl<'a> Builder<'a> {
         match statement {
             Statement::Expression(value) => {
                 self.value(value, Want::NOTHING, EXPRESSION_DEPTH)?;
+                self.note_assigned(value);
                 Ok(())
             }
             Statement::Declare(list) => self.declare(list),
@@ -130,6 +158,7 @@ impl<'a> Builder<'a> {
                 self.initialize(declared)?;
             }
         }
+        self.note_declared(list);
         Ok(())
     }
 

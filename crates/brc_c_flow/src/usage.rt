@@ -2,17 +2,12 @@
 
 use crate::arrays::{gives_elements, is_passed_on};
 use crate::habits::begins_or_ends;
-use crate::references::Counting;
 use crate::storing::{field_at, replaced, stores_null};
+use crate::zeros::zero_for_zero;
 use brc_c_text::{Symbol, Symbols};
-use brc_c_tree::{
-    Body, Expression, ExpressionId, Function, List, SourceTree, Statement, Tree, Unary,
-};
+use brc_c_tree::{Body, Expression, ExpressionId, Function, SourceTree, Statement, Tree, Unary};
 use std::alloc::{AllocError, Global};
 use std::collections::HashSet;
-
-/// How many casts of one expression are passed.
-const CAST_LIMIT: usize = 64;
 
 /// Through how many functions an array is followed whose elements the last one gives up.
 const PASSING_ROUNDS: usize = 3;
@@ -21,7 +16,7 @@ const PASSING_ROUNDS: usize = 3;
 #[derive(Drop)]
 pub struct Usage {
     /// The fields and variables whose references some function gives up.
-    released: HashSet<Symbol>,
+    pub(crate) released: HashSet<Symbol>,
     /// The functions that are called by their names.
     called: HashSet<Symbol>,
     /// The functions that call nothing, and set nothing but variables of their own.
@@ -36,6 +31,8 @@ pub struct Usage {
     /// The fields that some function sets, and those that one sets which neither makes objects nor ends them.
     set: HashSet<Symbol>,
     set_late: HashSet<Symbol>,
+    /// Functions, each with the number of an argument: where that is 0, the function gives 0 at once.
+    zeros: HashSet<(Symbol, usize)>,
     /// Whether some function gives the memory of objects back.
     frees: bool,
 }
@@ -53,12 +50,16 @@ impl Usage {
             element_givers: HashSet::new(alloc),
             set: HashSet::new(alloc),
             set_late: HashSet::new(alloc),
+            zeros: HashSet::new(alloc),
             frees: false,
         };
         for function in source.functions.iter() {
-            if let Body::Read(tree, _) = &function.body {
+            if let Body::Read(tree, whole) = &function.body {
                 usage.add_calls(symbols, tree)?;
-                usage.add_assigned(tree)?;
+                if let Some(argument) = zero_for_zero(symbols, function, tree, *whole) {
+                    usage.zeros.insert((function.name, argument))?;
+                }
+                usage.add_releases(alloc, symbols, function, tree)?;
                 usage.add_set(symbols, function, tree)?;
                 usage.add_given(alloc, symbols, function, tree)?;
                 if is_idle(alloc, function, tree)? {
@@ -107,6 +108,11 @@ impl Usage {
     /// Returns whether a function gives up elements of an array that is its argument of this number, from 0.
     pub(crate) fn gives_elements(&self, function: Symbol, argument: usize) -> bool {
         self.element_givers.contains(&(function, argument))
+    }
+
+    /// Returns whether a function gives 0, and does nothing else, where its argument of this number is 0.
+    pub(crate) fn gives_zero(&self, function: Symbol, argument: usize) -> bool {
+        self.zeros.contains(&(function, argument))
     }
 
     /// Returns whether a field of this name has what it had when its object was made, as long as the object lives.
@@ -192,12 +198,8 @@ impl Usage {
 
     fn add_calls(&mut self, symbols: &Symbols, tree: &Tree) -> Result<(), AllocError> {
         for (expression, _) in tree.expressions() {
-            if let Expression::Call {
-                function,
-                arguments,
-            } = *expression
-            {
-                self.add_call(symbols, tree, function, arguments)?;
+            if let Expression::Call { function, .. } = *expression {
+                self.add_call(symbols, tree, function)?;
             }
         }
         Ok(())
@@ -208,20 +210,12 @@ impl Usage {
         symbols: &Symbols,
         tree: &Tree,
         function: ExpressionId,
-        arguments: List,
     ) -> Result<(), AllocError> {
         match tree.expression(function) {
             Some(Expression::Name(name)) => {
                 self.called.insert(name)?;
                 let text = symbols.text(name);
                 self.frees = self.frees || is_freeing(text);
-                let releases = match Counting::of(text) {
-                    Some(counting) => counting.gives_up(),
-                    None => false,
-                };
-                if let (true, Some(first)) = (releases, tree.operands(arguments).first()) {
-                    self.add_released(tree, *first)?;
-                }
             }
             Some(Expression::Field { name, .. }) => {
                 self.frees = self.frees || is_freeing(symbols.text(name));
@@ -229,49 +223,6 @@ impl Usage {
             _ => {}
         }
         Ok(())
-    }
-
-    fn add_released(&mut self, tree: &Tree, id: ExpressionId) -> Result<(), AllocError> {
-        if let Some(name) = place_name(tree, id) {
-            self.released.insert(name)?;
-        }
-        Ok(())
-    }
-
-    /// What goes into a variable whose reference is given up is given up, too.
-    fn add_assigned(&mut self, tree: &Tree) -> Result<(), AllocError> {
-        for (expression, _) in tree.expressions() {
-            if let Expression::Assign {
-                operator: None,
-                left,
-                right,
-            } = *expression
-            {
-                self.add_copied(tree, place_name(tree, left), right)?;
-            }
-        }
-        for (statement, _) in tree.statements() {
-            if let Statement::Declare(list) = statement {
-                for declared in tree.declarations(*list) {
-                    if let Some(value) = declared.value {
-                        self.add_copied(tree, Some(declared.name), value)?;
-                    }
-                }
-            }
-        }
-        Ok(())
-    }
-
-    fn add_copied(
-        &mut self,
-        tree: &Tree,
-        to: Option<Symbol>,
-        value: ExpressionId,
-    ) -> Result<(), AllocError> {
-        match to {
-            Some(to) if self.released.contains(&to) => self.add_released(tree, value),
-            _ => Ok(()),
-        }
     }
 }
 
@@ -294,7 +245,7 @@ fn is_idle(alloc: Global, function: &Function, tree: &Tree) -> Result<bool, Allo
 }
 
 /// Returns the names of a function's parameters and variables.
-fn own_variables(
+pub(crate) fn own_variables(
     alloc: Global,
     function: &Function,
     tree: &Tree,
@@ -315,19 +266,6 @@ fn own_variables(
         }
     }
     Ok(own)
-}
-
-/// Returns the name of a variable or a field.
-fn place_name(tree: &Tree, id: ExpressionId) -> Option<Symbol> {
-    let mut found = id;
-    for _turn in 0..CAST_LIMIT {
-        match tree.expression(found)? {
-            Expression::Cast { operand, .. } => found = operand,
-            Expression::Name(name) | Expression::Field { name, .. } => return Some(name),
-            _ => return None,
-        }
-    }
-    None
 }
 
 /// The functions that give the memory of an object back.

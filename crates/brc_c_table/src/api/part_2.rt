@@ -110,7 +110,7 @@ PyIter_Check int b none pure
 PySeqIter_Check int b none pure
 PyCallIter_Check int b none pure
 PyRange_Check int b none pure
-PyIter_Next new b null runs
+PyIter_Next new b maybe runs
 PySlice_New new nnn null pure
 PySeqIter_New new b null pure
 PySlice_Check int b none pure
