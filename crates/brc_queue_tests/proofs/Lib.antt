@@ -4,4 +4,3 @@ pub mod Rows
 pub mod References
 pub mod Between
 pub mod StaticLists
-mod Counting

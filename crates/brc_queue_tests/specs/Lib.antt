@@ -1,4 +1,3 @@
 pub mod Sharing
 pub mod Embedded
 pub mod Modules
-pub mod Ledgers

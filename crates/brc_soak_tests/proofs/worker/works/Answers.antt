@@ -1,8 +1,8 @@
 use Rattle.std.proofs.Common.{◌∷◌, []}
 use Rattle.brc_model.specs.Layout.{root_row}
 use Rattle.brc_fixtures.proofs.Alone.{alone_rests}
-use Rattle.brc_queue_tests.proofs.Counting.{tells_none, tells_more, tells_whole, tells_equal}
-use Rattle.brc_queue_tests.proofs.worker.works.Goals as goal
+use Rattle.brc_soak_tests.proofs.Counting.{tells_none, tells_more, tells_whole, tells_equal}
+use Rattle.brc_soak_tests.proofs.worker.works.Goals as goal
 
 pub more-requires-clause-whole : goal.more-requires-clause-whole
 more-requires-clause-whole g c =

@@ -1,6 +1,6 @@
 use Rattle.std.proofs.Common.{sym, ◌∙◌}
-use Rattle.brc_queue_tests.proofs.Counting.{tells_root}
-use Rattle.brc_queue_tests.proofs.calls.leaves.Goals as goal
+use Rattle.brc_soak_tests.proofs.Counting.{tells_root}
+use Rattle.brc_soak_tests.proofs.calls.leaves.Goals as goal
 
 pub leave-requires-clause-root : goal.leave-requires-clause-root
 leave-requires-clause-root g c κs within =

@@ -1,8 +1,8 @@
 use Rattle.std.proofs.Common.{ℕ, List, ◌≤◌, sym, subst, arith}
 use Rattle.brc_table.specs.Views.{without_one}
-use Rattle.brc_queue_tests.specs.Ledgers.{with_found}
-use Rattle.brc_queue_tests.proofs.Counting.{times, tells_less, tells_equal, tells_whole, tells_held, held_after, held_with, put_leaves}
-use Rattle.brc_queue_tests.proofs.swaps.puts_in.Goals as goal
+use Rattle.brc_soak_tests.specs.Ledgers.{with_found}
+use Rattle.brc_soak_tests.proofs.Counting.{times, tells_less, tells_equal, tells_whole, tells_held, held_after, held_with, put_leaves}
+use Rattle.brc_soak_tests.proofs.swaps.puts_in.Goals as goal
 
 pub counts_found-requires-clause-whole : goal.counts_found-requires-clause-whole
 counts_found-requires-clause-whole c =

@@ -1,8 +1,8 @@
 use Rattle.std.proofs.Common.{ℕ, List, ◌∷◌, ◌∙◌}
 use Rattle.std.proofs.lemmas.Bool.{ne_eqb}
-use Rattle.brc_queue_tests.proofs.Counting.{tells_more, tells_equal}
+use Rattle.brc_soak_tests.proofs.Counting.{tells_more, tells_equal}
 use Rattle.brc_fixtures.proofs.Resting.{some_counted, lists_one_more}
-use Rattle.brc_queue_tests.proofs.calls.retains.Goals as goal
+use Rattle.brc_soak_tests.proofs.calls.retains.Goals as goal
 
 pub returns-clause-tells : goal.returns-clause-tells
 returns-clause-tells c =

@@ -2,7 +2,7 @@
 
 ghost use Rattle.std.specs.Prelude.{◌≡◌, ◌<◌, ◌+◌, ◌^◌, None};
 ghost use Rattle.brc_fixtures.specs.Resting.{IsAlone, IsAtRest, alone-prop};
-ghost use Rattle.brc_queue_tests.specs.Ledgers.{Tells};
+ghost use Rattle.brc_soak_tests.specs.Ledgers.{Tells};
 
 use crate::calls::{bears, gives_up, leaves, merges, retains};
 use crate::ledger::{Ledger, ROWS};

@@ -13,7 +13,7 @@ use Rattle.brc_table.specs.Swaps.{with_item}
 use Rattle.brc_list.specs.Calls.{row_in}
 use Rattle.brc_table.specs.Views.{holds, without_one, without_reference}
 use Rattle.brc_table.specs.Hands.{HandState}
-use Rattle.brc_queue_tests.specs.Ledgers.{LedgerState, counted, Tells, IsWhole, with_found}
+use Rattle.brc_soak_tests.specs.Ledgers.{LedgerState, counted, Tells, IsWhole, with_found}
 use Rattle.brc_fixtures.proofs.Resting.{some_counted, lists_one_more, lists_one_less}
 
 -- how often x is one of the rows

@@ -3,8 +3,8 @@ use Rattle.std.proofs.lemmas.Bool.{ne_eqb}
 use Rattle.brc_table.specs.Hands.{TableState, IsOf}
 use Rattle.brc_table.specs.Views.{without_one}
 use Rattle.brc_fixtures.proofs.Resting.{some_counted, rests_after_release, settles_at_rest, rests_after_settling, lists_one_less}
-use Rattle.brc_queue_tests.proofs.Counting.{tells_less, tells_equal}
-use Rattle.brc_queue_tests.proofs.calls.gives_up.Goals as goal
+use Rattle.brc_soak_tests.proofs.Counting.{tells_less, tells_equal}
+use Rattle.brc_soak_tests.proofs.calls.gives_up.Goals as goal
 
 pub settle-requires-clause-duty : goal.settle-requires-clause-duty
 settle-requires-clause-duty g c κs within =

@@ -8,7 +8,7 @@ ghost use Rattle.brc_heap.specs.Calls.{IsBornWith, kind_word};
 ghost use Rattle.brc_table.specs.Hands.{IsOf};
 ghost use Rattle.brc_table.specs.Homes.{resources};
 ghost use Rattle.brc_fixtures.specs.Resting.{IsAtRest};
-ghost use Rattle.brc_queue_tests.specs.Ledgers.{Tells, counted};
+ghost use Rattle.brc_soak_tests.specs.Ledgers.{Tells, counted};
 
 use crate::ledger::Ledger;
 use crate::posts::Posts;

@@ -5,7 +5,7 @@ ghost use Rattle.brc_model.specs.Layout.{IsCounted};
 ghost use Rattle.brc_table.specs.Views.{holds};
 ghost use Rattle.brc_table.specs.KnownWords.{KnowsCell};
 ghost use Rattle.brc_fixtures.specs.Resting.{IsAtRest};
-ghost use Rattle.brc_queue_tests.specs.Ledgers.{Tells, IsWhole, counted, with_found};
+ghost use Rattle.brc_soak_tests.specs.Ledgers.{Tells, IsWhole, counted, with_found};
 
 use crate::ledger::Ledger;
 use brc_fixtures::{locks, unlocks};

@@ -1,7 +1,7 @@
 use Rattle.std.specs.Prelude.{None}
 use Rattle.brc_fixtures.specs.Resting.{IsAtRest}
-use Rattle.brc_queue_tests.specs.Ledgers.{Tells}
-use Rattle.brc_queue_tests.proofs.worker.empties.Given as goal
+use Rattle.brc_soak_tests.specs.Ledgers.{Tells}
+use Rattle.brc_soak_tests.proofs.worker.empties.Given as goal
 
 abbrev pub invariant-loop-row : goal.invariant-loop-row
 invariant-loop-row g l = IsAtRest l.heap l.hand None × Tells l.ledger l.hand.view.references

@@ -1,6 +1,6 @@
 use Rattle.std.proofs.Common.{ℕ, List, ◌∷◌, sym, ap, ◌∙◌}
-use Rattle.brc_queue_tests.proofs.Counting.{tells_more, tells_equal}
-use Rattle.brc_queue_tests.proofs.calls.bears.Goals as goal
+use Rattle.brc_soak_tests.proofs.Counting.{tells_more, tells_equal}
+use Rattle.brc_soak_tests.proofs.calls.bears.Goals as goal
 
 pub returns-clause-tells : goal.returns-clause-tells
 returns-clause-tells c =

@@ -1,7 +1,7 @@
 //! What a worker holds.
 
 ghost use Rattle.std.specs.Prelude.{◌≡◌, ◌<◌, ◌≤◌, ◌+◌, ◌-◌, ◌^◌, ◌↔◌, ℕ, true, replicate, slice_set, slice_index_or};
-ghost use Rattle.brc_queue_tests.specs.Ledgers.{counted, IsWhole};
+ghost use Rattle.brc_soak_tests.specs.Ledgers.{counted, IsWhole};
 
 use std::marker::Model;
 
@@ -16,7 +16,7 @@ pub struct Ledger {
 }
 
 impl Model for Ledger {
-    ghost use Rattle.brc_queue_tests.specs.Ledgers.{LedgerState};
+    ghost use Rattle.brc_soak_tests.specs.Ledgers.{LedgerState};
 
     ghost Value = { LedgerState };
 

@@ -1,0 +1,22 @@
+//! A soak: eight workers make random calls in threads of their own, and the end of the heap is counted again from what
+//! they have noted.
+#![tactic(auto)]
+
+#[cfg(test)]
+mod calls;
+#[cfg(test)]
+mod ledger;
+#[cfg(test)]
+mod log;
+#[cfg(test)]
+mod posts;
+#[cfg(test)]
+mod recount;
+#[cfg(test)]
+mod seeds;
+#[cfg(test)]
+mod soak;
+#[cfg(test)]
+mod swaps;
+#[cfg(test)]
+mod worker;
