@@ -12,8 +12,14 @@ decreases-condition l = 3 * l.depth
 abbrev pub decreases-inside_of : goal.decreases-inside_of
 decreases-inside_of l = 3 * l.depth
 
+abbrev pub decreases-place_passed : goal.decreases-place_passed
+decreases-place_passed l = 3 * l.depth
+
 abbrev pub decreases-parts : goal.decreases-parts
 decreases-parts l = 3 * l.depth + 1
+
+abbrev pub decreases-argument : goal.decreases-argument
+decreases-argument l = 3 * l.depth + 1
 
 abbrev pub decreases-assertion : goal.decreases-assertion
 decreases-assertion l = 3 * l.depth + 1
