@@ -139,8 +139,8 @@ fn last_if_new(
     }
 }
 
-/// Visits the state after the moves, if the last move leads to a new one. Returns what that move did, and of a new state
-/// whether all its threads are gone.
+/// Visits the state after the moves, if the last move leads to a new one. Returns what that move did, and of a new
+/// state whether all its threads are gone.
 fn visit(
     alloc: Global,
     checked: &Checked,

@@ -1,7 +1,8 @@
-//! Tests of runs. On real threads, what is born and closed and which faults are counted have to be what docs/LANGUAGE.md
-//! says, whatever the threads' order; files and peers of the system are reached; and a run or a schedule that is refused
-//! memory says so. No accepted example has a run that goes wrong among 200,000 states; and on accepted modules the plain
-//! machine takes the same steps as the step world. Runs that commands show whole are in the cases of brc_cases.
+//! Tests of runs. On real threads, what is born and closed and which faults are counted have to be what
+//! docs/LANGUAGE.md says, whatever the threads' order; files and peers of the system are reached; and a run or a
+//! schedule that is refused memory says so. No accepted example has a run that goes wrong among 200,000 states; and on
+//! accepted modules the plain machine takes the same steps as the step world. Runs that commands show whole are in the
+//! cases of brc_cases.
 #![tactic(auto)]
 
 #[cfg(test)]
