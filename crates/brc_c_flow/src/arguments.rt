@@ -202,13 +202,8 @@ impl<'a> Builder<'a> {
         container: Option<Local>,
         site: Site,
     ) -> Result<(), Stop> {
-        let local = match operand {
-            Operand::Object(local) => local,
-            Operand::Singleton(singleton) => match self.singleton_local(singleton)? {
-                Some(local) => local,
-                None => return Ok(()),
-            },
-            _ => return Ok(()),
+        let Some(local) = self.argument_local(operand)? else {
+            return Ok(());
         };
         let event = match container {
             Some(container) => Event::GiveTo { local, container },
@@ -216,6 +211,15 @@ impl<'a> Builder<'a> {
         };
         self.at_site(event, site)?;
         Ok(())
+    }
+
+    /// Returns the name that has an argument's object.
+    pub(crate) fn argument_local(&mut self, operand: Operand) -> Result<Option<Local>, Stop> {
+        match operand {
+            Operand::Object(local) => Ok(Some(local)),
+            Operand::Singleton(singleton) => self.singleton_local(singleton),
+            _ => Ok(None),
+        }
     }
 
     /// Gives away what a variable has whose address is passed.

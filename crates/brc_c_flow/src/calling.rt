@@ -59,6 +59,7 @@ impl<'a> Builder<'a> {
         let failing = self.pass_arguments(how, ids, operands, site)?;
         self.assume_arguments(callee, operands, how, site)?;
         self.stow_elements(callee, ids, site)?;
+        self.lose_borrowed(callee, ids, operands, how, site)?;
         if !is_any_given_or_lost(how) {
             self.run(callee, site)?;
         }
@@ -69,7 +70,7 @@ impl<'a> Builder<'a> {
             return self.unknown(site.id, want);
         }
         let outcome = self.outcome_of(callee, operands, how, want)?;
-        self.ways(callee, operands, how, &outcome, failing, site)?;
+        self.ways(callee, ids, operands, how, &outcome, failing, site)?;
         if self.gives_memory(site.id) {
             // It is a pointer, and not NULL.
             return Ok(Operand::Number(1));
@@ -81,6 +82,7 @@ impl<'a> Builder<'a> {
     fn ways(
         &mut self,
         callee: Callee<'a>,
+        ids: &[ExpressionId],
         operands: &[Operand],
         how: &[Passing],
         outcome: &Outcome,
@@ -109,6 +111,7 @@ impl<'a> Builder<'a> {
         }
         self.steal_on_failure(operands, how, site)?;
         self.run_after(callee, how, site)?;
+        self.lose_unstolen(ids, operands, how, outcome, site)?;
         self.fail(operands, how, outcome, callee.failure(), site)?;
         if calling == Calling::MayMiss {
             self.jump(end);

@@ -29,6 +29,7 @@ mod jumps;
 mod kinds;
 mod leaving;
 mod loops;
+mod losing;
 mod names;
 mod nulls;
 mod operand;

@@ -20,6 +20,8 @@ pub(crate) struct Outcome {
     pub(crate) calling: Calling,
     /// Whether the function has a body in the program: it may store an object where nothing says so.
     pub(crate) is_own: bool,
+    /// Whether anybody asks for what it gives.
+    pub(crate) is_asked: bool,
     /// What the call's expression has afterwards.
     pub(crate) value: Operand,
 }
@@ -39,6 +41,7 @@ impl<'a> Builder<'a> {
             into: None,
             calling: calling_of(row.fails),
             is_own: callee.own.is_some(),
+            is_asked: want.is_asked || want.into.is_some(),
             value: Operand::Plain,
         };
         match gives_of(callee, operands) {

@@ -52,7 +52,7 @@ fn enter(number: Option<usize>, entered: &mut Vec<bool>) {
     }
 }
 
-/// Writes the lines that lead to a block. If further blocks follow, the first line asks whether to go past these.
+/// Writes the lines that lead to a block. If other blocks are entered after it, the first line lets paths pass to them.
 fn begin_one(
     alloc: Global,
     held: &Held,

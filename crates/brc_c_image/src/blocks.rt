@@ -13,7 +13,7 @@ use crate::liveness::Liveness;
 use crate::points::{Points, Waiting};
 use crate::taking::{gives_again, take_lent};
 use brc_c_graph::{Graph, Node, NodeId};
-use brc_c_store::{Event, RegisterSet, Rules, Store, faults, left_by};
+use brc_c_store::{Event, Local, RegisterSet, Rules, Store, faults, left_by};
 use brc_lang::CheckCode;
 use std::alloc::{AllocError, Global};
 
@@ -286,6 +286,9 @@ fn left_names(event: Event, code: CheckCode, store: &Store) -> u64 {
     if code != CheckCode::LeftOwned {
         return names;
     }
+    if let Event::Lose(local) = event {
+        return bit_of(local);
+    }
     let returned = match event {
         Event::Return(local) => Some(local),
         _ => None,
@@ -293,11 +296,15 @@ fn left_names(event: Event, code: CheckCode, store: &Store) -> u64 {
     for named in store.values.iter() {
         if let Some(id) = named.value.object() {
             if left_by(store, returned, id) {
-                names |= 1u64.wrapping_shl((named.local.0 % 64) as u32);
+                names |= bit_of(named.local);
             }
         }
     }
     names
+}
+
+fn bit_of(local: Local) -> u64 {
+    1u64.wrapping_shl((local.0 % 64) as u32)
 }
 
 fn end_call(

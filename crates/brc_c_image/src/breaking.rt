@@ -20,9 +20,10 @@ pub(crate) fn write_break(
         CheckCode::EmptyUsed => write_empty_used(store, lines)?,
         CheckCode::NotOwned => write_not_owned(rules, event, store, lines)?,
         CheckCode::StillOwns => write_lost(event, store, lines)?,
-        CheckCode::LeftOwned | CheckCode::LeftLocked => {
-            write_return(rules, returned_by(event), store, lines)?;
-        }
+        CheckCode::LeftOwned | CheckCode::LeftLocked => match event {
+            Event::Lose(_) => write_end(rules, store, lines)?,
+            _ => write_return(rules, returned_by(event), store, lines)?,
+        },
         CheckCode::NotLocked => write_not_locked(event, store, lines)?,
         CheckCode::RunsOff => {
             lines.push(Line::Newref {
@@ -54,6 +55,15 @@ fn returned_by(event: Event) -> Option<Local> {
         Event::Return(local) => Some(local),
         _ => None,
     }
+}
+
+/// C5: the call ends where the reference is lost.
+fn write_end(rules: Rules, store: &Store, lines: &mut Vec<Line>) -> Result<(), AllocError> {
+    if rules == Rules::GlobalLock && store.is_locked(rules) {
+        lines.push(Line::Unlock)?;
+    }
+    lines.push(Line::Fail)?;
+    Ok(())
 }
 
 fn empty_in(store: &Store) -> u8 {

@@ -32,6 +32,7 @@ pub fn names_read(event: Event) -> [Option<Local>; 2] {
         | Event::Give(local)
         | Event::Stow(local)
         | Event::HandOver(local)
+        | Event::Lose(local)
         | Event::Assume(local)
         | Event::FreeCells(local)
         | Event::Return(local) => [Some(local), None],

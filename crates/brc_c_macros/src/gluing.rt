@@ -6,8 +6,8 @@ use std::alloc::{AllocError, Global};
 /// Fewer names than these may stand for strings in a row.
 const NAMES_LIMIT: usize = 8;
 
-/// Returns the lexemes with neighbouring strings joined to one. A name before them, between them, or after the last one
-/// is a macro that stands for a string, as `__FILE__` and those of a system's header: it adds nothing.
+/// Returns the lexemes with neighbouring strings joined to one. A name next to a string is a macro that has a string, as
+/// `__FILE__` and those of a system's header: it adds nothing.
 pub(crate) fn glued(
     alloc: Global,
     symbols: &mut Symbols,

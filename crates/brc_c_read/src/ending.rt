@@ -80,7 +80,7 @@ impl<'a> Parser<'a> {
         self.statement_at(Statement::Expression(call), place)
     }
 
-    /// Adds a statement that may leave blocks, behind the calls at the end of their variables.
+    /// Adds a statement that may leave blocks, after the calls at the end of their variables.
     pub(crate) fn leaving(
         &mut self,
         statement: Statement,
@@ -107,7 +107,7 @@ impl<'a> Parser<'a> {
     fn staying_at(&self, statement: Statement, place: Place) -> Result<usize, Stop> {
         let count = self.endings.len();
         match statement {
-            // A jump leaves them all: a label behind one of them isn't read.
+            // A jump leaves them all: a label after one of them isn't read.
             Statement::Return(_) | Statement::Goto(_) => Ok(0),
             Statement::Known { known, .. } if returns(known) => Ok(0),
             Statement::Break => Ok(self.staying.at_break),

@@ -35,20 +35,17 @@ pub(crate) fn blames_of(
     code: CheckCode,
 ) -> Result<Vec<Blame>, AllocError> {
     let mut blames = Vec::new(alloc);
+    if let (CheckCode::LeftOwned, Event::Lose(local)) = (code, node.event) {
+        let object = trail.store.object_of(local);
+        blames.push(left(trail, node, object))?;
+        return Ok(blames);
+    }
     if code == CheckCode::LeftOwned {
         let returned = returned_by(trail, node.event);
         for at in 0..trail.store.objects.len() {
             let id = ObjectId(at);
             if left_by(&trail.store, returned, id) {
-                blames.push(Blame {
-                    code,
-                    node,
-                    wrong: Wrong::Lost,
-                    local: None,
-                    object: Some(id),
-                    made: made_of(trail, Some(id)),
-                    cell: None,
-                })?;
+                blames.push(left(trail, node, Some(id)))?;
             }
         }
         return Ok(blames);
@@ -63,6 +60,19 @@ pub(crate) fn blames_of(
     }
     blames.push(blame_of(trail, node, code))?;
     Ok(blames)
+}
+
+/// A reference that a function leaves.
+fn left(trail: &Trail, node: Node, object: Option<ObjectId>) -> Blame {
+    Blame {
+        code: CheckCode::LeftOwned,
+        node,
+        wrong: Wrong::Lost,
+        local: None,
+        object,
+        made: made_of(trail, object),
+        cell: None,
+    }
 }
 
 /// Returns the name whose object a function returns.

@@ -3,7 +3,7 @@
 use crate::blame::Blame;
 use crate::cell_wording::cell_mend;
 use crate::finding::Wrong;
-use crate::naming::{local_text, present_name, words_at, written_name};
+use crate::naming::{local_text, present_name, words_of, written_name};
 use crate::trail::Trail;
 use crate::wording::container_text;
 use brc_c_graph::Graph;
@@ -66,6 +66,10 @@ fn releasing(
         _ => "Py_DECREF",
     };
     let name = local_text(graph, local).unwrap_or("");
+    if let Event::Lose(_) = blame.node.event {
+        let stealing = words_of(graph, blame.node);
+        return format!(in alloc; "release it if {stealing} fails: {call}({name})");
+    }
     format!(in alloc; "release it first: {call}({name})")
 }
 

@@ -146,10 +146,15 @@ fn parameter_name(graph: &Graph, local: Local) -> Option<&str> {
 /// Returns the words of a node, or an empty text.
 pub(crate) fn words_at(graph: &Graph, id: NodeId) -> &str {
     match graph.node(id) {
-        Some(node) => match node.words {
-            Some(words) => graph.words(words),
-            None => "",
-        },
+        Some(node) => words_of(graph, node),
+        None => "",
+    }
+}
+
+/// Returns the words of a node, or none.
+pub(crate) fn words_of(graph: &Graph, node: Node) -> &str {
+    match node.words {
+        Some(words) => graph.words(words),
         None => "",
     }
 }

@@ -3,7 +3,7 @@
 use crate::blame::Blame;
 use crate::cell_wording::cell_sentence;
 use crate::finding::Wrong;
-use crate::naming::{line_of, local_text, maker_text, name_of, object_text};
+use crate::naming::{line_of, local_text, maker_text, name_of, object_text, words_of};
 use crate::trail::Trail;
 use brc_c_graph::Graph;
 use brc_c_store::{Base, Event, Local, ObjectId, Value};
@@ -46,6 +46,10 @@ fn lost(
     id: ObjectId,
 ) -> Result<String, AllocError> {
     let owned = owned_text(alloc, graph, trail, id)?;
+    if let (CheckCode::LeftOwned, Event::Lose(_)) = (blame.code, blame.node.event) {
+        let call = words_of(graph, blame.node);
+        return format!(in alloc; "{function} loses {owned}: {call} doesn't steal it");
+    }
     if blame.code == CheckCode::LeftOwned {
         return format!(in alloc; "{function} returns while it still owns {owned}");
     }

@@ -32,6 +32,7 @@ pub fn faults(rules: Rules, event: Event, store: &Store) -> Option<CheckCode> {
         | Event::Halt => None,
         Event::Copy { to, from } => copying(store, to, from),
         Event::Lend { to, .. } => fault_if(store.loses(to, None), CheckCode::StillOwns),
+        Event::Lose(local) => fault_if(store.loses(local, None), CheckCode::LeftOwned),
         Event::Null(local) => fault_if(store.value(local) == Value::Unset, CheckCode::EmptyUsed),
         Event::Use(local) | Event::Take(local) => {
             fault_if(store.is_dead(local), CheckCode::EmptyUsed)

@@ -107,6 +107,8 @@ pub enum Event {
     Stow(Local),
     /// The object is the caller's afterwards, where an argument points to. One that is only lent is left as it is.
     HandOver(Local),
+    /// An expression ends that alone has the object: what the function owns of it is lost, unless a name has it.
+    Lose(Local),
     /// Something is assumed of the object that a name has.
     Assume(Local),
     /// Other code runs, or a container changes: what is borrowed as an item isn't alive any more.

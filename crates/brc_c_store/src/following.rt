@@ -85,7 +85,12 @@ pub fn after(
         Event::Unlock => unlock(rules, &mut next),
         Event::Detach => detach(&mut next),
         Event::Attach => next.is_detached = false,
-        Event::UseOrNull(_) | Event::Return(_) | Event::ReturnPlain | Event::Halt | Event::End => {}
+        Event::UseOrNull(_)
+        | Event::Lose(_)
+        | Event::Return(_)
+        | Event::ReturnPlain
+        | Event::Halt
+        | Event::End => {}
     }
     Ok(Next::Store(next))
 }
@@ -282,12 +287,10 @@ fn lend(
     }
 }
 
+/// What a function gives is its argument. What it gives for NULL isn't known.
 fn same(next: &mut Store, into: Local, local: Local) -> Result<(), AllocError> {
     match next.value(local) {
-        Value::Null => {
-            let id = next.add_object(Object::LENT)?;
-            next.set(into, Value::Maybe(id))
-        }
+        Value::Null => copy(next, into, Source::Unknown),
         value => next.set(into, value),
     }
 }

@@ -79,7 +79,7 @@ fn same_wherever_cut(alloc: Global, marked: &str) -> Result<(), Fail> {
     same_with(alloc, marked, ALONE, 0, wanted.as_str())
 }
 
-/// Fails unless the verdict on the function with so many instructions is the wanted one.
+/// Fails unless the verdict is the wanted one for each number of statements before the function's own.
 fn same_with(
     alloc: Global,
     marked: &str,
