@@ -6,10 +6,10 @@ use crate::finding::Finding;
 use crate::level::Level;
 use crate::mending::mend_of;
 use crate::naming::{local_text, name_of};
-use crate::trail::{Trail, trail_of};
+use crate::trail::Trail;
 use crate::wording::sentence;
 use brc_c_graph::Graph;
-use brc_c_image::Fault;
+use brc_c_image::{Fault, Step};
 use brc_c_judge::Confirmed;
 use brc_c_store::Rules;
 use brc_c_text::Place;
@@ -35,25 +35,56 @@ pub fn add_findings(
     faults: &[Confirmed],
     findings: &mut Vec<Finding>,
 ) -> Result<(), AllocError> {
-    for confirmed in faults {
-        add_fault(alloc, judged, confirmed.fault(), findings)?;
+    // What the next path begins with, too, is walked once for both: a function may have hundreds of faults.
+    let mut before = Trail::new(alloc);
+    let mut walked = 0;
+    for (at, confirmed) in faults.iter().enumerate() {
+        let fault = confirmed.fault();
+        let path = fault.path.as_slice();
+        let shared = match faults.get(at.saturating_add(1)) {
+            Some(next) => shared_steps(path, next.fault().path.as_slice()),
+            None => walked,
+        };
+        if shared < walked {
+            before = Trail::new(alloc);
+            walked = 0;
+        }
+        let steps = path.get(walked..shared).unwrap_or(&[]);
+        before.walk(judged.rules, judged.graph, steps)?;
+        walked = shared;
+        let mut trail = before.clone()?;
+        trail.walk(
+            judged.rules,
+            judged.graph,
+            path.get(shared..).unwrap_or(&[]),
+        )?;
+        add_fault(alloc, judged, fault, &trail, findings)?;
     }
     Ok(())
 }
 
-pub(crate) fn add_fault(
+/// Returns how many steps both paths begin with.
+fn shared_steps(path: &[Step], other: &[Step]) -> usize {
+    path.iter()
+        .zip(other.iter())
+        .take_while(|(one, another)| **one == **another)
+        .count()
+}
+
+/// Adds a fault to which this trail leads.
+fn add_fault(
     alloc: Global,
     judged: &Judged<'_>,
     fault: &Fault,
+    trail: &Trail,
     findings: &mut Vec<Finding>,
 ) -> Result<(), AllocError> {
     let Some(node) = judged.graph.node(fault.node) else {
         return Ok(());
     };
-    let trail = trail_of(alloc, judged.rules, judged.graph, fault.path.as_slice())?;
-    let blames = blames_of(alloc, &trail, node, fault.code)?;
+    let blames = blames_of(alloc, trail, node, fault.code)?;
     for blame in blames.iter() {
-        add_blame(alloc, judged, &trail, blame, findings)?;
+        add_blame(alloc, judged, trail, blame, findings)?;
     }
     Ok(())
 }

@@ -24,7 +24,7 @@ pub(crate) struct Failed {
 }
 
 /// What is known at the end of a path.
-#[derive(Drop)]
+#[derive(Clone, Drop)]
 pub(crate) struct Trail {
     pub(crate) store: Store,
     /// What was done with the objects of the store, in their order.
@@ -39,29 +39,33 @@ pub(crate) struct Trail {
     failing: Option<NodeId>,
 }
 
-/// Walks a path of a graph.
-pub(crate) fn trail_of(
-    alloc: Global,
-    rules: Rules,
-    graph: &Graph,
-    path: &[Step],
-) -> Result<Trail, AllocError> {
-    let mut trail = Trail {
-        store: Store::new(alloc),
-        origins: Vec::new(alloc),
-        sections: Vec::new(alloc),
-        detached: None,
-        choices: Vec::new(alloc),
-        failed: Vec::new(alloc),
-        failing: None,
-    };
-    for step in path {
-        trail.pass(rules, graph, *step)?;
-    }
-    Ok(trail)
-}
-
 impl Trail {
+    /// Returns what is known where no step is taken.
+    pub(crate) fn new(alloc: Global) -> Trail {
+        Trail {
+            store: Store::new(alloc),
+            origins: Vec::new(alloc),
+            sections: Vec::new(alloc),
+            detached: None,
+            choices: Vec::new(alloc),
+            failed: Vec::new(alloc),
+            failing: None,
+        }
+    }
+
+    /// Walks on along a path of a graph.
+    pub(crate) fn walk(
+        &mut self,
+        rules: Rules,
+        graph: &Graph,
+        steps: &[Step],
+    ) -> Result<(), AllocError> {
+        for step in steps {
+            self.pass(rules, graph, *step)?;
+        }
+        Ok(())
+    }
+
     /// Returns what was done with an object.
     pub(crate) fn origin(&self, id: ObjectId) -> Option<Origin> {
         self.origins.get(id.0).copied()
