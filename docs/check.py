@@ -17,7 +17,6 @@ import api_table
 import cases
 import c_pages
 import language
-import proved
 import rules
 import wrong_bodies
 
@@ -33,8 +32,6 @@ RIGHT = {
     "docs/LANGUAGE.md": ["a worker's are those of its births so far"],
     # A row whose birth is under way.
     "docs/PICTURES.md": ["the row holds no object yet"],
-    # The first sentence of a doc comment, of a row whose birth is under way.
-    "docs/lists/PROVED.md": ["in whose block it isn't born yet"],
 }
 # What names a file or a folder of the repository.
 FILE = re.compile(r"[\w*./-]+\.(rt|antt|edit|py|md|txt)")
@@ -160,7 +157,6 @@ def main():
         faults += [f"{page.relative_to(ROOT)}: {fault}" for fault in in_page]
     faults += [f"docs/EMBED.md: {fault}" for fault in quote_faults(found)]
     faults += [f"docs/ADD_AN_INSTRUCTION.md: {fault}" for fault in line_faults(found)]
-    faults += [f"docs/lists/PROVED.md: {fault}" for fault in proved.PART.faults()]
     faults += [f"docs/lists/RULES.md: {fault}" for fault in rules.faults()]
     faults += [f"docs/lists/WRONG_BODIES.md: {fault}" for fault in wrong_bodies.faults()]
     faults += [*api_table.faults(), *c_pages.faults(), *cases.faults(), *language.faults()]

@@ -1,20 +1,19 @@
 #!/usr/bin/env python3
-"""Writes the tables of docs/lists/PROVED.md from the sources of the crates.
+"""Prints the contracts of the crates, as tables of Markdown, from their sources.
 
-    python3 docs/proved.py            writes what is between the two marks of the page
-    python3 docs/proved.py --check    changes nothing, and fails if the page isn't what it would write
+    python3 docs/proved.py [CRATE..]    those of the crates named, or of all
 
 A crate's table has a row for each function that its lib.rt exports, by the function's own name or by that of its type
 or trait, and whose contract has an `ensures`: the function's name, linked to its file; the first sentence of its doc
 comment; and the names of its `ensures` clauses. The crates are in the order of crates.txt, without those of tests and
-measurements. docs/check.py makes the same check.
+measurements.
 """
 import re
 import sys
 
 # Importing a script of this folder leaves no file there.
 sys.dont_write_bytecode = True
-from tables import LISTS, ROOT, Part, link, mark_lines
+from tables import ROOT, link
 
 
 class Function:
@@ -91,23 +90,17 @@ def rows(crate):
     ]
 
 
-def tables():
+def tables(named):
     head = "| Function | What it does | Clauses |\n|---|---|---|\n"
-    return "\n".join(f"### {crate}\n\n{head}{''.join(rows(crate))}" for crate in crates() if rows(crate))
-
-
-PART = Part(LISTS / "PROVED.md", mark_lines("proved.py", several=True), tables)
+    return "\n".join(f"### {crate}\n\n{head}{''.join(rows(crate))}" for crate in named if rows(crate))
 
 
 def main():
-    if sys.argv[1:] == ["--check"]:
-        found = PART.faults()
-        print(*(f"docs/lists/PROVED.md: {fault}" for fault in found), f"{len(found)} faults", sep="\n")
-        return 1 if found else 0
-    if sys.argv[1:]:
-        print(__doc__)
+    lacking = [crate for crate in sys.argv[1:] if crate not in crates()]
+    if lacking:
+        print(f"no crate {lacking[0]} has contracts to list" if not lacking[0].startswith("-") else __doc__)
         return 2
-    PART.write()
+    print(tables(sys.argv[1:] or crates()), end="")
     return 0
 
 

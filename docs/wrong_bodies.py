@@ -1,9 +1,9 @@
 #!/usr/bin/env python3
-"""Writes the tables of docs/lists/WRONG_BODIES.md from the wrong bodies, compares them, or tries all wrong bodies.
+"""Looks through the wrong bodies, lists them, or tries them all.
 
-    python3 docs/wrong_bodies.py                    changes nothing, and fails if the page or a wrong body is at fault
-    python3 docs/wrong_bodies.py --write            writes what is between the two marks of the page
-    python3 docs/wrong_bodies.py --all [CRATE..]    tries the wrong bodies of both folders
+    python3 docs/wrong_bodies.py                     fails if a wrong body or docs/lists/WRONG_BODIES.md is at fault
+    python3 docs/wrong_bodies.py --list [CRATE..]    prints them, as tables of Markdown
+    python3 docs/wrong_bodies.py --all [CRATE..]     tries the wrong bodies of both folders
 
 A wrong body is a file of must-fail/ (tried by the gate) or of also-must-fail/ (tried by --all). Its first line is
 
@@ -11,11 +11,11 @@ A wrong body is a file of must-fail/ (tried by the gate) or of also-must-fail/ (
 
 of at most 200 characters. The contract is a function of the changed file, with a clause of its own or one `of` another
 function. Behind `; rule` or `; rules` are the rules of the step relation that the mistake breaks, and behind `; code`
-the checker's code that isn't reported. The page has a row for each wrong body.
+the checker's code that isn't reported.
 
-Without an option the script fails if a line has another form, or names a function or a clause that isn't there; if the
-page differs; if a rule has neither a wrong body nor a reason in docs/rules.py; or if a mistake that the page names
-isn't tried by the gate.
+Without an option the script fails if a line has another form, or names a function or a clause that isn't there; if a
+rule has neither a wrong body nor a reason in docs/rules.py; or if a mistake that the page names isn't tried by the
+gate.
 
 With --all it clones the last commit into a folder of its own, moves the wrong bodies of also-must-fail/ beside those of
 must-fail/, and has `rt must-fail` try them: those of the crates named, or all. What was tried before on this machine,
@@ -33,7 +33,7 @@ from pathlib import Path
 sys.dont_write_bytecode = True
 import proved
 import rules
-from tables import LISTS, ROOT, Part, link, mark_lines
+from tables import LISTS, ROOT, link
 
 PAGE = LISTS / "WRONG_BODIES.md"
 NAMES_HEADING = "## The mistakes that have a name"
@@ -74,15 +74,12 @@ def edits(crate="*"):
     return sorted(found, key=lambda edit: (edit.refused_by.split(";")[0], edit.name))
 
 
-def tables():
+def tables(named):
     crates = re.findall(r"^(\w+)(?: [^:\n]*)?:", (ROOT / "crates.txt").read_text(), re.M)
     head = "| Wrong body | Tried by | What is wrong | Refused by |\n|---|---|---|---|\n"
-    having = [(crate, edits(crate)) for crate in crates]
+    having = [(crate, edits(crate)) for crate in crates if not named or crate in named]
     rows = {crate: "".join(edit.row() for edit in found) for crate, found in having if found}
     return "\n".join(f"### {crate}\n\n{head}{its}" for crate, its in rows.items())
-
-
-PART = Part(PAGE, mark_lines("wrong_bodies.py", several=True), tables)
 
 
 def faults_of_edits(there):
@@ -107,7 +104,7 @@ def faults_of_names(there):
 
 def faults():
     there = edits()
-    return [*faults_of_edits(there), *faults_of_names(there), *PART.faults(), *rules.faults_of_wrong_bodies()]
+    return [*faults_of_edits(there), *faults_of_names(there), *rules.faults_of_wrong_bodies()]
 
 
 def check():
@@ -146,8 +143,8 @@ def try_all(crates):
 def main():
     if len(sys.argv) == 1:
         return check()
-    if sys.argv[1:] == ["--write"]:
-        PART.write()
+    if sys.argv[1] == "--list":
+        print(tables(sys.argv[2:]), end="")
         return 0
     if sys.argv[1] == "--all":
         return try_all(sys.argv[2:])

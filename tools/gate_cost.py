@@ -1,16 +1,14 @@
 #!/usr/bin/env python3
 """Measures what the gate costs, crate by crate, and writes the table of docs/lists/PERFORMANCE.md.
 
-    python3 docs/gate_cost.py LOG [--anew]
-    python3 docs/gate_cost.py --here
+    python3 tools/gate_cost.py LOG [--anew] [CRATE..]
 
-With --here it runs `rt ci` in this folder, as .ci/run does, passes on what that prints and its status, and prints the
-table. Otherwise it clones the last commit, runs `rt ci` there (where the kit keeps what earlier runs passed, from nothing only with
+It clones the last commit, runs `rt ci` there (where the kit keeps what earlier runs passed, from nothing only with
 --anew), and puts what it prints into the file LOG. Each second it reads how much processor time the compiler's
 processes have taken, by the crate that they work on and by what they do for it: its code, its tests, the second check
-that its wrong bodies begin with, and the wrong bodies. Last it writes the table between the two marks of
-docs/lists/PERFORMANCE.md, and prints the closing line of the gate and the times. The machine has to be idle, or the
-times say little.
+that its wrong bodies begin with, and the wrong bodies. Last it prints the table, and without the name of a crate it
+writes it between the two marks of docs/lists/PERFORMANCE.md; then come the closing line of the gate and the times. The
+machine has to be idle, or the times say little. ./test prints the table of its own run.
 
 What a process takes in its last second isn't seen, nor what starts and ends between two looks: the row "the rest" has
 that, and compiling, linking and running.
@@ -22,13 +20,14 @@ import resource
 import subprocess
 import sys
 import tempfile
+import threading
 import time
 from collections import defaultdict
 from pathlib import Path
 
 ROOT = Path(__file__).resolve().parents[1]
 PAGE = ROOT / "docs" / "lists" / "PERFORMANCE.md"
-MARKS = "<!-- the table of docs/gate_cost.py -->", "<!-- its end -->"
+MARKS = "<!-- the table of tools/gate_cost.py -->", "<!-- its end -->"
 TICKS = os.sysconf("SC_CLK_TCK")
 PARTS = ["code", "tests", "second check", "wrong bodies"]
 
@@ -103,49 +102,56 @@ def edits_of(root):
     return {crate: len(list(root.glob(f"crates/{crate}/must-fail/*.edit"))) for crate in named}
 
 
-def gate_here():
-    """Runs the gate in this checkout, and prints what it has cost. A fault of the measure changes nothing of the status."""
-    start, seen = time.time(), {}
-    ran = subprocess.Popen(["rt", "ci"], cwd=ROOT, start_new_session=True)
+class Run:
+    """A run of `rt ci`: its status, its last line, the seconds that it took, those of the processors, and the table."""
+
+    def __init__(self, status, closing, wall, took, table):
+        self.status, self.closing, self.wall, self.took, self.table = status, closing, wall, took, table
+
+
+def pass_on(lines, printed, out):
+    for line in lines:
+        printed.append(line)
+        out.write(line)
+        out.flush()
+
+
+def measured(root, words=(), out=sys.stdout):
+    """Runs `rt ci` in a folder, and passes on what it prints."""
+    start, seen, printed = time.time(), {}, []
+    into = {"stdout": subprocess.PIPE, "stderr": subprocess.STDOUT, "text": True, "errors": "replace"}
+    ran = subprocess.Popen(["rt", "ci", *words], cwd=root, start_new_session=True, **into)
+    reader = threading.Thread(target=pass_on, args=(ran.stdout, printed, out))
+    reader.start()
+    while ran.poll() is None:
+        look(seen, ran.pid)
+        time.sleep(1)
+    reader.join()
+    used = resource.getrusage(resource.RUSAGE_CHILDREN)
+    took, wall, closing = used.ru_utime + used.ru_stime, time.time() - start, "".join(printed[-1:]).strip()
     try:
-        while ran.poll() is None:
-            look(seen, ran.pid)
-            time.sleep(1)
-        used = resource.getrusage(resource.RUSAGE_CHILDREN)
-        closing = "passed" if ran.returncode == 0 else "failed"
-        edits = edits_of(ROOT)
-        taken = time.time() - start
-        print(table(seen, edits, list(edits), used.ru_utime + used.ru_stime, closing, taken, os.cpu_count()))
+        edits = edits_of(root)
+        made = table(seen, edits, list(edits), took, closing, wall, os.cpu_count())
     except Exception as fault:
-        print(f"what the gate costs wasn't measured: {fault}")
-    return ran.wait()
+        # A fault of the measure changes nothing of the gate.
+        made = f"what the gate costs wasn't measured: {fault}"
+    return Run(ran.returncode, closing, wall, took, made)
 
 
 def main():
-    if sys.argv[1:] == ["--here"]:
-        return gate_here()
     if len(sys.argv) < 2 or sys.argv[1].startswith("-"):
         print(__doc__)
         return 2
     with tempfile.TemporaryDirectory(prefix="gate-cost-") as room, open(sys.argv[1], "w") as log:
         clone = Path(room) / "clone"
         subprocess.run(["git", "clone", "-q", ROOT, clone], check=True)
-        start, seen = time.time(), {}
-        ran = subprocess.Popen(["rt", "ci", *sys.argv[2:]], cwd=clone, stdout=log, stderr=subprocess.STDOUT, start_new_session=True)
-        while ran.poll() is None:
-            look(seen, ran.pid)
-            time.sleep(1)
-        wall = time.time() - start
-        used = resource.getrusage(resource.RUSAGE_CHILDREN)
-        edits = edits_of(clone)
-    closing = (Path(sys.argv[1]).read_text().strip().splitlines() or ["nothing was printed"])[-1]
-    made = table(seen, edits, list(edits), used.ru_utime + used.ru_stime, closing, wall, os.cpu_count())
-    text = PAGE.read_text()
-    head, rest = text.split(MARKS[0])
-    PAGE.write_text(head + MARKS[0] + "\n" + made + "\n" + MARKS[1] + rest.split(MARKS[1])[1])
-    print(closing)
-    print(f"{used.ru_utime + used.ru_stime:.0f} core-seconds, {wall:.0f} seconds")
-    return ran.returncode
+        ran = measured(clone, sys.argv[2:], log)
+    if not [word for word in sys.argv[2:] if word != "--anew"]:
+        head, rest = PAGE.read_text().split(MARKS[0])
+        PAGE.write_text(head + MARKS[0] + "\n" + ran.table + "\n" + MARKS[1] + rest.split(MARKS[1])[1])
+    print(ran.table, ran.closing, f"{ran.took:.0f} core-seconds, {ran.wall:.0f} seconds", sep="\n")
+    return ran.status
 
 
-sys.exit(main())
+if __name__ == "__main__":
+    sys.exit(main())

@@ -2,9 +2,9 @@
 """Prints a C file of an extension with as many functions as are asked for, to measure `brc c` by, or writes them into the
 files of a folder, 500 in each.
 
-    python3 docs/large_c.py 200 > large.c
+    python3 tools/large_c.py 200 > large.c
     time crates/brc/out/brc c large.c
-    python3 docs/large_c.py 5500 large
+    python3 tools/large_c.py 5500 large
     time crates/brc/out/brc c large/*.c
 
 The functions are of six sorts in turn, of 13 to 25 lines each: labels that paths share, loops, items of lists in critical

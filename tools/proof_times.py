@@ -1,7 +1,7 @@
 #!/usr/bin/env python3
 """Prints which functions of a crate took longest to prove, in seconds.
 
-    rm -r crates/NAME/out && (cd crates/NAME && rt check --jobs 1) && python3 docs/proof_times.py NAME [ROWS]
+    rm -r crates/NAME/out && (cd crates/NAME && rt check --jobs 1) && python3 tools/proof_times.py NAME [ROWS]
 
 `rt check` keeps each module of a proof in a file of its own as soon as it is checked. So the time between two files is
 that of the later one, and a function's time is the sum over its files. With more than one job, or after a second check

@@ -1,7 +1,7 @@
 #!/usr/bin/env python3
 """Refuses each allocation of two runs in turn, from the first on until none is refused, and prints where it was.
 
-    python3 docs/refused_memory.py [FIRST]
+    python3 tools/refused_memory.py [FIRST]
 
 It runs the tests of crates/brc_run_tests by `rt try --test --fail-alloc N`, which proves nothing and takes up to a minute
 for each N, from FIRST on, and looks at two of them: `each_refusal_is_answered` and `each_refused_call_goes_on`. The other

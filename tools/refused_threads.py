@@ -1,7 +1,7 @@
 #!/usr/bin/env python3
 """Refuses threads to a run of 32 workers, and prints how `brc` answers.
 
-    python3 docs/refused_threads.py [THREADS]
+    python3 tools/refused_threads.py [THREADS]
 
 As root. It becomes a user of its own, whose processes may have 30 threads together, or THREADS: the limit doesn't hold for
 root. It runs `brc` by `rt try`, which proves nothing and takes about a minute, and fails unless
