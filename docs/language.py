@@ -1,6 +1,6 @@
 #!/usr/bin/env python3
-"""Makes cases of the examples of docs/LANGUAGE.md, FROM_C.md and C_API.md and of the modules of examples/README.md.
-The gate runs them, since they are a file of brc_cases.
+"""Makes cases of the examples of docs/TUTORIAL.md, LANGUAGE.md, FROM_C.md and C_API.md and of the modules of
+examples/README.md. The gate runs them, since they are a file of brc_cases.
 
     python3 docs/language.py            fails if crates/brc_cases/data/pages.cases differs from the pages
     python3 docs/language.py --write    writes it
@@ -27,7 +27,7 @@ from pathlib import Path
 
 ROOT = Path(__file__).resolve().parents[1]
 DOCS = ROOT / "docs"
-PAGES = [DOCS / "LANGUAGE.md", DOCS / "FROM_C.md", DOCS / "C_API.md"]
+PAGES = [DOCS / "TUTORIAL.md", DOCS / "LANGUAGE.md", DOCS / "FROM_C.md", DOCS / "C_API.md"]
 EXAMPLES = ROOT / "examples"
 FROM_C = EXAMPLES / "from_c"
 PROGRAM = ROOT / "crates" / "brc" / "out" / "brc"
