@@ -146,7 +146,7 @@ def main():
     found = sources()
     known = words_of(found.values()) | {path.stem for path in found}
     known |= {part for path in found for part in path.relative_to(ROOT).parts}
-    known |= {path.stem for folder in ("docs", "examples") for path in (ROOT / folder).rglob("*")}
+    known |= {path.stem for folder in ("docs", "examples", "tools") for path in (ROOT / folder).rglob("*")}
     known |= words_of(path.read_text() for path in (ROOT / "examples").rglob("*.brc"))
     there = all_files()
     faults = []
