@@ -14,7 +14,8 @@ The line that begins a block of C says what `brc c` has to find in it, which rea
     ```c NAME.c warning LINE:COLUMN CODE
 
 Several findings have `and` between them. If it goes on with `for FIRST-LAST`, the file is that of the block with a name
-before it, in which this block takes the place of the lines from FIRST to LAST. A block of C without a name is no whole function, and no such change of one.
+before it, in which this block takes the place of the lines from FIRST to LAST. A block of C without a name is no whole
+function, and no such change of one.
 """
 import re
 import subprocess
