@@ -1,6 +1,6 @@
 #!/usr/bin/env python3
-"""Makes cases of `brc c` of the C functions that docs/FROM_C.md, C_API.md and C.md print. The gate runs them, since they are
-a file of brc_cases.
+"""Makes cases of `brc c` of the C functions that docs/C.md and FROM_C.md print. The gate runs them, since they are a file
+of brc_cases.
 
     python3 docs/c_pages.py            fails if crates/brc_cases/data/c_pages.cases differs from the pages
     python3 docs/c_pages.py --write    writes it
@@ -13,8 +13,9 @@ The line that begins a block of C says what `brc c` has to find in it, which rea
     ```c NAME.c error LINE:COLUMN CODE
     ```c NAME.c warning LINE:COLUMN CODE
 
-Several findings have `and` between them. If it goes on with `for FIRST-LAST`, the file is that of the block with a name before it, in which this block takes the place of
-the lines from FIRST to LAST. A block of C without a name is no whole function, and no such change of one.
+Several findings have `and` between them. If it goes on with `for FIRST-LAST`, the file is that of the block with a name
+before it, in which this block takes the place of the lines from FIRST to LAST. A block of C without a name is no whole
+function, and no such change of one.
 """
 import re
 import subprocess
@@ -24,7 +25,7 @@ from pathlib import Path
 
 from language import ROOT, DOCS, PROGRAM, content
 
-PAGES = [DOCS / "FROM_C.md", DOCS / "C_API.md", DOCS / "C.md"]
+PAGES = [DOCS / "C.md", DOCS / "FROM_C.md"]
 CASES = ROOT / "crates" / "brc_cases" / "data" / "c_pages.cases"
 FINDING = r"(?:error|warning) \d+:\d+ C\d+"
 MARK = re.compile(rf"(\S+\.c) (right|right by assumptions|{FINDING}(?: and {FINDING})*)(?: for (\d+)-(\d+))?")

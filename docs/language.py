@@ -1,6 +1,6 @@
 #!/usr/bin/env python3
-"""Makes cases of the examples of docs/TUTORIAL.md, LANGUAGE.md, FROM_C.md and C_API.md and of the modules of
-examples/README.md. The gate runs them, since they are a file of brc_cases.
+"""Makes cases of the examples of docs/TUTORIAL.md, LANGUAGE.md and FROM_C.md and of the modules of examples/README.md.
+The gate runs them, since they are a file of brc_cases.
 
     python3 docs/language.py            fails if crates/brc_cases/data/pages.cases differs from the pages
     python3 docs/language.py --write    writes it
@@ -8,14 +8,15 @@ examples/README.md. The gate runs them, since they are a file of brc_cases.
 
 A block marked `module` or `schedule` is the file f.brc or f.schedule of the blocks `console` below it. If the mark goes
 on with a name, it is the file of this name, and has to be the same as the one in examples/from_c. A block marked
-`function` and a name is some functions of that file, one after another. Commands may name each file there. A console
-block is one command, on a line that begins with `$`, and what it prints: standard output, then standard error. A block marked
+`function` and a name is some functions of that file, one after another. If the line after a block with a name begins
+with a verdict in backticks, `brc check` of the file prints it. Commands may name each file there. A console block is
+one command, on a line that begins with `$`, and what it prints: standard output, then standard error. A block marked
 `part` has some lines of that, one after another. The exit status has to be the one that LANGUAGE.md's table gives to
 such a line; an explanation has the line at its end. Of several lines, each with its file's name or an object, it is the
 greatest.
 
 A row of a table in examples/README.md names a module and what `brc check` prints of it. Each module has a row, and each
-file of examples/from_c a block in FROM_C.md or C_API.md.
+file of examples/from_c a block or a link in FROM_C.md.
 """
 import json
 import re
@@ -27,7 +28,7 @@ from pathlib import Path
 
 ROOT = Path(__file__).resolve().parents[1]
 DOCS = ROOT / "docs"
-PAGES = [DOCS / "TUTORIAL.md", DOCS / "LANGUAGE.md", DOCS / "FROM_C.md", DOCS / "C_API.md"]
+PAGES = [DOCS / "TUTORIAL.md", DOCS / "LANGUAGE.md", DOCS / "FROM_C.md"]
 EXAMPLES = ROOT / "examples"
 FROM_C = EXAMPLES / "from_c"
 PROGRAM = ROOT / "crates" / "brc" / "out" / "brc"
@@ -67,14 +68,18 @@ def status_of(line):
 
 
 def page_examples(page):
-    """The examples of a page, the files that its blocks are, and the functions that they have of files."""
+    """The examples of a page, the files that its blocks are, the functions that they have of files, and the files of
+    examples/from_c that it links to."""
     text = page.read_text()
     files, found, named, functions = {path.name: path.read_text() for path in FROM_C.iterdir()}, [], {}, []
     marks = "module|schedule|function|console|part"
-    for block in re.finditer(rf"^```({marks})(?: (\S+))?\n(.*?)^```$", text, re.M | re.S):
-        mark, name, inner = block.groups()
+    verdict = r"(?:\n\n`((?:refused|accepted) [^`\n]+)`)?"
+    for block in re.finditer(rf"^```({marks})(?: (\S+))?\n(.*?)^```${verdict}", text, re.M | re.S):
+        mark, name, inner, printed = block.groups()
+        line = text.count("\n", 0, block.start()) + 1
+        if name and printed:
+            found.append(Example(f"{page.name}, line {line}", f"check {name}", dict(files), f"{printed}\n"))
         if mark in ("console", "part"):
-            line = text.count("\n", 0, block.start()) + 1
             command, wanted = inner.split("\n", 1)
             words = command.removeprefix("$ brc ")
             found.append(Example(f"{page.name}, line {line}", words, dict(files), wanted, mark == "part"))
@@ -84,7 +89,8 @@ def page_examples(page):
             files[name or ("f.brc" if mark == "module" else "f.schedule")] = inner
             if name:
                 named[name] = inner
-    return found, named, functions
+    linked = set(re.findall(r"\(\.\./examples/from_c/([^)\s]+)\)", text))
+    return found, named, functions, linked
 
 
 def table_examples():
@@ -104,14 +110,14 @@ def examples():
     """All examples, and the faults of files that differ or aren't named."""
     found, faults, in_pages = [], [], set()
     for page in PAGES:
-        more, named, functions = page_examples(page)
+        more, named, functions, linked = page_examples(page)
         found += more
-        in_pages |= {*named, *(name for name, _ in functions)}
+        in_pages |= {*named, *(name for name, _ in functions), *linked}
         faults += [f"{page.name}: {name} differs from examples/from_c" for name, text in named.items()
                    if not (FROM_C / name).exists() or (FROM_C / name).read_text() != text]
         faults += [f"{page.name}: {name} of examples/from_c has other functions" for name, text in functions
                    if not (FROM_C / name).exists() or f"\n{text}" not in (FROM_C / name).read_text()]
-    faults += [f"examples/from_c: {path.name} has no block" for path in sorted(FROM_C.iterdir())
+    faults += [f"examples/from_c: {path.name} has no block and no link" for path in sorted(FROM_C.iterdir())
                if path.name not in in_pages]
     more, named = table_examples()
     modules = [str(path.relative_to(EXAMPLES)) for path in sorted(EXAMPLES.rglob("*.brc"))]
