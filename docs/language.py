@@ -98,7 +98,7 @@ def table_examples():
     page = EXAMPLES / "README.md"
     found, named = [], set()
     for line, row in enumerate(page.read_text().splitlines(), 1):
-        match = re.fullmatch(r"\| `(\S+\.brc)` \|.*\| `([^`]+)` \|", row)
+        match = re.fullmatch(r"\| `(\S+\.brc)` \|(?:.*\|)? `([^`]+)` \|", row)
         if match:
             named.add(match.group(1))
             files = {"f.brc": (EXAMPLES / match.group(1)).read_text()}
