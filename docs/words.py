@@ -11,7 +11,7 @@ from pathlib import Path
 ROOT = Path(__file__).resolve().parents[1]
 PAGES = [ROOT / "README.md", ROOT / "examples" / "README.md", *sorted((ROOT / "docs").rglob("*.md"))]
 README_LIMIT = 700
-ALL_LIMIT = 62_000
+ALL_LIMIT = 60_000
 
 
 def counted(path):
