@@ -1,5 +1,5 @@
 //! Tests of C functions: tokens, macros, the trees of functions, types, the table of the C API; and what is said of
-//! functions that are made at random, by a change of right ones, or so long that they are cut, in each format.
+//! functions that are made at random, by a change of right ones, or so long that they are cut, in each format; of outlines.
 #![tactic(auto)]
 
 #[cfg(test)]
@@ -12,6 +12,8 @@ mod judged;
 mod limits;
 #[cfg(test)]
 mod macros;
+#[cfg(test)]
+mod outlines;
 #[cfg(test)]
 mod outside;
 #[cfg(test)]

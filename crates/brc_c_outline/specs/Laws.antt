@@ -1,0 +1,18 @@
+-- What an image promises: its walks are the paths of its outline.
+use Rattle.std.specs.Prelude.{◌≡◌, ℕ, List, Some}
+use Rattle.brc_lang.specs.declared.module.Function.{Function}
+use Rattle.brc_lang.specs.declared.check_code.CheckCode.{CheckCode}
+use Rattle.brc_model.specs.Paths.{ReportsCode}
+use Rattle.brc_c_outline.specs.declared.outline.Outline.{Outline}
+use Rattle.brc_c_outline.specs.Outlines.{IsImage, IsBroken}
+
+-- if choices lead to a point that breaks a rule, some walk along the module reports it, at the instruction that the
+-- point names
+abbrev pub EveryPathHasItsWalk : Type 0
+EveryPathHasItsWalk = (f : Function) (o : Outline) (at : ℕ) (code : CheckCode) → IsImage f o
+    → IsBroken o at code → ReportsCode f at code
+
+-- if a walk along the module reports a code, choices lead to a point that breaks this rule there
+abbrev pub EveryWalkIsAPath : Type 0
+EveryWalkIsAPath = (f : Function) (o : Outline) (at : ℕ) (code : CheckCode) → IsImage f o
+    → ReportsCode f at code → IsBroken o at code

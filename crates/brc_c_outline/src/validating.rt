@@ -1,0 +1,213 @@
+//! The check that a function of a module has exactly the paths of an outline. It asks of each point, and of each
+//! instruction, alone: it takes no memory, and no path is followed but from one point to the next.
+
+ghost use Rattle.std.specs.Prelude.{◌≡◌, ◌+◌, ◌<◌, ◌≤◌, ℕ, length, slice_get, Some, IsTrue};
+ghost use Rattle.brc_model.specs.declared.state.Exit.{Exit};
+ghost use Rattle.brc_model.specs.Paths.{At, follow};
+ghost use Rattle.brc_c_outline.specs.declared.outline.Label.{Label};
+ghost use Rattle.brc_c_outline.specs.declared.outline.Point.{Point};
+ghost use Rattle.brc_c_outline.specs.declared.outline.Way.{Way};
+ghost use Rattle.brc_c_outline.specs.Outlines.{Begins, Breaks, HasWay, IsClosed, IsImage, IsStartOf, IsThat, IsWithin};
+ghost use Rattle.brc_c_outline.specs.Outlines.{ShowsBroken, ShowsPoint, StaysIn, end_of, label_at, point_at};
+
+use crate::outline::{Broken, Label, Outline, Point, Way};
+use crate::places::{Place, has_reported, is_at, next, same_state, walk};
+use brc_check::entry_of;
+use brc_lang::{CheckCode, Function};
+use brc_model::{Exit, State};
+
+/// Returns whether a place is the first instruction of a point, in its state.
+fn is_start_of(point: &Point, place: &Place) -> bool
+    ensures { IsTrue result → end_of place.now ≡ At point.now.start point.now.state }
+{
+    is_at(place, point.start, &point.state)
+}
+
+/// Returns whether the module goes by a way from its point to the next one.
+fn has_way(function: &Function, outline: &Outline, point: &Point, way: &Way) -> bool
+    ensures { IsTrue result → HasWay function.now outline.now point.now way.now }
+{
+    match outline.points.as_slice().get(way.to) {
+        Some(next) => {
+            let code = function.code.as_slice();
+            let place = walk(code, point.start, &point.state, way.exits.as_slice());
+            is_start_of(next, &place)
+        }
+        None => false,
+    }
+}
+
+/// Returns whether the module goes by each way of a point.
+fn has_ways(function: &Function, outline: &Outline, point: &Point) -> bool
+    ensures { IsTrue result → (choice : ℕ) (way : Way) → slice_get point.now.ways.items choice ≡ Some way
+        → HasWay function.now outline.now point.now way }
+{
+    for way in point.ways.iter() {
+        if !has_way(function, outline, point, way) {
+            return false;
+        }
+    }
+    true
+}
+
+fn is_shown(function: &Function, point: &Point, broken: &Broken) -> bool
+    ensures { IsTrue result → ShowsBroken function.now point.now (Some broken.now) }
+{
+    let code = function.code.as_slice();
+    let place = walk(code, point.start, &point.state, broken.exits.as_slice());
+    has_reported(&place, broken.at, broken.code)
+}
+
+/// Returns whether the module reports what is broken at a point, if anything is.
+fn shows_broken(function: &Function, point: &Point) -> bool
+    ensures { IsTrue result → ShowsBroken function.now point.now point.now.broken }
+{
+    match &point.broken {
+        None => true,
+        Some(broken) => is_shown(function, point, broken),
+    }
+}
+
+fn shows_points(function: &Function, outline: &Outline) -> bool
+    ensures { IsTrue result → (p : ℕ) (point : Point) → point_at outline.now p ≡ Some point
+        → ShowsPoint function.now outline.now point }
+{
+    for point in outline.points.iter() {
+        if !has_ways(function, outline, point) || !shows_broken(function, point) {
+            return false;
+        }
+    }
+    true
+}
+
+/// Returns whether a choice leads from one point to another.
+fn leads(outline: &Outline, from: usize, to: usize) -> bool
+    ensures { IsTrue result → IsWithin outline.now from to }
+{
+    let Some(point) = outline.points.as_slice().get(from) else {
+        return false;
+    };
+    for way in point.ways.iter() {
+        if way.to == to {
+            return true;
+        }
+    }
+    false
+}
+
+fn is_that(broken: &Option<Broken>, at: usize, code: CheckCode) -> bool
+    ensures { IsTrue result → IsThat broken.now at code }
+{
+    match broken {
+        Some(broken) => broken.at == at && broken.code == code,
+        None => false,
+    }
+}
+
+/// Returns whether a point breaks this rule, and names this instruction.
+fn breaks(outline: &Outline, point: usize, at: usize, code: CheckCode) -> bool
+    ensures { IsTrue result → Breaks outline.now point at code }
+{
+    match outline.points.as_slice().get(point) {
+        Some(point) => is_that(&point.broken, at, code),
+        None => false,
+    }
+}
+
+/// Returns whether an instruction has this label.
+fn is_labelled(outline: &Outline, at: usize, point: usize, state: &State) -> bool
+    ensures { IsTrue result → label_at outline.now at ≡ Some (record { point = point; state = state.now }) }
+{
+    match outline.labels.as_slice().get(at) {
+        Some(Some(label)) => label.point == point && same_state(&label.state, state),
+        _ => false,
+    }
+}
+
+/// Returns the point to which an instruction belongs.
+fn point_of(outline: &Outline, at: usize) -> Option<usize> {
+    match outline.labels.as_slice().get(at) {
+        Some(Some(label)) => Some(label.point),
+        _ => None,
+    }
+}
+
+/// Returns whether a place is within a point, in one of its ways, at the end of the call, or where it reports what is
+/// broken at the point.
+fn stays_in(outline: &Outline, point: usize, place: &Place) -> bool
+    ensures { IsTrue result → StaysIn outline.now point (end_of place.now) }
+{
+    match place {
+        Place::Ended => true,
+        Place::Reports(at, code) => breaks(outline, point, *at, *code),
+        Place::At(at, state) => match point_of(outline, *at) {
+            Some(next) => {
+                is_labelled(outline, *at, next, state)
+                    && (next == point || leads(outline, point, next))
+            }
+            None => false,
+        },
+    }
+}
+
+fn is_closed_by(
+    function: &Function,
+    outline: &Outline,
+    at: usize,
+    label: &Label,
+    exit: Exit,
+) -> bool
+    ensures { IsTrue result → StaysIn outline.now label.now.point
+        (follow function.now.code (At at label.now.state) exit) }
+{
+    let place = next(function.code.as_slice(), Place::At(at, label.state), exit);
+    stays_in(outline, label.point, &place)
+}
+
+fn is_closed_at(function: &Function, outline: &Outline, at: usize) -> bool
+    ensures { IsTrue result → IsClosed function.now outline.now at (label_at outline.now at) }
+{
+    match outline.labels.as_slice().get(at) {
+        Some(Some(label)) => {
+            is_closed_by(function, outline, at, label, Exit::Success)
+                && is_closed_by(function, outline, at, label, Exit::Fault)
+        }
+        _ => true,
+    }
+}
+
+fn is_closed(function: &Function, outline: &Outline) -> bool
+    ensures { IsTrue result → (at : ℕ) → IsClosed function.now outline.now at (label_at outline.now at) }
+{
+    for at in 0..outline.labels.len() {
+        if !is_closed_at(function, outline, at) {
+            return false;
+        }
+    }
+    true
+}
+
+fn begins_at(outline: &Outline, entry: &State) -> bool
+    ensures { IsTrue result → IsStartOf (point_at outline.now 0) (At 0 entry.now) }
+{
+    match outline.points.as_slice().get(0) {
+        Some(point) => is_start_of(point, &Place::At(0, *entry)),
+        None => false,
+    }
+}
+
+/// Returns whether the first point begins the function.
+fn begins(function: &Function, outline: &Outline) -> bool
+    ensures { IsTrue result → Begins function.now outline.now }
+{
+    let entry = entry_of(function.parameters.as_slice());
+    begins_at(outline, &entry) && is_labelled(outline, 0, 0, &entry)
+}
+
+/// Returns whether a function of a module is found to have exactly the paths of an outline. Of a refusal nothing is
+/// promised.
+pub fn is_image(function: &Function, outline: &Outline) -> bool
+    ensures { IsTrue result → IsImage function.now outline.now }
+{
+    begins(function, outline) && shows_points(function, outline) && is_closed(function, outline)
+}
