@@ -1,5 +1,6 @@
 //! Tests of C functions: tokens, macros, the trees of functions, types, the table of the C API; and what is said of
-//! functions that are made at random, by a change of right ones, or so long that they are cut, in each format; of outlines.
+//! functions that are made at random, by a change of right ones, or so long that they are cut, in each format. Last,
+//! the check of an outline.
 #![tactic(auto)]
 
 #[cfg(test)]
