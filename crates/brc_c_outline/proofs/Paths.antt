@@ -109,7 +109,8 @@ within o choices p q at s leads (inr (choice, goes_there)) labelled =
     record {
       choices = choices ++ choice ∷ [];
       p = q;
-      leads = fold-append (goes o) (Some 0) choices (choice ∷ []) ∙ (ap (λ here. goes o here choice) leads ∙ goes_there);
+      leads = fold-append (goes o) (Some 0) choices (choice ∷ []) ∙ (ap (λ here. goes o here choice) leads
+          ∙ goes_there);
       labelled = labelled;
     }
 
