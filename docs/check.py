@@ -1,6 +1,6 @@
 #!/usr/bin/env python3
-"""Checks what the pages say of the repository: links, names, files, quotes, words that grow stale, and the tables and
-constants that scripts of this folder write.
+"""Checks what the pages say of the repository: links, names, files, quotes, words that grow stale, how many words there
+are, the drawings, the wrong bodies, and the tables, cases and constants that scripts of this folder write.
 
     python3 docs/check.py
 
@@ -8,6 +8,7 @@ It changes nothing, prints each fault on a line, and fails if there is one.
 """
 import os
 import re
+import subprocess
 import sys
 from pathlib import Path
 
@@ -18,6 +19,7 @@ import cases
 import c_pages
 import language
 import rules
+import words
 import wrong_bodies
 
 ROOT = Path(__file__).resolve().parents[1]
@@ -142,6 +144,12 @@ def line_faults(found):
                 yield f"in no source: {line.strip()}"
 
 
+def drawing_faults():
+    """What docs/pictures/draw.py finds."""
+    ran = subprocess.run([sys.executable, ROOT / "docs" / "pictures" / "draw.py", "--check"], capture_output=True, text=True)
+    return ran.stderr.splitlines()[-1:] if ran.returncode else []
+
+
 def main():
     found = sources()
     known = words_of(found.values()) | {path.stem for path in found}
@@ -159,7 +167,8 @@ def main():
     faults += [f"docs/ADD_AN_INSTRUCTION.md: {fault}" for fault in line_faults(found)]
     faults += [f"docs/lists/RULES.md: {fault}" for fault in rules.faults()]
     faults += [f"docs/lists/WRONG_BODIES.md: {fault}" for fault in wrong_bodies.faults()]
-    faults += [*api_table.faults(), *c_pages.faults(), *cases.faults(), *language.faults()]
+    faults += [*api_table.faults(), *c_pages.faults(), *cases.faults(), *language.faults(), *words.faults()]
+    faults += drawing_faults()
     print(*faults, f"{len(faults)} faults", sep="\n")
     return 1 if faults else 0
 
