@@ -7,7 +7,7 @@
                                          compares whose each result is, and the number of arguments, with the manual:
                                          FOLDER is html/c-api of Debian's package python3.11-doc
 
-A source can't include a file, so the rows stand a second time, without comments, in src/api.rt and src/api/ of that
+A source can't include a file, so the rows are there a second time, without comments, in src/api.rt and src/api/ of that
 crate.
 """
 import html

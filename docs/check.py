@@ -160,7 +160,7 @@ def main():
     faults = []
     for page in PAGES:
         in_page = [*link_faults(page), *name_faults(page, known), *file_faults(page, there)]
-        # The examples tell runs, moment by moment.
+        # The examples describe runs, moment by moment.
         in_page += stale_faults(page) if page.parent.name != "examples" else []
         faults += [f"{page.relative_to(ROOT)}: {fault}" for fault in in_page]
     faults += [f"docs/EMBED.md: {fault}" for fault in quote_faults(found)]

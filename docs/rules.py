@@ -72,7 +72,7 @@ def groups():
         elif part.startswith("--"):
             comment.append(part.removeprefix("--").strip())
         else:
-            # The variables of a rule are in parentheses behind its name.
+            # The variables of a rule are in parentheses after its name.
             name, rest = part.split(" : ", 1)
             while rest.startswith("("):
                 rest = rest[rest.index(")") + 1 :].lstrip()

@@ -10,7 +10,7 @@ LISTS = ROOT / "docs" / "lists"
 
 
 def mark_lines(script, several=False):
-    """Returns the marks before and behind what the script writes."""
+    """Returns the marks before and after what the script writes."""
     what, end = ("tables", "their end") if several else ("table", "its end")
     return f"<!-- the {what} of docs/{script} -->\n", f"<!-- {end} -->\n"
 

@@ -10,7 +10,7 @@ A wrong body is a file of must-fail/ (tried by the gate) or of also-must-fail/ (
     wrong: WHAT IS WRONG (WHICH CONTRACT REFUSES IT)
 
 of at most 200 characters. The contract is a function of the changed file, with a clause of its own or one `of` another
-function. Behind `; rule` or `; rules` are the rules of the step relation that the mistake breaks, and behind `; code`
+function. After `; rule` or `; rules` come the rules of the step relation that the mistake breaks, and after `; code`
 the checker's code that isn't reported.
 
 Without an option the script fails if a line has another form, or names a function or a clause that isn't there; if a
