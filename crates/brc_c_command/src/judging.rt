@@ -10,8 +10,9 @@ use std::io::Write;
 /// Judges the functions of C files, writes what is found of them, and returns the exit status.
 ///
 /// The status is 0 if there is no error, 1 if there is one, 2 if a file can't be read, a function isn't, or the output
-/// can't be written, and 3 if memory is refused. What is found is on standard output, and why a file can't be read on
-/// standard error, of which an error is ignored. Until then the terminal shows how many functions have been judged.
+/// can't be written, and 3 if memory is refused or the program contradicts itself. What is found is on standard output,
+/// and why a file can't be read on standard error, of which an error is ignored. Until then the terminal shows how many
+/// functions have been judged.
 pub fn judge_c<L: Load, T: Terminal, W: Write, E: Write>(
     alloc: Global,
     asked: &Asked<'_>,
@@ -55,6 +56,7 @@ fn write_judgement<W: Write, E: Write>(judgement: &Judgement, out: &mut W, err: 
         Status::NoError => 0,
         Status::Error => 1,
         Status::NotRead => 2,
+        Status::Internal => 3,
     }
 }
 

@@ -23,8 +23,8 @@ pub(crate) fn begin_at(alloc: Global, layout: &Layout, laid: &mut Laid) -> Resul
     Ok(())
 }
 
-/// Returns the blocks of the text to which none above them leads.
-fn roots_of(alloc: Global, layout: &Layout) -> Result<Vec<usize>, AllocError> {
+/// Returns the blocks of the text to which no block above them leads.
+pub(crate) fn roots_of(alloc: Global, layout: &Layout) -> Result<Vec<usize>, AllocError> {
     let mut entered = Vec::with_capacity(alloc, layout.blocks.len())?;
     for _ in 0..layout.blocks.len() {
         entered.push(false)?;

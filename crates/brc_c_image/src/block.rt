@@ -13,6 +13,13 @@ pub(crate) struct Held {
 }
 
 impl Held {
+    /// What the state has where a call begins.
+    pub(crate) const NOTHING: Held = Held {
+        is_locked: false,
+        owned: RegisterSet::EMPTY,
+        items: RegisterSet::EMPTY,
+    };
+
     pub(crate) fn of(rules: Rules, store: &Store) -> Held {
         Held {
             is_locked: store.is_locked(rules),
@@ -55,6 +62,8 @@ pub(crate) struct Block {
     pub(crate) node: NodeId,
     pub(crate) origin: Option<Origin>,
     pub(crate) held: Held,
+    /// Whether it asks only which of the other ways of a block is taken.
+    pub(crate) is_fork: bool,
     /// The lines without a target: their places among those of all blocks.
     pub(crate) first: usize,
     pub(crate) end: usize,
@@ -75,6 +84,7 @@ impl Block {
             node,
             origin,
             held,
+            is_fork: false,
             first: 0,
             end: 0,
             branch: Branch::Nothing,

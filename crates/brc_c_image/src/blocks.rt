@@ -163,7 +163,7 @@ fn is_written(block: Option<Block>) -> bool {
 fn begin(source: &Source, blocks: &mut Blocks) -> Result<(), AllocError> {
     let rules = source.rules;
     let store = Store::new(source.alloc);
-    let mut entry = Block::new(NodeId::ENTRY, None, Held::of(rules, &store));
+    let mut entry = Block::new(NodeId::ENTRY, None, Held::NOTHING);
     if rules == Rules::GlobalLock {
         blocks.lines.push(Line::Lock)?;
     }

@@ -183,6 +183,7 @@ fn other_exit(
         return Ok(None);
     }
     let fork = Block {
+        is_fork: true,
         branch: if exits.third.is_some() {
             Branch::Ask
         } else {

@@ -6,11 +6,13 @@ use crate::layout::{Layout, Part};
 use crate::liveness::Liveness;
 use crate::naming::name_of;
 use crate::order::{order_of, places_of};
+use crate::outlining::outline_of;
 use crate::parting::{MOST_INSTRUCTIONS, part_with, parts_of};
 use crate::path::{Step, path_to};
 use crate::resolving::pass_by;
 use crate::writing::text_of;
 use brc_c_graph::{Graph, NodeId};
+use brc_c_outline::Outline;
 use brc_c_store::Rules;
 use brc_lang::CheckCode;
 use std::alloc::{AllocError, Global};
@@ -31,6 +33,8 @@ pub struct Text {
     pub bytes: Vec<u8>,
     /// The number of the instruction that is at fault, from 0. Without a fault it has no meaning.
     pub at: usize,
+    /// What the text is to show, by the nodes in their stores and not by the lines.
+    pub outline: Outline,
 }
 
 /// What a function has too much of to be judged.
@@ -217,9 +221,11 @@ fn text_in(
         return Ok(None);
     }
     let text = text_of(alloc, name, &laid)?;
+    let outline = outline_of(alloc, &parted, &laid)?;
     let at = laid.at;
     Ok(Some(Text {
         bytes: text.into_bytes(),
         at,
+        outline,
     }))
 }

@@ -18,14 +18,14 @@ impl Model for Confirmed {
 
     ghost Value = { Shown };
 
-    ghost view = { λ c. record { text = c.text.bytes.items; claim = record { at = c.text.at; code = c.fault.code } } };
+    ghost view = { λ c. record { text = c.text.bytes.items; outline = c.text.outline; claim = record { at = c.text.at; code = c.fault.code } } };
 
-    ghost invariant = { λ c. ShowsClaim c.text.bytes.items (record { at = c.text.at; code = c.fault.code }) };
+    ghost invariant = { λ c. ShowsClaim c.text.bytes.items c.text.outline (record { at = c.text.at; code = c.fault.code }) };
 }
 
 impl Confirmed {
     pub(crate) fn new(fault: Fault, text: Text) -> Confirmed
-        requires { ShowsClaim text.bytes.items (record { at = text.at; code = fault.code }) }
+        requires { ShowsClaim text.bytes.items text.outline (record { at = text.at; code = fault.code }) }
     {
         Confirmed { fault, text }
     }
@@ -40,7 +40,7 @@ impl Confirmed {
     /// Returns the text in which the checker reports it.
     pub fn text(&self) -> &[u8]
         ensures value { result.now ≡ self.now.text }
-        ensures shows { ShowsClaim result.now self.now.claim }
+        ensures shows { ShowsClaim result.now self.now.outline self.now.claim }
     {
         self.text.bytes.as_slice()
     }

@@ -1,9 +1,11 @@
 //! The checker's verdict on a text.
 
-ghost use Rattle.std.specs.Prelude.{◌≡◌, IfOk, true};
+ghost use Rattle.std.specs.Prelude.{◌≡◌, IfOk, false, true};
 ghost use Rattle.brc_lang.specs.Grammar.{Spells};
+ghost use Rattle.brc_check.specs.Refusal.{IsForMemory};
 ghost use Rattle.brc_c_judge.specs.Verdicts.{IsVerdictOn};
 
+use brc_c_outline::{Outline, accepted_is_unbroken, is_broken, shows};
 use brc_check::{Refused, check};
 use brc_lang::{CheckCode, FaultCode, Module, one_reading, read};
 use std::alloc::{AllocError, Global};
@@ -39,14 +41,21 @@ pub enum Judged {
     /// It isn't accepted, and something else is reported than what is claimed of it: whoever wrote the text or made the
     /// claim was wrong.
     Unconfirmed,
+    /// It isn't found to have exactly the paths of its outline: whoever wrote the text was wrong.
+    NoImage,
 }
 
-/// Returns the checker's verdict on a text of which a fault is claimed, or none.
-pub fn judge(alloc: Global, text: &[u8], claim: Option<Claim>) -> Result<Judged, AllocError>
-    ensures { IfOk result (IsVerdictOn text.now claim) }
+/// Returns the checker's verdict on a text that is to show an outline, and of which a fault is claimed, or none.
+pub fn judge(
+    alloc: Global,
+    text: &[u8],
+    outline: &Outline,
+    claim: Option<Claim>,
+) -> Result<Judged, AllocError>
+    ensures { IfOk result (IsVerdictOn text.now outline.now claim) }
 {
     match read(alloc, text) {
-        Ok(spelled) => judge_module(alloc, text, spelled, claim),
+        Ok(spelled) => judge_module(alloc, text, outline, spelled, claim),
         Err(fault) => {
             if fault.code == FaultCode::NoMemory {
                 Err(AllocError)
@@ -61,28 +70,39 @@ pub fn judge(alloc: Global, text: &[u8], claim: Option<Claim>) -> Result<Judged,
 fn judge_module(
     alloc: Global,
     text: &[u8],
+    outline: &Outline,
     spelled: Module,
     claim: Option<Claim>,
 ) -> Result<Judged, AllocError>
     requires { Spells text.now spelled }
-    ensures { IfOk result (IsVerdictOn text.now claim) }
+    ensures { IfOk result (IsVerdictOn text.now outline.now claim) }
 {
     one_reading();
+    accepted_is_unbroken();
+    if !shows(alloc, &spelled, outline)? {
+        return Ok(Judged::NoImage);
+    }
     let refused = match check(alloc, spelled) {
         Ok(_) => return Ok(Judged::Right),
         Err(refused) => refused,
     };
-    if refused.code == CheckCode::NoMemory {
+    if is_for_memory(&refused) {
         return Err(AllocError);
     }
     let Some(claim) = claim else {
         return Ok(Judged::Unconfirmed);
     };
-    if is_reported(claim, &refused) {
+    if is_reported(claim, &refused) && is_broken(alloc, outline, claim.at, claim.code)? {
         Ok(Judged::Wrong(Finding { claim }))
     } else {
         Ok(Judged::Unconfirmed)
     }
+}
+
+fn is_for_memory(refused: &Refused) -> bool
+    ensures { result ≡ false → IsForMemory refused.now → ⊥ }
+{
+    refused.code == CheckCode::NoMemory
 }
 
 /// Returns whether the checker reports what is claimed.

@@ -1,7 +1,7 @@
 //! The verdict on a function.
 
-ghost use Rattle.std.specs.Prelude.{◌≡◌, Ok, true};
-ghost use Rattle.brc_c_judge.specs.Verdicts.{ShowsClaim};
+ghost use Rattle.std.specs.Prelude.{◌≡◌, IfOk, Some};
+ghost use Rattle.brc_c_judge.specs.Verdicts.{IsVerdictOn};
 
 use crate::accepted::Accepted;
 use crate::confirmed::Confirmed;
@@ -22,6 +22,8 @@ pub enum Verdict {
     /// The checker doesn't confirm what the modules are said to show: these faults, or if there is none, that the
     /// function is right. That is an error of this program, and no verdict on the function.
     Unconfirmed(Vec<Fault>),
+    /// A module hasn't the paths of its outline. That is an error of this program, too.
+    NoImage,
 }
 
 /// Returns the verdict on a function of C by its graph. The name may be any.
@@ -38,12 +40,22 @@ pub fn judge_function(
     }
 }
 
+/// What is found of one text.
+#[derive(Debug, Drop)]
+enum Found {
+    Accepted(Accepted),
+    Unconfirmed,
+    NoImage,
+}
+
 fn judge_right(alloc: Global, texts: Vec<Text>) -> Result<Verdict, AllocError> {
     let mut first = None;
     let mut others = Vec::new(alloc);
     for text in texts {
-        let Some(accepted) = accept(alloc, text)? else {
-            return Ok(Verdict::Unconfirmed(Vec::new(alloc)));
+        let accepted = match accept(alloc, text)? {
+            Found::Accepted(accepted) => accepted,
+            Found::Unconfirmed => return Ok(Verdict::Unconfirmed(Vec::new(alloc))),
+            Found::NoImage => return Ok(Verdict::NoImage),
         };
         if first.is_none() {
             first = Some(accepted);
@@ -58,10 +70,11 @@ fn judge_right(alloc: Global, texts: Vec<Text>) -> Result<Verdict, AllocError> {
 }
 
 /// Returns a text as an accepted one, if the checker accepts it.
-fn accept(alloc: Global, text: Text) -> Result<Option<Accepted>, AllocError> {
-    match judge(alloc, text.bytes.as_slice(), None)? {
-        Judged::Right => Ok(Some(Accepted::new(text))),
-        Judged::Wrong(_) | Judged::Unconfirmed => Ok(None),
+fn accept(alloc: Global, text: Text) -> Result<Found, AllocError> {
+    match judge(alloc, text.bytes.as_slice(), &text.outline, None)? {
+        Judged::Right => Ok(Found::Accepted(Accepted::new(text))),
+        Judged::Wrong(_) | Judged::Unconfirmed => Ok(Found::Unconfirmed),
+        Judged::NoImage => Ok(Found::NoImage),
     }
 }
 
@@ -69,10 +82,10 @@ fn judge_faults(alloc: Global, faults: Vec<(Fault, Text)>) -> Result<Verdict, Al
     let mut confirmed = Vec::new(alloc);
     let mut unconfirmed = Vec::new(alloc);
     for (fault, text) in faults {
-        if is_confirmed(alloc, &fault, &text)? {
-            confirmed.push(Confirmed::new(fault, text))?;
-        } else {
-            unconfirmed.push(fault)?;
+        match confirm(alloc, &fault, &text)? {
+            Judged::Wrong(_) => confirmed.push(Confirmed::new(fault, text))?,
+            Judged::Right | Judged::Unconfirmed => unconfirmed.push(fault)?,
+            Judged::NoImage => return Ok(Verdict::NoImage),
         }
     }
     if unconfirmed.is_empty() {
@@ -82,17 +95,14 @@ fn judge_faults(alloc: Global, faults: Vec<(Fault, Text)>) -> Result<Verdict, Al
     }
 }
 
-/// Returns whether the checker reports the fault where its text says so.
-fn is_confirmed(alloc: Global, fault: &Fault, text: &Text) -> Result<bool, AllocError>
-    ensures { result ≡ Ok true
-        → ShowsClaim text.now.bytes.items (record { at = text.now.at; code = fault.now.code }) }
+/// Returns the checker's verdict on the text of a fault: *wrong* only if it reports the fault where its text says so.
+fn confirm(alloc: Global, fault: &Fault, text: &Text) -> Result<Judged, AllocError>
+    ensures { IfOk result (IsVerdictOn text.now.bytes.items text.now.outline
+        (Some (record { at = text.now.at; code = fault.now.code }))) }
 {
     let claim = Claim {
         at: text.at,
         code: fault.code,
     };
-    match judge(alloc, text.bytes.as_slice(), Some(claim))? {
-        Judged::Wrong(_) => Ok(true),
-        Judged::Right | Judged::Unconfirmed => Ok(false),
-    }
+    judge(alloc, text.bytes.as_slice(), &text.outline, Some(claim))
 }

@@ -2,11 +2,19 @@
 //! function of a module has exactly their paths.
 #![tactic(auto)]
 
+mod breaking;
 mod laws;
 mod outline;
 mod places;
+mod showing;
+mod trailing;
 mod validating;
+mod walks;
 
-pub use laws::{every_path_has_its_walk, every_walk_is_a_path};
-pub use outline::{Broken, Label, Outline, Point, Way};
+pub use breaking::is_broken;
+pub use laws::{accepted_is_unbroken, every_path_has_its_walk, every_walk_is_a_path};
+pub use outline::{Broken, Outline, Point};
+pub use showing::shows;
+pub use trailing::trail_of;
 pub use validating::is_image;
+pub use walks::{Label, Trail, Walks};

@@ -1,23 +1,12 @@
 use brc_lang::CheckCode;
-use brc_model::{Exit, State};
-
-/// Where paths go on from a point by one choice.
-#[derive(Debug, Drop)]
-pub struct Way {
-    /// The number of the point.
-    pub to: usize,
-    /// The exits by which the module goes there, from the first instruction of the point before.
-    pub exits: Vec<Exit>,
-}
+use brc_model::State;
 
 /// The rule that is broken at a point.
-#[derive(Debug, Drop)]
+#[derive(Clone, Copy, Debug)]
 pub struct Broken {
     pub code: CheckCode,
     /// The instruction that reports it.
     pub at: usize,
-    /// The exits by which the module goes there from the point's first instruction, and one more.
-    pub exits: Vec<Exit>,
 }
 
 /// A point of an outline: a node of a C function's graph in one store.
@@ -27,17 +16,10 @@ pub struct Point {
     pub start: usize,
     /// The state in which paths reach that instruction.
     pub state: State,
-    /// Paths end here if a rule is broken.
+    /// The rule that is broken there, if any.
     pub broken: Option<Broken>,
-    /// Where they go on, by the numbers of the choices.
-    pub ways: Vec<Way>,
-}
-
-/// To which point an instruction belongs, and in which state paths reach it.
-#[derive(Clone, Copy, Debug)]
-pub struct Label {
-    pub point: usize,
-    pub state: State,
+    /// The points where paths go on, by the numbers of the choices.
+    pub ways: Vec<usize>,
 }
 
 /// What a function of a module is to show. Nothing of it is trusted.
@@ -45,6 +27,4 @@ pub struct Label {
 pub struct Outline {
     /// Paths begin at the first one.
     pub points: Vec<Point>,
-    /// The labels of the instructions, by their numbers: those that paths reach have one.
-    pub labels: Vec<Option<Label>>,
 }

@@ -21,6 +21,8 @@ pub(crate) struct Counts {
     suppressed: u64,
     /// Whether a function has an obstacle.
     has_obstacle: bool,
+    /// Whether it is one of this program's own.
+    is_internal: bool,
 }
 
 /// The status of a command for which there is memory.
@@ -32,6 +34,8 @@ pub enum Status {
     Error,
     /// A file can't be read, or a function isn't read.
     NotRead,
+    /// This program contradicts itself.
+    Internal,
 }
 
 impl Counts {
@@ -47,6 +51,7 @@ impl Counts {
         possible: 0,
         suppressed: 0,
         has_obstacle: false,
+        is_internal: false,
     };
 
     /// Returns how many functions were counted.
@@ -66,8 +71,9 @@ impl Counts {
             self.add_finding(finding);
         }
         add_one(&mut self.functions);
-        if seen.obstacle.is_some() {
+        if let Some(obstacle) = &seen.obstacle {
             self.has_obstacle = true;
+            self.is_internal = self.is_internal || obstacle.is_internal;
         }
         if self.errors > errors {
             add_one(&mut self.at_fault);
@@ -101,7 +107,9 @@ impl Counts {
 
     /// Returns the status of a command with these counts.
     pub(crate) fn status(&self, asked: &Asked<'_>) -> Status {
-        if self.has_obstacle && !asked.allows_not_read {
+        if self.is_internal {
+            Status::Internal
+        } else if self.has_obstacle && !asked.allows_not_read {
             Status::NotRead
         } else if self.errors > 0
             || asked.denies_warnings && self.warnings > 0

@@ -151,7 +151,11 @@ fn add_verdict(
             Ok(())
         }
         Verdict::Unconfirmed(_) => {
-            seen.hinder(function.place, String::from_str(alloc, UNCONFIRMED)?);
+            seen.contradict(function.place, String::from_str(alloc, UNCONFIRMED)?);
+            Ok(())
+        }
+        Verdict::NoImage => {
+            seen.contradict(function.place, String::from_str(alloc, NO_IMAGE)?);
             Ok(())
         }
     }
@@ -160,7 +164,10 @@ fn add_verdict(
 const UNSETTLED: &str = "a recursion without a fixed point";
 
 const UNCONFIRMED: &str =
-    "the checker doesn't confirm what is found of it, which is a fault of brc";
+    "internal error: the checker doesn't confirm what is found of it; report it with its text";
+
+const NO_IMAGE: &str =
+    "internal error: its module doesn't have exactly its paths; report it with its text";
 
 fn size_text(size: Size) -> &'static str {
     match size {

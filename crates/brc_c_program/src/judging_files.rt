@@ -116,8 +116,9 @@ impl<F: Files> Work<'_, '_, F> {
                 write!(errors, "no function {name}\n")?;
             }
         }
-        let status = if errors.is_empty() {
-            counts.status(asked)
+        let counted = counts.status(asked);
+        let status = if errors.is_empty() || counted == Status::Internal {
+            counted
         } else {
             Status::NotRead
         };

@@ -37,7 +37,7 @@ pub(crate) fn note_modules(
             }
             Ok(())
         }
-        Verdict::TooLarge(_) | Verdict::Unconfirmed(_) => Ok(()),
+        Verdict::TooLarge(_) | Verdict::Unconfirmed(_) | Verdict::NoImage => Ok(()),
     }
 }
 

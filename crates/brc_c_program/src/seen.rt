@@ -8,6 +8,8 @@ use std::alloc::{AllocError, Global};
 pub(crate) struct Obstacle {
     pub(crate) place: Place,
     pub(crate) reason: String,
+    /// Whether this program is wrong, and not the function too hard for it.
+    pub(crate) is_internal: bool,
 }
 
 /// What is found of a function.
@@ -50,7 +52,20 @@ impl Seen {
     /// Notes why the function has no verdict. The first reason holds.
     pub(crate) fn hinder(&mut self, place: Place, reason: String) {
         if self.obstacle.is_none() {
-            self.obstacle = Some(Obstacle { place, reason });
+            self.obstacle = Some(Obstacle {
+                place,
+                reason,
+                is_internal: false,
+            });
         }
+    }
+
+    /// Notes that the function has no verdict since this program contradicts itself.
+    pub(crate) fn contradict(&mut self, place: Place, reason: String) {
+        self.obstacle = Some(Obstacle {
+            place,
+            reason,
+            is_internal: true,
+        });
     }
 }

@@ -5,7 +5,7 @@ use Rattle.brc_c_outline.specs.Outlines.{ShowsPoint, point_at}
 use Rattle.brc_c_outline.proofs.validating.shows_points.Given as goal
 
 -- the module shows the points in front
-abbrev pub invariant-loop-point : goal.invariant-loop-point
-invariant-loop-point l =
-    (p : ℕ) (point : Point) → p < l.point-index → point_at l.outline p ≡ Some point
+abbrev pub invariant-loop-number : goal.invariant-loop-number
+invariant-loop-number l =
+    (p : ℕ) (point : Point) → p < l.number → point_at l.outline p ≡ Some point
     → ShowsPoint l.function l.outline point
