@@ -2,27 +2,39 @@
 #![tactic(auto)]
 
 mod disk;
+mod environment;
+mod saving;
+mod streams;
 
-use brc_arguments::act_on;
+use brc_arguments::{act_on, color_of};
 use brc_screen::Screen;
 use disk::Disk;
-use std::io;
+use environment::{is_dumb, refuses_colors};
+use std::cell::Cell;
 use std::io::{ErrorKind, IsTerminal};
 use std::process::ExitCode;
+use std::{io, process};
+use streams::{Errors, Output};
 
 fn main(rt: HostRuntime) -> ExitCode {
-    let status = match words(&rt) {
-        Ok(words) => act_on(
-            &rt,
-            rt.alloc(),
-            words.as_slice(),
-            &mut Disk::new(&rt),
-            &mut Screen::new(&rt, rt.stdout().is_terminal(), rt.stderr().is_terminal()),
-            &mut io::writer(&rt.stdout()),
-            &mut io::writer(&rt.stderr()),
-        ),
-        Err(error) => unreadable_words(&rt, error.kind()),
+    let words = match words(&rt) {
+        Ok(words) => words,
+        Err(error) => return ExitCode::from(unreadable_words(&rt, error.kind())),
     };
+    let dumb = is_dumb(&rt);
+    let shows_colors = rt.stdout().is_terminal() && !dumb && !refuses_colors(&rt);
+    let colors = color_of(rt.alloc(), words.as_slice()).colors(shows_colors);
+    let is_heard = rt.stderr().is_terminal();
+    let is_gone = Cell::new(false);
+    let status = act_on(
+        &rt,
+        rt.alloc(),
+        words.as_slice(),
+        &mut Disk::new(&rt, process::id(rt.process()), is_heard),
+        &mut Screen::new(&rt, colors, is_heard && !dumb),
+        &mut Output::new(io::writer(&rt.stdout()), &is_gone),
+        &mut Errors::new(io::writer(&rt.stderr()), &is_gone),
+    );
     ExitCode::from(status)
 }
 

@@ -7,7 +7,7 @@ use Rattle.brc_command.specs.declared.asked.Asked.{Asked}
 use Rattle.brc_command.specs.declared.asked.Asked.TheVariants.{Run as ToRun, Check as ToCheck, Step as ToStep, Draw as ToDraw}
 use Rattle.brc_command.specs.declared.asked.Run.{Run}
 use Rattle.brc_command.specs.declared.asked.TheConstants.{NO_BOUND}
-use Rattle.brc_command.specs.declared.files.Format.TheVariants.{Text, Json}
+use Rattle.brc_command.specs.declared.files.Format.TheVariants.{Text, All, Json}
 use Rattle.brc_arguments.specs.declared.request.Request.{Request}
 use Rattle.brc_arguments.specs.declared.request.Request.TheVariants.{One, Files}
 
@@ -60,5 +60,6 @@ abbrev pub AsksToCheck : ArgMatches → Request → Type 0
 AsksToCheck m (One (ToCheck file)) = (word_of m (codes "FILE") ≡ Some file.now)
     × (length (words_of m (codes "FILE")) ≡ 1) × (AsksForJson m → ⊥)
 AsksToCheck m (Files files Text) = (map (λ f. f.now) files.now ≡ words_of m (codes "FILE")) × (AsksForJson m → ⊥)
+AsksToCheck m (Files files All) = (map (λ f. f.now) files.now ≡ words_of m (codes "FILE")) × (AsksForJson m → ⊥)
 AsksToCheck m (Files files (Json None)) = (map (λ f. f.now) files.now ≡ words_of m (codes "FILE")) × AsksForJson m
 AsksToCheck m _ = ⊥

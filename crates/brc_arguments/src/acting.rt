@@ -5,6 +5,7 @@ ghost use Rattle.brc_arguments.specs.Acts.{Ends, Stops, IsRefused, asks_for_c, a
 ghost use Rattle.clap.specs.Words.{kind_of};
 ghost use Rattle.clap.specs.declared.error.kind.ErrorKind.TheVariants.{OutOfMemory};
 
+use crate::color::ColorChoice;
 use crate::command::parse;
 use crate::not_asked::NotAsked;
 use crate::request::Request;
@@ -28,8 +29,8 @@ const USAGE: u8 = 2;
 ///
 /// The status is 2 for a wrong command line or a call for help, 3 if memory is refused, and otherwise that of
 /// `execute`, `check_files` or `judge_c`. If it isn't 0, standard error has the reason, unless the object of a file or
-/// the lines about C files give it. An error of standard error is ignored. Nobody watches: no text is coloured, and no
-/// progress is shown.
+/// the lines about C files give it. An error of standard error is ignored. Nobody watches: no text is coloured,
+/// whatever `--color` says, and no progress is shown.
 pub fn act<R: System, S: AsStr, L: Load + Save, W: Write, E: Write>(
     rt: &R,
     alloc: Global,
@@ -51,7 +52,8 @@ pub fn act<R: System, S: AsStr, L: Load + Save, W: Write, E: Write>(
     act_on(rt, alloc, words, load, &mut NoTerminal, out, err)
 }
 
-/// Does what `act` does, before somebody at a terminal.
+/// Does what `act` does, before somebody at a terminal. Its texts have the terminal's colours: `color_of` says which
+/// terminal the words ask for.
 pub fn act_on<R: System, S: AsStr, L: Load + Save, T: Terminal, W: Write, E: Write>(
     rt: &R,
     alloc: Global,
@@ -95,6 +97,15 @@ pub fn act_on<R: System, S: AsStr, L: Load + Save, T: Terminal, W: Write, E: Wri
             let _ = write_bytes(b"too many\n", err);
             USAGE
         }
+    }
+}
+
+/// Returns when the texts of a command line have colours.
+pub fn color_of<S: AsStr>(alloc: Global, words: &[S]) -> ColorChoice {
+    match parse(alloc, words) {
+        Ok(line) => line.color(),
+        // Neither an error nor help has colours.
+        Err(_) => ColorChoice::Never,
     }
 }
 

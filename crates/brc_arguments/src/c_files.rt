@@ -1,5 +1,6 @@
 //! The command over C files, and its options.
 
+use crate::color::color_argument;
 use crate::request::Request;
 use brc_c_program::{Asked, AskedFormat, AskedRules};
 use brc_command::VERSION;
@@ -107,7 +108,8 @@ fn with_switches<'a>(alloc: Global, command: Command<'a>) -> Result<Command<'a>,
                 .value_parser(FORMATS)
                 .default_value("text")
                 .help("What is written: text for people, JSON objects, or a SARIF document"),
-        )
+        )?
+        .arg(color_argument(alloc))
 }
 
 fn switch<'a>(alloc: Global, name: &'a str, help: &'a str) -> Arg<'a> {

@@ -2,15 +2,16 @@ ghost use Rattle.std.specs.Prelude.{◌≡◌, ◌↔◌, IfSome, IsTrue, map};
 ghost use Rattle.brc_arguments.specs.Options.{AsksForJson, AsksToCheck, AsksToRun, AsksToStep, words_of};
 
 use crate::c_files::{c_command, c_of};
+use crate::color::{ColorChoice, color_argument, color_in};
 use crate::not_asked::NotAsked;
 use crate::request::Request;
 use crate::unchecked::{unchecked_step_of, with_schedule, wrong_run_of};
 use brc_command::{
     Asked, Format, MOST_NAMES, MOST_ROWS, MOST_STEPS, MOST_TIMES, MOST_WORKERS, NO_BOUND, Run,
-    VERSION,
+    STANDARD_INPUT, VERSION,
 };
 use brc_lang::number;
-use brc_pages::topic_named;
+use brc_pages::{Topic, topic_named};
 use clap::error::ErrorKind;
 use clap::{Arg, ArgAction, ArgMatches, Command, value_parser};
 use std::alloc::{AllocError, Global};
@@ -19,6 +20,9 @@ use std::convert::AsStr;
 const UNKNOWN_CODE: &str = "no such code: C1 to C12 and L1 to L10 can be explained";
 
 const SIGNED: &str = "invalid value for a number: a sign or a leading zero";
+
+const OVER_INPUT: &str =
+    "invalid value for --svg: a picture takes the place of no file that is read, nor of -";
 
 /// The formats of a check.
 const FORMATS: &[&str] = &["text", JSON];
@@ -42,6 +46,17 @@ impl<'a> Line<'a> {
             Line::Command(matches) => asked_in(matches),
         }
     }
+
+    /// Returns when the texts of the command have colours.
+    pub fn color(&self) -> ColorChoice {
+        match self {
+            Line::Version => ColorChoice::Never,
+            Line::Command(matches) => match matches.subcommand() {
+                Some((_, command)) => color_in(command),
+                None => ColorChoice::Never,
+            },
+        }
+    }
 }
 
 /// Reads the words of a command line, of which the first is the program's own name.
@@ -55,12 +70,8 @@ pub fn parse<'a, S: AsStr>(alloc: Global, words: &'a [S]) -> Result<Line<'a>, No
         Err(error) if error.kind() == ErrorKind::DisplayVersion => return Ok(Line::Version),
         Err(error) => return Err(NotAsked::Usage(error)),
     };
-    if !has_plain_numbers(&matches) {
-        let error = command.error(ErrorKind::ValueValidation, SIGNED)?;
-        return Err(NotAsked::Usage(error));
-    }
-    if !has_known_code(&matches) {
-        let error = command.error(ErrorKind::ValueValidation, UNKNOWN_CODE)?;
+    if let Some(wrong) = wrong_value(&matches) {
+        let error = command.error(ErrorKind::ValueValidation, wrong)?;
         return Err(NotAsked::Usage(error));
     }
     if has_too_many_names(&matches) {
@@ -92,7 +103,14 @@ fn check_command<'a>(alloc: Global) -> Result<Command<'a>, AllocError> {
                 .num_args(1..)
                 .help("The modules' files; - is standard input"),
         )?
-        .arg(format_argument(alloc))
+        .arg(
+            Arg::new(alloc, "all")
+                .long("all")
+                .action(ArgAction::SetTrue)
+                .help("Writes a line for each function that is refused, not only for the first"),
+        )?
+        .arg(format_argument(alloc))?
+        .arg(color_argument(alloc))
 }
 
 fn run_command<'a>(alloc: Global) -> Result<Command<'a>, AllocError> {
@@ -150,8 +168,11 @@ fn run_command<'a>(alloc: Global) -> Result<Command<'a>, AllocError> {
                 .long("peer")
                 .value_name("A")
                 .action(ArgAction::Append)
-                .help("A peer, as 127.0.0.1:8080, up to 16 of them, numbered from 0"),
-        )
+                .help(
+                    "A peer, as 127.0.0.1:8080, up to 16 of them, numbered from 0; a name is a host fault",
+                ),
+        )?
+        .arg(color_argument(alloc))
 }
 
 fn step_command<'a>(alloc: Global) -> Result<Command<'a>, AllocError> {
@@ -186,19 +207,21 @@ fn step_command<'a>(alloc: Global) -> Result<Command<'a>, AllocError> {
                 .value_name("SVG")
                 .requires_arg("trace")?
                 .help("Also saves a picture of the run in this file"),
-        )
+        )?
+        .arg(color_argument(alloc))
 }
 
 fn explain_command<'a>(alloc: Global) -> Result<Command<'a>, AllocError> {
     let command = Command::new(alloc, "explain")
-        .about("Explains what the checker says of a module, or a code")
+        .about("Explains what the checker says of a module, a code, or a schedule's text")
         .after_help(
             "Example: brc explain module.brc --function f\n         brc explain module.brc --schedule\n         \
-             brc explain --code C5",
+             brc explain --schedule-file steps.schedule\n         brc explain --code C5",
         )
         .arg(
             Arg::new(alloc, "FILE")
                 .required_unless_present("code")?
+                .required_unless_present("schedule-file")?
                 .help("The module's file, or - for standard input"),
         )?
         .arg(
@@ -216,8 +239,23 @@ fn explain_command<'a>(alloc: Global) -> Result<Command<'a>, AllocError> {
                 .conflicts_with("format")?
                 .help("A code to explain: C1 to C12, or L1 to L10"),
         )?
-        .arg(format_argument(alloc))?;
+        .arg(schedule_file_argument(alloc)?)?
+        .arg(format_argument(alloc))?
+        .arg(color_argument(alloc))?;
     with_schedule(alloc, command)
+}
+
+fn schedule_file_argument<'a>(alloc: Global) -> Result<Arg<'a>, AllocError> {
+    Ok(
+        Arg::new(alloc, "schedule-file")
+            .long("schedule-file")
+            .value_name("SCHEDULE")
+            .conflicts_with("FILE")?
+            .conflicts_with("function")?
+            .conflicts_with("code")?
+            .conflicts_with("format")?
+            .help("A schedule's file to explain, or - for standard input"),
+    )
 }
 
 fn format_argument<'a>(alloc: Global) -> Arg<'a> {
@@ -259,6 +297,9 @@ fn check_of<'m>(check: &'m ArgMatches<'_>) -> Option<Request<'m>>
     if is_json(check) {
         return Some(Request::Files(files, Format::Json { function: None }));
     }
+    if check.get_flag("all") {
+        return Some(Request::Files(files, Format::All));
+    }
     if files.len() == 1 {
         let file = check.get_str("FILE")?;
         return Some(Request::One(Asked::Check { file }));
@@ -294,8 +335,11 @@ fn step_of<'m>(step: &'m ArgMatches<'_>) -> Option<Asked<'m>>
 
 fn explanation_in<'m>(explain: &'m ArgMatches<'_>) -> Option<Request<'m>> {
     if let Some(code) = explain.get_str("code") {
-        let topic = topic_named(code.as_bytes())?;
+        let topic = topic_of(code)?;
         return Some(Request::One(Asked::Page { topic }));
+    }
+    if let Some(file) = explain.get_str("schedule-file") {
+        return Some(Request::One(Asked::ExplainSchedule { file }));
     }
     if explain.get_flag("schedule") {
         return wrong_run_of(explain);
@@ -309,12 +353,46 @@ fn explanation_in<'m>(explain: &'m ArgMatches<'_>) -> Option<Request<'m>> {
     Some(Request::One(Asked::Explain { file, function }))
 }
 
+/// Returns what is wrong with a value that clap takes, if one is wrong.
+fn wrong_value(matches: &ArgMatches) -> Option<&'static str> {
+    if !has_plain_numbers(matches) {
+        Some(SIGNED)
+    } else if !has_known_code(matches) {
+        Some(UNKNOWN_CODE)
+    } else if draws_over_input(matches) {
+        Some(OVER_INPUT)
+    } else {
+        None
+    }
+}
+
+/// Returns whether the picture has the name of standard input or of a file that is read.
+fn draws_over_input(matches: &ArgMatches) -> bool {
+    let Some(step) = matches.subcommand_matches("step") else {
+        return false;
+    };
+    let picture = step.get_str("svg");
+    picture.is_some()
+        && (picture == Some(STANDARD_INPUT)
+            || picture == step.get_str("FILE")
+            || picture == step.get_str("SCHEDULE"))
+}
+
+/// Returns the topic of a code, whose letter may be a small one.
+fn topic_of(code: &str) -> Option<Topic> {
+    match code.as_bytes() {
+        [letter, digit] => topic_named(&[letter.to_ascii_uppercase(), *digit]),
+        [letter, first, second] => topic_named(&[letter.to_ascii_uppercase(), *first, *second]),
+        _ => None,
+    }
+}
+
 fn has_known_code(matches: &ArgMatches) -> bool {
     let Some(explain) = matches.subcommand_matches("explain") else {
         return true;
     };
     match explain.get_str("code") {
-        Some(code) => topic_named(code.as_bytes()).is_some(),
+        Some(code) => topic_of(code).is_some(),
         None => true,
     }
 }

@@ -3,9 +3,11 @@
 
 mod acting;
 mod c_files;
+mod color;
 mod command;
 mod not_asked;
 mod request;
 mod unchecked;
 
-pub use acting::{act, act_on};
+pub use acting::{act, act_on, color_of};
+pub use color::ColorChoice;

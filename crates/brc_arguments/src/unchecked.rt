@@ -13,6 +13,7 @@ pub fn with_schedule<'a>(alloc: Global, command: Command<'a>) -> Result<Command<
                 .long("schedule")
                 .action(ArgAction::SetTrue)
                 .conflicts_with("code")?
+                .conflicts_with("schedule-file")?
                 .conflicts_with("function")?
                 .conflicts_with("format")?
                 .help(

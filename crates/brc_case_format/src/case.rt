@@ -9,6 +9,10 @@ pub enum Answer {
     NoMemory,
     /// It can't be saved.
     Full,
+    /// It can't be read, because it is a folder.
+    Folder,
+    /// It can't be read, because there is no permission.
+    Forbidden,
 }
 
 /// A file that a command finds.

@@ -156,6 +156,8 @@ impl Reader {
             "" => Answer::Text,
             "no memory" => Answer::NoMemory,
             "full" => Answer::Full,
+            "folder" => Answer::Folder,
+            "no permission" => Answer::Forbidden,
             _ => return Err(Why::WrongWords),
         };
         let file = CaseFile {

@@ -1,7 +1,7 @@
 use crate::shelf::Shelf;
 use crate::window::Window;
 use anyhow::Result;
-use brc_arguments::act_on;
+use brc_arguments::{act_on, color_of};
 use brc_case_format::{Case, Stream};
 use brc_run::System;
 use std::alloc::{AllocError, Global};
@@ -55,7 +55,8 @@ fn difference_of<R: System + AllocGlobal>(rt: &R, case: &Case) -> Result<String,
     let mut out: Vec<u8> = Vec::new(alloc);
     let mut err: Vec<u8> = Vec::new(alloc);
     let mut shelf = Shelf::new(alloc, case);
-    let mut window = Window::new(alloc, case.is_terminal);
+    let colors = color_of(alloc, words.as_slice()).colors(case.is_terminal);
+    let mut window = Window::new(alloc, case.is_terminal, colors);
     let status = act_on(
         rt,
         alloc,

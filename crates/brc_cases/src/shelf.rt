@@ -1,7 +1,7 @@
-ghost use Rattle.std.specs.Prelude.{⊤};
+ghost use Rattle.std.specs.Prelude.{◌≡◌, ⊤, Ok, false};
 
 use brc_case_format::{Answer, Case};
-use brc_command::{Load, LoadError, Save, SaveError};
+use brc_command::{Load, LoadError, Save, SaveError, Unread, shorten_lines};
 use std::alloc::{AllocError, Global};
 
 /// The files of a case, and those that a command has saved.
@@ -10,6 +10,8 @@ pub struct Shelf<'c> {
     alloc: Global,
     case: &'c Case,
     saved: Vec<(String, Vec<u8>)>,
+    /// Why the last file couldn't be read.
+    why: Option<Unread>,
 }
 
 impl<'c> Shelf<'c> {
@@ -18,6 +20,7 @@ impl<'c> Shelf<'c> {
             alloc,
             case,
             saved: Vec::new(alloc),
+            why: None,
         }
     }
 
@@ -42,6 +45,13 @@ impl<'c> Shelf<'c> {
         found
     }
 
+    fn refuse(&mut self, why: Unread) -> Result<bool, LoadError>
+        ensures { result ≡ Ok false → ⊥ }
+    {
+        self.why = Some(why);
+        Err(LoadError::Unreadable)
+    }
+
     fn keep(&mut self, path: &str, bytes: &[u8]) -> Result<(), AllocError> {
         let name = String::from_str(self.alloc, path)?;
         let bytes = Vec::from_slice(self.alloc, bytes)?;
@@ -58,12 +68,26 @@ impl Load for Shelf<'_> {
     fn load_more(&mut self, path: &str, bytes: &mut Vec<u8>) -> Result<bool, LoadError> {
         match self.find(path) {
             Some((Answer::NoMemory, _)) => Err(LoadError::NoMemory),
-            Some((_, text)) => match bytes.extend_from_slice(text) {
+            Some((Answer::Folder, _)) => self.refuse(Unread::Folder),
+            Some((Answer::Forbidden, _)) => self.refuse(Unread::Forbidden),
+            Some((Answer::Text | Answer::Full, text)) => match bytes.extend_from_slice(text) {
                 Ok(()) => Ok(true),
                 Err(_) => Err(LoadError::NoMemory),
             },
-            None => Err(LoadError::Unreadable),
+            None => self.refuse(Unread::Missing),
         }
+    }
+
+    // Shortened as a file of the system is.
+    fn load_lines(&mut self, path: &str, bytes: &mut Vec<u8>) -> Result<bool, LoadError> {
+        let before = bytes.len();
+        let ended = self.load_more(path, bytes)?;
+        shorten_lines(bytes, before);
+        Ok(ended || bytes.len() <= before)
+    }
+
+    fn why(&self) -> Option<Unread> {
+        self.why
     }
 }
 

@@ -1,6 +1,6 @@
 ghost use Rattle.std.specs.Prelude.{◌≡◌};
 
-use brc_command::Terminal;
+use brc_command::{CHANGED_NOTHING, Terminal};
 use brc_report::Paint;
 use brc_work::Gate;
 use std::alloc::{AllocError, Global};
@@ -12,21 +12,29 @@ const WIPED: &str = "\r\x1b[K";
 #[derive(Drop)]
 pub struct Window {
     alloc: Global,
+    is_there: bool,
     paint: Paint,
     /// All that standard error showed.
     shown: String,
     /// Whether a number is shown.
     is_covered: bool,
+    /// How many claims and stops have changed nothing.
+    no_ops: u64,
+    /// How many seconds have passed: one with each number of states.
+    seconds: u64,
 }
 
 impl Window {
-    /// Returns a terminal, or none.
-    pub fn new(alloc: Global, is_there: bool) -> Window {
+    /// Returns a terminal, or none. Texts may have colours in either case.
+    pub fn new(alloc: Global, is_there: bool, colors: bool) -> Window {
         Window {
             alloc,
-            paint: if is_there { Paint::Ansi } else { Paint::Plain },
+            is_there,
+            paint: if colors { Paint::Ansi } else { Paint::Plain },
             shown: String::new(alloc),
             is_covered: false,
+            no_ops: 0,
+            seconds: 0,
         }
     }
 
@@ -37,9 +45,15 @@ impl Window {
 
     /// Shows a number in place of the one before.
     fn show(&mut self, number: u64, what: &str) {
-        if self.paint == Paint::Ansi && self.add(number, what).is_ok() {
+        if self.is_there && self.add(number, what).is_ok() {
             self.is_covered = true;
         }
+    }
+
+    fn say_no_ops(&mut self) -> Result<(), AllocError> {
+        let no_ops = self.no_ops;
+        let line = format!(in self.alloc; "{no_ops} {CHANGED_NOTHING}\n")?;
+        self.shown.push_str(line.as_str())
     }
 
     fn add(&mut self, number: u64, what: &str) -> Result<(), AllocError> {
@@ -65,7 +79,12 @@ impl Terminal for Window {
         self.show(steps, "steps");
     }
 
+    fn no_op(&mut self) {
+        self.no_ops = self.no_ops.saturating_add(1);
+    }
+
     fn visited(&mut self, states: u64) {
+        self.seconds = self.seconds.saturating_add(1);
         self.show(states, "states");
     }
 
@@ -79,7 +98,7 @@ impl Terminal for Window {
     }
 
     fn passed(&self) -> u64 {
-        0
+        self.seconds
     }
 
     fn clear(&mut self) {
@@ -87,5 +106,9 @@ impl Terminal for Window {
             self.is_covered = false;
             let _ = self.shown.push_str(WIPED);
         }
+        if self.paint == Paint::Ansi && self.no_ops > 0 {
+            let _ = self.say_no_ops();
+        }
+        self.no_ops = 0;
     }
 }

@@ -2,15 +2,16 @@
 use Rattle.std.proofs.Common.{ℕ, List, Option, Bool, option_map, inl, inr}
 use Rattle.std.specs.Borrow.{Bor}
 use Rattle.brc_command.specs.declared.files.Format.{Format}
-use Rattle.brc_command.specs.declared.files.Format.TheVariants.{Text as InLines, Json}
+use Rattle.brc_command.specs.declared.files.Format.TheVariants.{All as AllLines, Text as InLines, Json}
 use Rattle.brc_command.specs.declared.finding.Finding.{Finding}
-use Rattle.brc_command.specs.declared.finding.Finding.TheVariants.{Accepted, Refused as IsRefused, Stopped}
+use Rattle.brc_command.specs.declared.finding.Finding.TheVariants.{Accepted, Refused as IsRefused, Unreadable, Stopped}
 use Rattle.brc_command.specs.declared.step_fault.StepFault.TheVariants.{Text, Plan, Refused, NoFunction, NoMemory}
 use Rattle.brc_command.specs.declared.step_fault.StepFault.TheVariants.{Output}
 use Rattle.brc_command.specs.declared.stop.Stop.{Stop}
 use Rattle.brc_command.specs.declared.stop.Stop.TheVariants.{UnreadableFile, NoFunction as Unknown, NoThread, Fault}
 use Rattle.brc_command.specs.Commands.{HasCheckReport, IsModuleReason}
 use Rattle.brc_command.specs.Files.{Outcome, IsReported, IsStoppedAt, IsNamedLine, IsObject, IsOutcome}
+use Rattle.brc_command.specs.Files.{AreRefusalLinesOf, IsRefusedIn}
 use Rattle.brc_command.specs.Findings.{IsFinding, finding_status}
 
 reported_by : (P Q : List ℕ → Type 0) (status : ℕ) (o : Outcome) → ((text : List ℕ) → P text → Q text)
@@ -62,6 +63,7 @@ module _ (gives later_gives : List ℕ → List ℕ → Type 0) (lacks later_lac
       → IsFinding later_gives later_lacks file only finding → IsFinding gives lacks file only finding
   finding_now file only Accepted is = (is.0, gives_no_more file is.0 is.1, is.2)
   finding_now file only (IsRefused found) is = (is.0, gives_no_more file is.0 is.1, is.2)
+  finding_now file only (Unreadable unread) is = (is.0, gives_no_more file is.0 is.1, is.2)
   finding_now file only (Stopped UnreadableFile) is = lacks_no_more file is
   finding_now file only (Stopped (Unknown name)) is = (is.0, gives_no_more file is.0 is.1, is.2)
   finding_now file only (Stopped NoThread) is = (is.0, gives_no_more file is.0 is.1, is.2)
@@ -76,11 +78,34 @@ module _ (gives later_gives : List ℕ → List ℕ → Type 0) (lacks later_lac
       → IsObject later_gives later_lacks file only finding text → IsObject gives lacks file only finding text
   object_now file only finding text is = (finding_now file only finding is.0, is.1)
 
+  lines_now : (named : Bool) (file text : List ℕ) → AreRefusalLinesOf later_gives named file text
+      → AreRefusalLinesOf gives named file text
+  lines_now named file text are = record {
+    module_text = are.module_text;
+    m = are.m;
+    given = gives_no_more file are.module_text are.given;
+    spelled = are.spelled;
+    lines = are.lines;
+  }
+
+  refused_now : (named : Bool) (o : Outcome) → IsRefusedIn later_gives named o → IsRefusedIn gives named o
+  refused_now named o is = record {
+    text = is.text;
+    lines = lines_now named o.file is.text is.lines;
+    same_status = is.same_status;
+    line = is.line;
+    unwritten = is.unwritten;
+  }
+
   pub outcome_now : (named : Bool) (format : Format) (o : Outcome) → IsOutcome later_gives later_lacks named format o
       → IsOutcome gives lacks named format o
   outcome_now named InLines o (inl is) = inl (reported_by _ _ 0 o (line_now named o.file) is)
   outcome_now named InLines o (inr is) =
       inr (stopped_by named _ _ _ _ o (line_now named o.file) (reason_now o.file) is)
+  outcome_now named AllLines o (inl is) = inl (reported_by _ _ 0 o (line_now named o.file) is)
+  outcome_now named AllLines o (inr (inl is)) =
+      inr (inl (stopped_by named _ _ _ _ o (line_now named o.file) (reason_now o.file) is))
+  outcome_now named AllLines o (inr (inr is)) = inr (inr (refused_now named o is))
   outcome_now named (Json function) o (inl is) =
       let only = option_map (λ (name : Bor (List ℕ)). name.now) function in
       inl (is.0, reported_by _ _ (finding_status is.0) o (object_now o.file only is.0) is.1)

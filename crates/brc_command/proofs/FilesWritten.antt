@@ -13,6 +13,7 @@ use Rattle.brc_command.specs.declared.stop.Stop.{Stop}
 use Rattle.brc_command.specs.declared.stop.Stop.TheVariants.{UnreadableFile, NoFunction as Unknown, NoThread, Fault}
 use Rattle.brc_command.specs.Commands.{Reports, LeavesReport}
 use Rattle.brc_command.specs.Files.{Outcome, prefix, IsStoppedAt, IsWritten, AreWritten, greatest}
+use Rattle.brc_command.specs.Files.{AreRefusalLinesOf, IsRefusedIn}
 use Rattle.brc_command.specs.Lines.{stop_text, stop_status}
 use Rattle.brc_command.proofs.Writing.{both_written, nothing_written}
 
@@ -96,6 +97,28 @@ module _ (file : List ℕ) (old new err_old err_new : Option (List ℕ)) (is_rep
       same_status = refl;
     }
   ]
+
+  -- the lines of refusals are written
+  pub refused : (gives : List ℕ → List ℕ → Type 0) (named : Bool) (text : List ℕ)
+      → ((line : List ℕ)
+      → IsRefusedIn gives named (record { file = file; report = []; line = line; status = 1 })
+      → is_outcome (record { file = file; report = []; line = line; status = 1 }))
+      → AreRefusalLinesOf gives named file text → new ≡ old → AppendsBeginning err_old err_new text
+      → IsWritten is_outcome file old new err_old err_new 1
+  refused gives named text outcome lines unwritten begun = record {
+    outcome = record { file = file; report = []; line = begun.front; status = 1 };
+    same_file = refl;
+    is = outcome begun.front (record {
+      text = text;
+      lines = lines;
+      same_status = refl;
+      line = (begun.rest, begun.parts);
+      unwritten = refl;
+    });
+    reported = subst (λ (o : Option (List ℕ)). Appends old o []) (sym unwritten) (nothing_written old);
+    lines = begun.appended;
+    same_status = refl;
+  }
 
 -- what is written fits a wider outcome, too
 pub widened : (P Q : Outcome → Type 0) (file : List ℕ) (old new err_old err_new : Option (List ℕ)) (status : ℕ)

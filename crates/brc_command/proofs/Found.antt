@@ -22,7 +22,7 @@ use Rattle.brc_model.specs.SlotStates.{lowest, after, target, entry_of}
 use Rattle.brc_check.specs.declared.refused.Refused.{Refused as Refusal}
 use Rattle.brc_check.specs.Refusal.{IsReported, IsRefusedFor}
 use Rattle.brc_command.specs.declared.finding.Finding.{Finding}
-use Rattle.brc_command.specs.declared.finding.Finding.TheVariants.{Accepted, Refused as IsRefused, Stopped}
+use Rattle.brc_command.specs.declared.finding.Finding.TheVariants.{Accepted, Refused as IsRefused, Unreadable, Stopped}
 use Rattle.brc_command.specs.declared.load.LoadError.{LoadError}
 use Rattle.brc_command.specs.declared.load.LoadError.TheVariants as loads
 use Rattle.brc_command.specs.declared.step_fault.StepFault.{StepFault}
@@ -66,10 +66,13 @@ module _ (gives : List ℕ → List ℕ → Type 0) (lacks : List ℕ → Type 0
         refusal = is.0.refusal;
         line = is.0.line;
         steps = is.0.steps;
+        others = is.0.others;
       },
       has_only is.1,
     ),
   )
+  found (Unreadable unread) is =
+      (read.text, read.given, read.faulty unread.fault.line unread.fault.code is)
   found (Stopped UnreadableFile) is = absurd is
   found (Stopped (Unknown name)) is =
       (read.text, read.given, (is.0, (is.1.0, read.spelled is.1.0 is.1.1, is.1.2)))

@@ -11,7 +11,7 @@ use Rattle.brc_command.specs.declared.stop.Stop.{Stop}
 use Rattle.brc_command.specs.declared.stop.Stop.TheVariants.{UnreadableFile, NoFunction as Unknown, NoThread, Fault}
 use Rattle.brc_command.specs.Commands.{IsModuleFault, IsModuleReason, IsExplainReason, IsStepReason, AreAtFault}
 use Rattle.brc_command.specs.Explanations.{Subject, Code, UnreadableText, AcceptedModule, RefusedModule}
-use Rattle.brc_command.specs.Explanations.{IsAccepted, IsAbout, IsUnexplained, fault_of}
+use Rattle.brc_command.specs.Explanations.{ScheduleText, IsAccepted, IsAbout, IsUnexplained, fault_of}
 use Rattle.brc_command.specs.Loading.{ReadsAsModule, ReadsAsSchedule}
 use Rattle.brc_command.specs.Texts.{IsReady, IsFaultOfTexts}
 
@@ -50,6 +50,7 @@ module _ (gives : List ℕ → List ℕ → Type 0) (lacks : List ℕ → Type 0
   explained_fault only (RefusedModule m r number) e about ends =
       subst (λ (g : StepFault). IsExplainReason gives lacks file only (Fault g)) (sym (same_fault ends))
       (module_reason (Refused r) (m, about.0, about.1))
+  explained_fault only (ScheduleText text fault) e about ends = absurd about
 
   pub unexplained : (only : Option (List ℕ)) (stop : Stop) → IsUnexplained bytes only stop
       → IsExplainReason gives lacks file only stop

@@ -10,12 +10,15 @@ mod LastTally
 mod Leaving
 mod ReadFiles
 mod Reasons
+mod RefusalLines
 mod Reports
 mod Rerunning
 mod RightSteps
 mod RunsFound
+mod SchedulesExplained
 mod Machines
 mod ObjectTexts
+mod Others
 mod Outputs
 mod TakingLines
 mod Traced

@@ -57,6 +57,11 @@ ends_before r old new Whole ended = absurd ended
 ends_before r old new (Wrong text) ended = ended
 ends_before r old new (Beyond number) ended = ended
 
+pub ends_unwritten : {E : Type 0} (r : Rerun) (old new : Option (List ℕ)) (result : Result Ending E)
+    → IfOk result (EndsBefore r) → IfOk result (RunEnds r old new)
+ends_unwritten r old new (Ok ending) ended = ends_before r old new ending ended
+ends_unwritten r old new (Err e) ended = tt
+
 -- not all steps are taken
 pub ended_before : (r : Rerun) (now : StepMachine) (old mid new : Option (List ℕ)) (found : Option Ending)
     (ending : Ending) → found ≡ Some ending → StepsEnd r now old mid found → RunEnds r old new ending

@@ -1,14 +1,13 @@
 -- What is written of the runs of a file's module.
 use Rattle.std.proofs.Common.{◌≡◌, ℕ, List, Option, Some, inl, inr, ◌⊎◌, arith}
 use Rattle.std.specs.Prelude.{None}
-use Rattle.std.specs.Io.KnownBytes.{Appends}
 use Rattle.brc_command.specs.declared.step_fault.StepFault.{StepFault}
 use Rattle.brc_command.specs.declared.step_fault.StepFault.TheVariants.{Text, Plan, Refused, NoFunction, NoMemory}
 use Rattle.brc_command.specs.declared.step_fault.StepFault.TheVariants.{Output}
 use Rattle.brc_command.specs.declared.stop.Stop.{Stop}
 use Rattle.brc_command.specs.declared.stop.Stop.TheVariants.{UnreadableFile, NoFunction as Unknown, NoThread, Fault}
 use Rattle.brc_command.specs.Lines.{stop_status}
-use Rattle.brc_command.specs.Commands.{BeginsReport, Reports}
+use Rattle.brc_command.specs.Commands.{BeginsReport}
 use Rattle.brc_command.specs.Loading.{ReadsAsModule}
 use Rattle.brc_lang.specs.Written.{AppendsBeginning}
 use Rattle.brc_command.specs.WrongRuns.{HasFound, HasNone, IsFoundBy, IsFoundOf, IsNoneOf, IsUnread, LeavesFound}
@@ -40,18 +39,18 @@ module _ (gives : List ℕ → List ℕ → Type 0) (file bytes : List ℕ) (wor
   leaves_nothing NoMemory old new unread same = same
   leaves_nothing Output old new unread same = absurd unread
 
-  -- the whole text is written
+  -- a beginning of the text is written, and the module is refused
   pub leaves_found : (e : StepFault) (text : List ℕ) (old new : Option (List ℕ))
-      → IsFoundBy bytes workers rows (Some e) text → Appends old new text
+      → IsFoundBy bytes workers rows (Some e) text → AppendsBeginning old new text
       → LeavesFound (HasNone gives file) (HasFound gives file workers rows) (Fault e) old new
-  leaves_found (Text e) text old new found appended = absurd found
-  leaves_found (Plan e) text old new found appended = absurd found
-  leaves_found (Refused r) text old new found appended = (text, has_found text found, appended)
-  leaves_found (NoFunction name) text old new found appended = absurd found
-  leaves_found NoMemory text old new found appended = absurd found
-  leaves_found Output text old new found appended = absurd found
+  leaves_found (Text e) text old new found begun = absurd found
+  leaves_found (Plan e) text old new found begun = absurd found
+  leaves_found (Refused r) text old new found begun = (text, has_found text found, begun)
+  leaves_found (NoFunction name) text old new found begun = absurd found
+  leaves_found NoMemory text old new found begun = absurd found
+  leaves_found Output text old new found begun = absurd found
 
-  -- a beginning of the text is written
+  -- a beginning of the text is written, and the writer returned an error
   pub leaves_beginning : (fault : Option StepFault) (text : List ℕ) (old new : Option (List ℕ))
       → IsFoundBy bytes workers rows fault text → AppendsBeginning old new text
       → BeginsReport (HasNone gives file) old new ⊎ BeginsReport (HasFound gives file workers rows) old new
@@ -65,7 +64,7 @@ module _ (gives : List ℕ → List ℕ → Type 0) (file bytes : List ℕ) (wor
 
 -- a stop with status 1 is a refusal
 pub refused_only : (is_none is_found : List ℕ → Type 0) (stop : Stop) (old new : Option (List ℕ))
-    → stop_status stop ≡ 1 → LeavesFound is_none is_found stop old new → Reports is_found old new
+    → stop_status stop ≡ 1 → LeavesFound is_none is_found stop old new → BeginsReport is_found old new
 refused_only is_none is_found UnreadableFile old new is left = absurd (omega (arith, is))
 refused_only is_none is_found (Unknown name) old new is left = absurd (omega (arith, is))
 refused_only is_none is_found NoThread old new is left = absurd (omega (arith, is))

@@ -16,6 +16,7 @@ use Rattle.brc_command.specs.declared.asked.Asked.{Asked}
 use Rattle.brc_command.specs.declared.asked.Asked.TheVariants.{Run as ToRun, Check as ToCheck, Step as ToStep, Draw as ToDraw}
 use Rattle.brc_command.specs.declared.asked.Asked.TheVariants.{Version}
 use Rattle.brc_command.specs.declared.asked.Asked.TheVariants.{Explain as ToExplain, Page as ToPage}
+use Rattle.brc_command.specs.declared.asked.Asked.TheVariants.{ExplainSchedule as ToExplainSchedule}
 use Rattle.brc_command.specs.declared.asked.Run.{Run}
 use Rattle.brc_command.specs.declared.step_fault.StepFault.{StepFault}
 use Rattle.brc_command.specs.declared.step_fault.StepFault.TheVariants.{Text, Refused, NoMemory, Output}
@@ -26,6 +27,7 @@ use Rattle.brc_command.specs.Calls.{can_call, calls_named}
 use Rattle.brc_command.specs.Explanations.{Subject, Code, IsAccepted, IsExplained, LacksNamed, says_anything}
 use Rattle.brc_command.specs.Loading.{ReadsAsModule}
 use Rattle.brc_command.specs.Lines.{stop_text, stop_status, version_text}
+use Rattle.brc_command.specs.ScheduleExplanations.{HasScheduleExplanation, IsScheduleReason}
 use Rattle.brc_command.specs.Texts.{IsReady, IsFaultOfTexts, report}
 use Rattle.brc_command.specs.Traces.{traced_report}
 
@@ -97,6 +99,7 @@ HasReportBy says gives paint (ToStep file schedule true) text = HasTraceReport g
 HasReportBy says gives paint (ToDraw file schedule picture) text = HasTraceReport gives paint file.now schedule.now text
 HasReportBy says gives paint (ToExplain file function) text =
     HasExplanation says gives file.now (option_map (λ name. name.now) function) None text
+HasReportBy says gives paint (ToExplainSchedule file) text = HasScheduleExplanation says gives file.now None text
 HasReportBy says gives paint (ToPage topic) text = says (Code topic) text
 HasReportBy says gives paint Version text = text ≡ version_text
 
@@ -173,6 +176,7 @@ IsReason gives lacks (ToStep file schedule trace) stop = IsStepReason gives lack
 IsReason gives lacks (ToDraw file schedule picture) stop = IsStepReason gives lacks file.now schedule.now stop
 IsReason gives lacks (ToExplain file function) stop =
     IsExplainReason gives lacks file.now (option_map (λ name. name.now) function) stop
+IsReason gives lacks (ToExplainSchedule file) stop = IsScheduleReason gives lacks file.now stop
 IsReason gives lacks (ToPage topic) stop = IsPageReason stop
 IsReason gives lacks Version stop = stop ≡ Fault Output
 
@@ -197,13 +201,13 @@ pub record LeavesReport (is_report : List ℕ → Type 0) (stop : Stop) (old new
   pub begun : stop ≡ Fault Output → BeginsReport is_report old new
 
 -- standard output after an explanation that stops: a text that can't be read and a module that is refused are explained
--- too
+-- too, and of that explanation a prefix is there if the writer returned an error
 abbrev pub LeavesExplanation : (Option StepFault → List ℕ → Type 0) → Stop → Option (List ℕ) → Option (List ℕ)
     → Type 0
 LeavesExplanation is_explanation (Fault NoMemory) old new = new ≡ old
 LeavesExplanation is_explanation (Fault Output) old new = (fault : Option StepFault)
     × BeginsReport (is_explanation fault) old new
-LeavesExplanation is_explanation (Fault e) old new = Reports (is_explanation (Some e)) old new
+LeavesExplanation is_explanation (Fault e) old new = BeginsReport (is_explanation (Some e)) old new
 LeavesExplanation is_explanation stop old new = new ≡ old
 
 -- standard output after a trace that stops: if memory was refused, it may have a prefix of the report too
@@ -216,6 +220,8 @@ abbrev pub LeavesBy : (Subject → List ℕ → Type 0) → (List ℕ → List �
     → Option (List ℕ) → Option (List ℕ) → Type 0
 LeavesBy says gives paint (ToExplain file function) stop old new =
     LeavesExplanation (HasExplanation says gives file.now (option_map (λ name. name.now) function)) stop old new
+LeavesBy says gives paint (ToExplainSchedule file) stop old new =
+    LeavesExplanation (HasScheduleExplanation says gives file.now) stop old new
 LeavesBy says gives paint (ToStep file schedule true) stop old new =
     LeavesTrace (HasTraceReport gives paint file.now schedule.now) stop old new
 LeavesBy says gives paint (ToDraw file schedule picture) stop old new =

@@ -39,28 +39,31 @@ IsUnknownIn m only _ = ⊥
 abbrev pub number_in : Module → Option (List ℕ) → Option ℕ
 number_in m only = option_map (λ name. position_or_len (is_named name) m.functions) only
 
--- what an explanation is about: a code; bytes that can't be read; or a module, with the number of the function for
--- which it asks
+-- what an explanation is about: a code; bytes that can't be read; a module, with the number of the function for which
+-- it asks; or bytes that spell a schedule, or have a fault as one
 pub data Subject : Type 0 where
   Code : (topic : Topic) → Subject
   UnreadableText : (bytes : List ℕ) (fault : ReadFault) → Subject
   AcceptedModule : (m : Module) (only : Option ℕ) → Subject
   RefusedModule : (m : Module) (refused : Refused) (only : Option ℕ) → Subject
+  ScheduleText : (bytes : List ℕ) (fault : Option ReadFault) → Subject
 
--- the subject of an explanation of bytes
+-- the subject of an explanation of bytes as a module
 abbrev pub IsAbout : List ℕ → Option (List ℕ) → Subject → Type 0
 IsAbout bytes only (Code topic) = ⊥
 IsAbout bytes only (UnreadableText text e) = (text ≡ bytes) × HasFault bytes e.line e.code
 IsAbout bytes only (AcceptedModule m number) = IsAccepted bytes m × HasOnly m only × (number ≡ number_in m only)
 IsAbout bytes only (RefusedModule m r number) = Spells bytes m × IsRefusedFor m.functions r
     × (number ≡ number_in m only)
+IsAbout bytes only (ScheduleText text fault) = ⊥
 
--- the fault with which an explanation of the subject ends
+-- the fault with which an explanation of the subject ends, if it is a module's
 abbrev pub fault_of : Subject → Option StepFault
 fault_of (Code topic) = None
 fault_of (UnreadableText text e) = Some (Text e)
 fault_of (AcceptedModule m number) = None
 fault_of (RefusedModule m r number) = Some (RefusedFor r)
+fault_of (ScheduleText text fault) = None
 
 -- The text is what an explainer says of the bytes, and the explanation ends with the fault. `says subject text`: the
 -- explainer may say so of the subject.

@@ -4,15 +4,20 @@ use Rattle.std.specs.Prelude.{length, nat_lt, option_map, codes}
 use Rattle.std.specs.Borrow.{Bor}
 use Rattle.std.specs.Io.KnownBytes.{Appends}
 use Rattle.std.specs.List.{AllByRecursion}
+use Rattle.brc_lang.specs.declared.module.Function.{Function}
+use Rattle.brc_lang.specs.declared.module.Module.{Module}
+use Rattle.brc_lang.specs.Grammar.{Spells}
+use Rattle.brc_check.specs.declared.refused.Refused.{Refused}
+use Rattle.brc_check.specs.Refusal.{IsRefusedFor}
 use Rattle.brc_command.specs.declared.files.Format.{Format}
-use Rattle.brc_command.specs.declared.files.Format.TheVariants.{Text, Json}
+use Rattle.brc_command.specs.declared.files.Format.TheVariants.{Text, All, Json}
 use Rattle.brc_command.specs.declared.finding.Finding.{Finding}
 use Rattle.brc_command.specs.declared.step_fault.StepFault.TheVariants.{NoMemory, Output}
 use Rattle.brc_command.specs.declared.stop.Stop.{Stop}
 use Rattle.brc_command.specs.declared.stop.Stop.TheVariants.{Fault}
 use Rattle.brc_command.specs.Commands.{HasCheckReport, IsModuleReason}
 use Rattle.brc_command.specs.Findings.{IsFinding, finding_status}
-use Rattle.brc_command.specs.Lines.{stop_text, stop_status}
+use Rattle.brc_command.specs.Lines.{refused_text, stop_text, stop_status}
 use Rattle.brc_command.specs.Objects.{IsObjectLine}
 
 -- what is written of one file on standard output and on standard error, and its status
@@ -66,9 +71,45 @@ IsSomeObject gives lacks file only text = (finding : Finding) × IsObject gives 
 abbrev pub IsWriteReason : Stop → Type 0
 IsWriteReason stop = (stop ≡ Fault NoMemory) ⊎ (stop ≡ Fault Output)
 
+-- a line for each refusal, in their order
+abbrev pub refusal_lines : Bool → List ℕ → List Refused → List ℕ
+refusal_lines named file refusals = flat_map (λ r. prefix named file ++ refused_text r) refusals
+
+-- the line is that of a refusal of one of the functions
+abbrev pub IsRefusalLine : List Function → Bool → List ℕ → List ℕ → Type 0
+IsRefusalLine functions named file text = (r : Refused) × IsRefusedFor functions r
+    × (text ≡ prefix named file ++ refused_text r)
+
+-- the lines of a refusal and of others, each of one of the functions
+pub record AreRefusalLines (functions : List Function) (named : Bool) (file text : List ℕ) : Type 0 where
+  pub first : Refused
+  pub is : IsRefusedFor functions first
+  pub others : List Refused
+  pub each : AllByRecursion (IsRefusedFor functions) others
+  pub lines : text ≡ (prefix named file ++ refused_text first) ++ refusal_lines named file others
+
+-- the lines of refusals of the file's module
+pub record AreRefusalLinesOf (gives : List ℕ → List ℕ → Type 0) (named : Bool) (file text : List ℕ) : Type 0 where
+  pub module_text : List ℕ
+  pub m : Module
+  pub given : gives file module_text
+  pub spelled : Spells module_text m
+  pub lines : AreRefusalLines m.functions named file text
+
+-- the module is refused; at least a prefix of the lines of its refusals is on standard error
+pub record IsRefusedIn (gives : List ℕ → List ℕ → Type 0) (named : Bool) (o : Outcome) : Type 0 where
+  pub text : List ℕ
+  pub lines : AreRefusalLinesOf gives named o.file text
+  pub same_status : o.status ≡ 1
+  pub line : IsPrefix o.line text
+  pub unwritten : o.report ≡ []
+
 abbrev pub IsOutcome : (List ℕ → List ℕ → Type 0) → (List ℕ → Type 0) → Bool → Format → Outcome → Type 0
 IsOutcome gives lacks named Text o = IsReported (IsNamedLine gives named o.file) 0 o
     ⊎ IsStoppedAt named (IsModuleReason gives lacks o.file) (IsNamedLine gives named o.file) o
+IsOutcome gives lacks named All o = IsReported (IsNamedLine gives named o.file) 0 o
+    ⊎ IsStoppedAt named (IsModuleReason gives lacks o.file) (IsNamedLine gives named o.file) o
+    ⊎ IsRefusedIn gives named o
 IsOutcome gives lacks named (Json function) o =
     ((finding : Finding) × IsReported (IsObject gives lacks o.file (option_map (λ name. name.now) function) finding)
     (finding_status finding) o)

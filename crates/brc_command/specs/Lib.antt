@@ -8,6 +8,7 @@ pub mod Findings
 pub mod Lines
 pub mod Loading
 pub mod Objects
+pub mod ScheduleExplanations
 pub mod Texts
 pub mod Traces
 pub mod Reruns

@@ -1,5 +1,6 @@
 -- What is shown of the runs of a module that the checker may refuse.
-use Rattle.std.specs.Prelude.{◌≡◌, ◌⊎◌, ℕ, Bool, List, ◌++◌, Option, None, Some, codes, decimal}
+use Rattle.std.specs.Prelude.{◌≡◌, ◌⊎◌, ℕ, ◌==◌, if◌then◌else◌, Bool, List, [], ◌++◌, Option, None, Some, codes}
+use Rattle.std.specs.Prelude.{decimal}
 use Rattle.brc_lang.specs.declared.module.Module.{Module}
 use Rattle.brc_lang.specs.Grammar as modules
 use Rattle.brc_lang.specs.Written.{AppendsBeginning}
@@ -41,18 +42,25 @@ pub record ShowsWrongRun (m : Module) (text : List ℕ) : Type 0 where
   pub parts : text ≡ (above ++ lines) ++ below
   pub spells : SpellsWrongRun m lines
 
-abbrev pub none_line : List ℕ → List ℕ → List ℕ → List ℕ
-none_line workers rows states =
-    codes "no run goes wrong with " ++ (workers ++ (codes " workers of " ++ (rows ++ (codes " rows within "
-    ++ (states ++ codes " states\n")))))
+-- the end of the plural behind a number other than 1
+abbrev pub plural : ℕ → List ℕ
+plural n = if n == 1 then [] else codes "s"
+
+abbrev pub none_line : List ℕ → List ℕ → List ℕ → List ℕ → List ℕ → List ℕ → List ℕ
+none_line workers of_workers rows of_rows states of_states =
+    codes "no run goes wrong with " ++ (workers ++ (codes " worker" ++ (of_workers ++ (codes " of " ++ (rows
+    ++ (codes " row" ++ (of_rows ++ (codes " within " ++ (states ++ (codes " state" ++ (of_states
+    ++ codes "\n")))))))))))
 
 -- that no run is found among this number of states
 abbrev pub none_text : ℕ → ℕ → ℕ → List ℕ
-none_text workers rows states = none_line (decimal workers) (decimal rows) (decimal states)
+none_text workers rows states =
+    none_line (decimal workers) (plural workers) (decimal rows) (plural rows) (decimal states) (plural states)
 
--- a run that goes wrong is shown, or that none is found
+-- a run that goes wrong is shown, or that none is found, and why the search has ended, in words that are left open
 abbrev pub IsFound : Module → ℕ → ℕ → List ℕ → Type 0
-IsFound m workers rows text = ShowsWrongRun m text ⊎ ((states : ℕ) × (text ≡ none_text workers rows states))
+IsFound m workers rows text = ShowsWrongRun m text
+    ⊎ ((states : ℕ) × (why : List ℕ) × (text ≡ none_text workers rows states ++ why))
 
 -- what is found of the module that the bytes spell
 abbrev pub IsFoundOf : List ℕ → ℕ → ℕ → List ℕ → Type 0
@@ -93,9 +101,10 @@ pub record HasNone (gives : List ℕ → List ℕ → Type 0) (file text : List 
   pub given : gives file module_text
   pub none : IsNoneOf module_text text
 
--- standard output after a stop: what is found, if the module is refused
+-- standard output after a stop: what is found, if the module is refused, or a prefix of it if the writer returned an
+-- error
 abbrev pub LeavesFound : (List ℕ → Type 0) → (List ℕ → Type 0) → Stop → Option (List ℕ) → Option (List ℕ) → Type 0
-LeavesFound is_none is_found (Fault (Refused r)) old new = Reports is_found old new
+LeavesFound is_none is_found (Fault (Refused r)) old new = BeginsReport is_found old new
 LeavesFound is_none is_found (Fault Output) old new = BeginsReport is_none old new ⊎ BeginsReport is_found old new
 LeavesFound is_none is_found stop old new = new ≡ old
 
@@ -147,8 +156,8 @@ FilesEnd gives file schedule trace old new = IsEnding (FilesReported gives file 
 
 -- What standard output, standard error and the status show of the request.
 --
--- Where `explain --schedule` ends with status 1, a run that goes wrong is shown or that none is found, and with 0 the
--- module is accepted.
+-- Where `explain --schedule` ends with status 1, a run that goes wrong is shown or that none is found, or a prefix of
+-- that, and with 0 the module is accepted.
 --
 -- Where `step --unchecked` ends with status 0, all steps are made, none of them is wrong, the report is written, and
 -- standard error is as it was. With 1 the run goes wrong. With 2 standard error has the reason, or it names the step at
@@ -157,7 +166,7 @@ abbrev pub EndsUnchecked : (List ℕ → List ℕ → Type 0) → (List ℕ → 
     → Option (List ℕ) → Option (List ℕ) → Option (List ℕ) → ℕ → Type 0
 EndsUnchecked gives lacks (Explain file bounds) old new err_old err_new status =
     (status ≡ 0 → Reports (HasNone gives file.now) old new)
-    × (status ≡ 1 → Reports (HasFound gives file.now bounds.workers bounds.rows) old new)
+    × (status ≡ 1 → BeginsReport (HasFound gives file.now bounds.workers bounds.rows) old new)
 EndsUnchecked gives lacks (Step file schedule trace picture) old new err_old err_new status =
     (status ≡ 0 → FilesReported gives file.now schedule.now trace old new × (err_new ≡ err_old))
     × (status ≡ 1 → GoesWrong gives file.now schedule.now)

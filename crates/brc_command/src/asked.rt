@@ -39,6 +39,10 @@ pub enum Asked<'a> {
         file: &'a str,
         function: Option<&'a str>,
     },
+    /// Explain the schedule of the file.
+    ExplainSchedule {
+        file: &'a str,
+    },
     /// Explain a code.
     Page {
         topic: Topic,

@@ -20,7 +20,8 @@ use crate::asked::{Asked, Run};
 use crate::calls::number_of_callable;
 use crate::drawing::draw_files;
 use crate::explainer::{Explain, Explainer};
-use crate::explaining::{Explanation, explanation_of};
+use crate::explaining::{Explanation, explanation_of, write_text};
+use crate::explaining_schedules::explain_schedule_file;
 use crate::lines::{write_stop, write_version};
 use crate::load::{Load, STANDARD_INPUT};
 use crate::loading::{load_module, load_schedule};
@@ -128,6 +129,9 @@ pub fn carry_out<'a, R: System, L: Load + Save, T: Terminal, X: Explain, W: Writ
         } => draw_files(alloc, file, schedule, picture, paint, load, out),
         Asked::Explain { file, function } => {
             explain_file(alloc, file, *function, paint, load, explainer, out)
+        }
+        Asked::ExplainSchedule { file } => {
+            explain_schedule_file(alloc, file, paint, load, explainer, out)
         }
         Asked::Page { topic } => explain_topic(alloc, *topic, paint, explainer, out),
         Asked::Version => match write_version(out) {
@@ -290,11 +294,13 @@ fn explain_file<'a, L: Load, X: Explain, W: Write>(
     let bytes = load_module(alloc, file, load)?;
     match explanation_of(alloc, bytes.as_slice(), function, paint, explainer) {
         Ok(Explanation { text, fault }) => {
-            if write_bytes(text.as_slice(), out).is_err() {
-                return Err(Stop::Fault(StepFault::Output));
-            }
+            let written = write_text(text.as_slice(), out);
+            // The refusal is the reason also if the explanation can't be written.
             if let Some(fault) = fault {
                 return Err(Stop::Fault(fault));
+            }
+            if written.is_err() {
+                return Err(Stop::Fault(StepFault::Output));
             }
             Ok(())
         }
@@ -342,7 +348,7 @@ pub fn checked_file<'a, L: Load>(
 }
 
 /// Reads and checks the module of the text.
-fn checked(alloc: Global, bytes: &[u8]) -> Result<Checked, StepFault>
+pub fn checked(alloc: Global, bytes: &[u8]) -> Result<Checked, StepFault>
     ensures { MatchResult result (λ c. IsAccepted bytes.now c.module) (λ e. IsModuleFault bytes.now e) }
 {
     let module = module_of(alloc, bytes)?;

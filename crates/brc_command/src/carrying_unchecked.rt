@@ -3,7 +3,7 @@
 ghost use Rattle.std.specs.Prelude.{◌≡◌, ◌≤◌};
 ghost use Rattle.brc_lang.specs.Written.{AppendsBeginning};
 ghost use Rattle.brc_command.specs.declared.step_fault.StepFault.TheVariants.{NoMemory};
-ghost use Rattle.brc_command.specs.Commands.{Reports};
+ghost use Rattle.brc_command.specs.Commands.{Reports, BeginsReport};
 ghost use Rattle.brc_command.specs.Lines.{fault_text};
 ghost use Rattle.brc_command.specs.WholeRuns.{FilesReported, SaysWhy};
 ghost use Rattle.brc_command.specs.WrongRuns.{EndsUnchecked, GoesWrong, HasFound, HasNone};
@@ -62,7 +62,7 @@ fn explain_unchecked<L: Load, T: Terminal, W: Write, E: Write>(
     ensures known { result ≤ 3 }
     ensures accepted { result ≡ 0 → Reports (HasNone (L.may_give load.old) file.now) (W.contents out.old)
         (W.contents out.new) }
-    ensures found { result ≡ 1 → Reports (HasFound (L.may_give load.old) file.now bounds.workers bounds.rows)
+    ensures found { result ≡ 1 → BeginsReport (HasFound (L.may_give load.old) file.now bounds.workers bounds.rows)
         (W.contents out.old) (W.contents out.new) }
 {
     match explain_run(alloc, file, bounds, load, terminal, out) {

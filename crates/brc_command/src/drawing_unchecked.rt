@@ -15,8 +15,8 @@ use brc_replay::Event;
 use brc_world::{NoMemory, Sight};
 use std::alloc::Global;
 
-/// Saves the picture of the run, if there is a file for it, and returns how the run ends. Returns `Output` if it can't
-/// be saved, and `NoMemory`.
+/// Saves the picture of the run, if there is a file for it, and returns how the run ends. Returns `Output` if that of a
+/// whole run can't be saved, and `NoMemory`.
 pub fn with_picture<S: Save>(
     alloc: Global,
     rerun: &Rerun<'_>,
@@ -32,10 +32,12 @@ pub fn with_picture<S: Save>(
         return Ok(ending);
     };
     let svg = rerun_picture(alloc, rerun, &ending)?;
-    match save.save(path, svg.as_slice()) {
-        Ok(()) => Ok(ending),
-        Err(_) => Err(StepFault::Output),
+    let saved = save.save(path, svg.as_slice());
+    // What is wrong is the reason also if the picture can't be saved.
+    if saved.is_err() && matches!(&ending, Ending::Whole) {
+        return Err(StepFault::Output);
     }
+    Ok(ending)
 }
 
 /// What is left of a run once its steps are seen.

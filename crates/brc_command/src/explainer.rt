@@ -1,14 +1,16 @@
-//! Who says in words what a code means, and why a text can't be read or a module is refused or accepted.
+//! Who says in words what a code means, why a text can't be read or a module is refused or accepted, and what a
+//! schedule has.
 
 ghost use Rattle.std.specs.Prelude.{ℕ, List, IfOk};
 ghost use Rattle.brc_lang.specs.Grammar.{IsModule};
 ghost use Rattle.brc_report.specs.declared.paint.Paint.{Paint};
 ghost use Rattle.brc_check.specs.Refusal.{IsRefusedFor};
 ghost use Rattle.brc_command.specs.Explanations.{Subject, Code, UnreadableText, AcceptedModule, RefusedModule};
+ghost use Rattle.brc_command.specs.Explanations.{ScheduleText};
 ghost use Rattle.brc_command.specs.Explanations.{says_anything};
 
 use brc_check::{Checked, Refused};
-use brc_explain::{explain_accepted, explain_refused, explain_unreadable};
+use brc_explain::{explain_accepted, explain_refused, explain_schedule, explain_unreadable};
 use brc_lang::{Module, ReadFault};
 use brc_pages::{Topic, write_page};
 use brc_report::Paint;
@@ -59,6 +61,16 @@ pub trait Explain {
         requires fits { IsModule «module».now }
         requires refusal { IsRefusedFor «module».now.functions refused.now }
         ensures { IfOk result (λ text. says self.now paint (RefusedModule «module».now refused.now only) text.items) };
+
+    /// Says why the bytes spell no schedule, by their fault, or what the schedule has, if there is none.
+    fn schedule(
+        &self,
+        alloc: Global,
+        bytes: &[u8],
+        fault: Option<ReadFault>,
+        paint: Paint,
+    ) -> Result<Vec<u8>, NoMemory>
+        ensures { IfOk result (λ text. says self.now paint (ScheduleText bytes.now fault) text.items) };
 }
 
 /// The program's explainer. What its words say is tested.
@@ -115,6 +127,20 @@ impl Explain for Explainer {
     ) -> Result<Vec<u8>, NoMemory> {
         let mut text = Vec::new(alloc);
         match explain_refused(alloc, module, refused, only, paint, &mut text) {
+            Ok(()) => Ok(text),
+            Err(_) => Err(NoMemory),
+        }
+    }
+
+    fn schedule(
+        &self,
+        alloc: Global,
+        bytes: &[u8],
+        fault: Option<ReadFault>,
+        paint: Paint,
+    ) -> Result<Vec<u8>, NoMemory> {
+        let mut text = Vec::new(alloc);
+        match explain_schedule(bytes, fault, paint, &mut text) {
             Ok(()) => Ok(text),
             Err(_) => Err(NoMemory),
         }

@@ -2,8 +2,10 @@
 //! read. It is made before any of it is written, so that want of memory leaves nothing behind.
 
 ghost use Rattle.std.specs.Prelude.{◌≡◌, IfOk, IfErr, OnOk, option_map};
+ghost use Rattle.std.specs.Io.KnownBytes.{Appends};
 ghost use Rattle.brc_lang.specs.declared.module.Module.{Module};
 ghost use Rattle.brc_lang.specs.Grammar.{Spells};
+ghost use Rattle.brc_lang.specs.Written.{AppendsBeginning};
 ghost use Rattle.brc_check.specs.Refusal.{IsRefusedFor};
 ghost use Rattle.brc_command.specs.Explanations.{HasOnly, IsExplained, IsUnexplained, IsUnknownIn, number_in};
 ghost use Rattle.brc_command.specs.Explanations.{RefusedModule};
@@ -14,10 +16,12 @@ use crate::step_fault::StepFault;
 use crate::stop::Stop;
 use crate::texts::{accepted, module_of};
 use brc_check::Refused;
-use brc_lang::{Module, one_reading};
+use brc_lang::{Module, one_reading, write_bytes};
 use brc_report::Paint;
 use brc_world::NoMemory;
 use std::alloc::Global;
+use std::io;
+use std::io::Write;
 
 /// The explanation of a text, and how it ends.
 #[derive(Drop)]
@@ -86,6 +90,14 @@ pub fn number_asked<'a>(
         Some(number) => Ok(Some(number)),
         None => Err(Stop::NoFunction(name)),
     }
+}
+
+/// Writes the text, with the errors of `brc_lang::write_bytes`. With or without one, a prefix of it is written.
+pub fn write_text<W: Write>(text: &[u8], out: &mut W) -> io::Result<()>
+    ensures whole { OnOk result (Appends (W.contents out.old) (W.contents out.new) text.now) }
+    ensures begun { AppendsBeginning (W.contents out.old) (W.contents out.new) text.now }
+{
+    write_bytes(text, out)
 }
 
 // The check has dropped the module, so the text is read again. It spells no other module.

@@ -1,16 +1,17 @@
 //! The search for a run of a file's module that goes wrong, and what is written of it.
 
-ghost use Rattle.std.specs.Prelude.{◌≡◌, map, IfOk, IfErr, IfSome, OnOk};
+ghost use Rattle.std.specs.Prelude.{◌≡◌, ◌++◌, map, IfOk, IfErr, IfSome, OnOk};
 ghost use Rattle.std.specs.Io.KnownBytes.{Appends};
 ghost use Rattle.brc_lang.specs.Grammar.{IsModule};
 ghost use Rattle.brc_replay.specs.WrongRuns.{event_in, IsWrongRun};
 ghost use Rattle.brc_command.specs.Commands.{Reports};
 ghost use Rattle.brc_command.specs.WrongRuns.{no_run_text, none_line, none_text, HasFound, HasNone, IsFound, IsFoundBy};
+ghost use Rattle.brc_command.specs.WrongRuns.{plural};
 ghost use Rattle.brc_command.specs.WrongRuns.{IsFoundOf, IsUnread, LeavesFound};
 
 use crate::accepted::write_accepted;
 use crate::calls::number_of;
-use crate::explaining::Explanation;
+use crate::explaining::{Explanation, write_text};
 use crate::load::Load;
 use crate::loading::load_module;
 use crate::run_text::text_of_run;
@@ -19,8 +20,9 @@ use crate::stop::Stop;
 use crate::terminal::Terminal;
 use crate::texts::{accepted, module_of};
 use crate::unchecked::Bounds;
+use crate::unfound::{Search, SearchEnd, text_of_search};
 use brc_check::{Checked, Refused};
-use brc_explore::{Bounds as Reach, Run, Watch, find_run};
+use brc_explore::{Bounds as Reach, ItemRead, Run, Watch, find_run};
 use brc_lang::{Module, write_bytes, write_pieces};
 use brc_world::NoMemory;
 use itoa::Buffer;
@@ -31,7 +33,8 @@ use std::io::Write;
 /// Writes a run of the file's module that goes wrong, or that none is found within the bounds. Of an accepted module no
 /// run goes wrong, so none is looked for.
 ///
-/// Returns the reason why it can't, and `Refused` once it has written what it has found of a refused module.
+/// Returns the reason why it can't. It is `Refused` for a refused module, of which it has written what it has found, as
+/// far as the writer took it.
 pub fn explain_run<'a, L: Load, T: Terminal, W: Write>(
     alloc: Global,
     file: &'a str,
@@ -49,11 +52,13 @@ pub fn explain_run<'a, L: Load, T: Terminal, W: Write>(
     let bytes = load_module(alloc, file, load)?;
     match findings_of(alloc, bytes.as_slice(), bounds, terminal) {
         Ok(Explanation { text, fault }) => {
-            if write_bytes(text.as_slice(), out).is_err() {
-                return Err(Stop::Fault(StepFault::Output));
-            }
+            let written = write_text(text.as_slice(), out);
+            // The refusal is the reason also if what is found can't be written.
             if let Some(fault) = fault {
                 return Err(Stop::Fault(fault));
+            }
+            if written.is_err() {
+                return Err(Stop::Fault(StepFault::Output));
             }
             Ok(())
         }
@@ -144,8 +149,13 @@ fn of_module<T: Terminal>(
     ensures { IfOk result (λ text. IsFound «module».now bounds.workers bounds.rows text.items) }
 {
     let paint = terminal.paint();
-    let mut states = u64::from(bounds.states);
-    let found = look_for(alloc, module, refused, bounds, terminal, &mut states)?;
+    let mut search = Search {
+        function: function_of(module, refused),
+        states: u64::from(bounds.states),
+        end: SearchEnd::Whole,
+        reads: Vec::new(alloc),
+    };
+    let found = look_for(alloc, module, bounds, terminal, &mut search)?;
     if let Some(run) = found {
         match text_of_run(alloc, module, &run, paint) {
             Ok(Some(text)) => return Ok(text),
@@ -153,19 +163,29 @@ fn of_module<T: Terminal>(
             Ok(None) | Err(_) => {}
         }
     }
-    let text = none_text(alloc, bounds, states)?;
+    let line = none_text(alloc, bounds, search.states)?;
+    let why = text_of_search(alloc, module, &search)?;
+    let text = followed_by(line, why.as_slice())?;
     Ok(text)
 }
 
-/// Looks for a run of the module. If the search ends because its seconds have passed, `states` is how many it has
-/// visited until then.
+/// Returns the line, and the others behind it.
+fn followed_by(line: Vec<u8>, others: &[u8]) -> Result<Vec<u8>, NoMemory>
+    ensures { IfOk result (λ text. text.items ≡ line.items ++ others.now) }
+{
+    let mut text = line;
+    text.extend_from_slice(others)?;
+    Ok(text)
+}
+
+/// Looks for a run of the module, and sets how the search has ended. If its seconds have passed, `states` becomes the
+/// number of those that it has visited until then.
 fn look_for<T: Terminal>(
     alloc: Global,
     module: &Module,
-    refused: &Refused,
     bounds: Bounds,
     terminal: &mut T,
-    states: &mut u64,
+    search: &mut Search,
 ) -> Result<Option<Run>, NoMemory>
     requires fits { IsModule «module».now }
     ensures { IfOk result (λ found. IfSome found (λ run.
@@ -176,18 +196,30 @@ fn look_for<T: Terminal>(
         rows: bounds.rows,
         states: bounds.states as usize,
     };
-    let function = function_of(module, refused);
     let mut waiting = Waiting {
         terminal,
         most_seconds: bounds.seconds,
         states: 0,
         stopped: false,
+        has_begun: false,
+        is_cut: false,
+        reads: Vec::new(alloc),
+        has_lost: false,
     };
-    let found = find_run(alloc, module, function, reach, &mut waiting);
-    if waiting.stopped {
-        *states = waiting.states;
-    }
+    let found = find_run(alloc, module, search.function, reach, &mut waiting);
     waiting.terminal.clear();
+    search.end = waiting.end();
+    if search.end == SearchEnd::Clock {
+        search.states = waiting.states;
+    }
+    let Waiting {
+        reads,
+        has_lost,
+        ..
+    } = waiting;
+    if !has_lost {
+        search.reads = reads;
+    }
     match found {
         Ok(found) => Ok(found),
         Err(brc_plain::Refused::OutOfBounds) => Ok(None),
@@ -210,32 +242,53 @@ fn none_text(alloc: Global, bounds: Bounds, states: u64) -> Result<Vec<u8>, NoMe
     let workers = workers.format(bounds.workers).as_bytes();
     let rows = rows.format(bounds.rows).as_bytes();
     let visited = visited.format(states).as_bytes();
+    let of_workers = plural(u64::from(bounds.workers));
+    let of_rows = plural(u64::from(bounds.rows));
+    let of_states = plural(states);
     let mut text = Vec::new(alloc);
-    match write_none_found(workers, rows, visited, &mut text) {
+    match write_none_found(
+        workers, of_workers, rows, of_rows, visited, of_states, &mut text,
+    ) {
         Ok(()) => Ok(text),
         Err(_) => Err(NoMemory),
     }
 }
 
-/// Writes that no run is found, with the decimal digits of the three numbers.
+/// Returns the end of the plural behind a number other than 1.
+fn plural(number: u64) -> &'static [u8]
+    ensures { result.now ≡ plural number }
+{
+    if number == 1 { b"" } else { b"s" }
+}
+
+/// Writes that no run is found, with the decimal digits of the three numbers, each before the end of its plural.
 fn write_none_found<'p, W: Write>(
     workers: &'p [u8],
+    of_workers: &'p [u8],
     rows: &'p [u8],
+    of_rows: &'p [u8],
     states: &'p [u8],
+    of_states: &'p [u8],
     out: &mut W,
 ) -> io::Result<()>
     ensures whole { OnOk result (Appends (W.contents out.old) (W.contents out.new)
-        (none_line workers.now rows.now states.now)) }
+        (none_line workers.now of_workers.now rows.now of_rows.now states.now of_states.now)) }
 {
     write_pieces(
         &[
             b"no run goes wrong with ",
             workers,
-            b" workers of ",
+            b" worker",
+            of_workers,
+            b" of ",
             rows,
-            b" rows within ",
+            b" row",
+            of_rows,
+            b" within ",
             states,
-            b" states\n",
+            b" state",
+            of_states,
+            b"\n",
         ],
         out,
     )
@@ -250,6 +303,28 @@ struct Waiting<'t, T> {
     states: u64,
     /// Whether the seconds have passed.
     stopped: bool,
+    /// Whether any calls were tried.
+    has_begun: bool,
+    /// Whether there was no room for a further state.
+    is_cut: bool,
+    reads: Vec<ItemRead>,
+    /// Whether there was no memory for one of them.
+    has_lost: bool,
+}
+
+impl<T: Terminal> Waiting<'_, T> {
+    /// Returns why no further state was looked at.
+    fn end(&self) -> SearchEnd {
+        if self.stopped {
+            SearchEnd::Clock
+        } else if self.is_cut {
+            SearchEnd::Bound
+        } else if self.has_begun {
+            SearchEnd::Whole
+        } else {
+            SearchEnd::Uncalled
+        }
+    }
 }
 
 impl<T: Terminal> Watch for Waiting<'_, T> {
@@ -260,5 +335,16 @@ impl<T: Terminal> Watch for Waiting<'_, T> {
             self.stopped = self.terminal.passed() >= u64::from(most);
         }
         !self.stopped
+    }
+
+    fn ended(&mut self, had_room: bool) {
+        self.has_begun = true;
+        self.is_cut = self.is_cut || !had_room;
+    }
+
+    fn read_item(&mut self, read: ItemRead) {
+        if !self.reads.contains(&read) && self.reads.push(read).is_err() {
+            self.has_lost = true;
+        }
     }
 }

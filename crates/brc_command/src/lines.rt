@@ -78,7 +78,8 @@ fn write_unreadable<W: Write>(file: &[u8], fault: &ReadFault, writer: &mut W) ->
     write_located(b"unreadable ", file, b"line ", number, code, writer)
 }
 
-fn write_refused<W: Write>(refused: &Refused, writer: &mut W) -> io::Result<()>
+/// Writes the line of a refusal, with the errors of `brc_lang::write_bytes`.
+pub fn write_refused<W: Write>(refused: &Refused, writer: &mut W) -> io::Result<()>
     ensures whole { OnOk result (Appends (W.contents writer.old) (W.contents writer.new) (refused_text refused.now)) }
     ensures begun { OnErr result (AppendsBeginning (W.contents writer.old) (W.contents writer.new)
         (refused_text refused.now)) }

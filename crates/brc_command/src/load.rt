@@ -18,6 +18,25 @@ pub enum LoadError {
     NoMemory,
 }
 
+/// Why a file can't be read, if it is one of the reasons that people meet.
+#[derive(Clone, Copy, Debug, PartialEq, Eq)]
+pub enum Unread {
+    Missing,
+    Folder,
+    Forbidden,
+}
+
+impl Unread {
+    /// Returns the reason in words.
+    pub fn words(self) -> &'static str {
+        match self {
+            Unread::Missing => "there is no such file",
+            Unread::Folder => "it is a folder",
+            Unread::Forbidden => "there is no permission to read it",
+        }
+    }
+}
+
 /// A source of the bytes of files.
 pub trait Load {
     // The bytes that a path's file may have, now or later.
@@ -42,4 +61,26 @@ pub trait Load {
         ensures lacking { IsErrOf result Unreadable → may_lack self.old path.now }
         ensures gives_no_more { (p bytes : List ℕ) → may_give self.new p bytes → may_give self.old p bytes }
         ensures lacks_no_more { (p : List ℕ) → may_lack self.new p → may_lack self.old p };
+
+    /// Does what `load_more` does for a module or a schedule, whose long lines it may shorten by `shorten_lines`.
+    ///
+    /// # Errors
+    ///
+    /// `Unreadable` or `NoMemory`.
+    fn load_lines(&mut self, path: &str, bytes: &mut Vec<u8>) -> Result<bool, LoadError>
+        requires { IsReadSoFar (may_give self.old) path.now bytes.old.items }
+        ensures begun { OnOk result (IsGivenPrefix (may_give self.new) path.now bytes.new.items) }
+        ensures ended { result ≡ Ok true → may_give self.old path.now bytes.new.items }
+        ensures longer { result ≡ Ok false → length bytes.old.items < length bytes.new.items }
+        ensures lacking { IsErrOf result Unreadable → may_lack self.old path.now }
+        ensures gives_no_more { (p bytes : List ℕ) → may_give self.new p bytes → may_give self.old p bytes }
+        ensures lacks_no_more { (p : List ℕ) → may_lack self.new p → may_lack self.old p }
+    {
+        self.load_more(path, bytes)
+    }
+
+    /// Returns why the file couldn't be read that was asked for last, if that is known.
+    fn why(&self) -> Option<Unread> {
+        None
+    }
 }

@@ -55,7 +55,7 @@ fn load_for<L: Load>(
     ensures lacks_no_more { (p : List ℕ) → L.may_lack load.new p → L.may_lack load.old p }
 {
     let mut bytes = Vec::new(alloc);
-    while !load.load_more(path, &mut bytes)? {
+    while !load.load_lines(path, &mut bytes)? {
         if is_at_fault(alloc, wanted, bytes.as_slice())? {
             break;
         }

@@ -12,7 +12,7 @@ use crate::blame::{write_complaint, write_lost};
 use crate::endings::Ending;
 use crate::retelling::tell_step;
 use crate::step_fault::StepFault;
-use crate::terminal::{Terminal, more_made};
+use crate::terminal::{Terminal, is_no_op, more_made};
 use brc_lang::{Module, write_bytes};
 use brc_model::{Call, Choice};
 use brc_plain::{Plain, Refused};
@@ -35,7 +35,50 @@ pub struct Rerun<'a> {
 
 /// Takes the steps of the run, up to the first that is wrong. It writes a line for each step, if there is a trace, and
 /// the report once all steps are taken.
+///
+/// Returns `Output` only for a run that is whole: what is wrong is the reason also if its lines can't be written.
 pub fn rerun_to_end<T: Terminal, W: Write>(
+    alloc: Global,
+    rerun: &Rerun<'_>,
+    terminal: &mut T,
+    out: &mut W,
+) -> Result<Ending, StepFault>
+    requires fits { Fits rerun.now }
+    ensures ended { IfOk result (RunEnds rerun.now (W.contents out.old) (W.contents out.new)) }
+    ensures fault { IfErr result (λ e. (e ≡ Output) ⊎ (e ≡ MemoryRefused)) }
+{
+    match write_run(alloc, rerun, terminal, out) {
+        Ok(ending) => Ok(ending),
+        Err(StepFault::Output) => end_unwritten(alloc, rerun, terminal),
+        Err(fault) => Err(fault),
+    }
+}
+
+/// Takes the steps once more, without writing, and returns how the run ends, or `Output` if it is whole.
+fn end_unwritten<T: Terminal>(
+    alloc: Global,
+    rerun: &Rerun<'_>,
+    terminal: &mut T,
+) -> Result<Ending, StepFault>
+    requires fits { Fits rerun.now }
+    ensures ended { IfOk result (EndsBefore rerun.now) }
+    ensures fault { IfErr result (λ e. (e ≡ Output) ⊎ (e ≡ MemoryRefused)) }
+{
+    let silent = Rerun {
+        trace: None,
+        ..*rerun
+    };
+    let mut report: Vec<u8> = Vec::new(alloc);
+    match write_run(alloc, &silent, terminal, &mut report) {
+        Ok(Ending::Whole) => Err(StepFault::Output),
+        Ok(Ending::Wrong(text)) => Ok(Ending::Wrong(text)),
+        Ok(Ending::Beyond(number)) => Ok(Ending::Beyond(number)),
+        Err(fault) => Err(fault),
+    }
+}
+
+/// Does what `rerun_to_end` does, and returns `Output` at the first line that can't be written.
+fn write_run<T: Terminal, W: Write>(
     alloc: Global,
     rerun: &Rerun<'_>,
     terminal: &mut T,
@@ -136,7 +179,34 @@ fn show_step<T: Terminal, W: Write>(
             write_line(alloc, rerun.module, plain, event, paint, teller, out)?;
             Ok(made)
         }
-        None => Ok(more_made(made, 1, terminal)),
+        None => {
+            look_at(alloc, plain, event, terminal)?;
+            Ok(more_made(made, 1, terminal))
+        }
+    }
+}
+
+/// Counts the event before a terminal, if it is a claim that will change nothing.
+fn look_at<T: Terminal>(
+    alloc: Global,
+    plain: &Plain<'_>,
+    event: Event,
+    terminal: &mut T,
+) -> Result<(), StepFault>
+    ensures fault { IfErr result (λ e. (e ≡ Output) ⊎ (e ≡ MemoryRefused)) }
+{
+    let Choice::Claim(_) = event.choice else {
+        return Ok(());
+    };
+    match plain.sight(alloc, event.thread, event.choice) {
+        Ok(sight) => {
+            if is_no_op(&sight) {
+                terminal.no_op();
+            }
+            Ok(())
+        }
+        Err(Refused::OutOfBounds) => Ok(()),
+        Err(Refused::NoMemory) => Err(StepFault::NoMemory),
     }
 }
 

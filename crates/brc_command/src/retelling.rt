@@ -107,7 +107,7 @@ pub fn tell_step(
     if event.thread >= teller.threads() {
         return Ok(());
     }
-    teller.tell(paint, functions, thread, sight)
+    teller.tell(paint, functions, thread, event.choice, sight)
 }
 
 /// The words end where the machine has left its bounds.

@@ -140,13 +140,15 @@ fn text_above(alloc: Global, module: &Module, run: &Run, paint: Paint) -> io::Re
         let worker = at.saturating_add(1);
         write!(out, "  Thread {worker} calls ")?;
         write_name(functions, call.function, out)?;
-        let rows = run.rows;
         match call.times {
             1 => write!(out, " once")?,
             2 => write!(out, " twice")?,
             times => write!(out, " {times} times")?,
         }
-        write!(out, ", and has rows for {rows} objects.\n")?;
+        match run.rows {
+            1 => write!(out, ", and has a row for one object.\n")?,
+            rows => write!(out, ", and has rows for {rows} objects.\n")?,
+        }
     }
     write_heading("Its schedule, for brc step --unchecked", paint, out)?;
     write_bytes(b"\n", out)?;

@@ -13,12 +13,12 @@ ghost use Rattle.brc_command.specs.Texts.{last_world, HasTally, StepsTo, StepsTo
 
 use crate::ready::ready_of;
 use crate::step_fault::StepFault;
-use crate::terminal::{NoTerminal, Terminal, more_made};
+use crate::terminal::{NoTerminal, Terminal, is_no_op, more_made};
 use brc_check::Checked;
-use brc_model::Call;
+use brc_model::{Call, Choice};
 use brc_report::{Tally, write_tally};
 use brc_schedule::{Schedule, Steps};
-use brc_world::{NoMemory, World, runs_follow_machines, tallies_follow_machines};
+use brc_world::{NoMemory, Scratch, World, runs_follow_machines, tallies_follow_machines};
 use std::alloc::Global;
 use std::io::Write;
 
@@ -95,8 +95,14 @@ fn last_tally<T: Terminal>(
     ensures { IfOk result (λ tally. tally ≡ tally_of (last_world checked.now schedule.now)) }
 {
     let workers = usize::from(schedule.workers);
+    let mut scratch = Scratch::new(alloc)?;
     let mut world = World::new(alloc, checked, workers, schedule.rows, calls)?;
-    let taken = take_lines(&mut world, schedule.steps.as_slice(), terminal);
+    let taken = take_lines(
+        &mut world,
+        schedule.steps.as_slice(),
+        &mut scratch,
+        terminal,
+    );
     terminal.clear();
     taken?;
     world.tally()
@@ -106,6 +112,7 @@ fn last_tally<T: Terminal>(
 fn take_lines<T: Terminal>(
     world: &mut World,
     lines: &[Steps],
+    scratch: &mut Scratch,
     terminal: &mut T,
 ) -> Result<(), NoMemory>
     requires { All (λ line. line.thread < length world.old.actors) lines.now }
@@ -113,10 +120,32 @@ fn take_lines<T: Terminal>(
 {
     let mut made = 0;
     for line in lines {
+        look_at(world, *line, scratch, terminal)?;
         take_line(world, *line, made, terminal)?;
         made = made.saturating_add(u64::from(line.times));
     }
     Ok(())
+}
+
+/// Counts the line before a terminal, if it is a claim or a stop that will change nothing. The world stays as it is.
+fn look_at<T: Terminal>(
+    world: &World,
+    line: Steps,
+    scratch: &mut Scratch,
+    terminal: &mut T,
+) -> Result<(), NoMemory>
+    requires { line.thread < length world.now.actors }
+{
+    match line.choice {
+        Choice::Ok | Choice::Fault => Ok(()),
+        Choice::Claim(_) | Choice::Stop => {
+            let sight = world.next_event(scratch, usize::from(line.thread), line.choice)?;
+            if is_no_op(&sight) {
+                terminal.no_op();
+            }
+            Ok(())
+        }
+    }
 }
 
 /// Takes the steps of a line, in parts, after the steps that were made before.

@@ -6,6 +6,10 @@ ghost use Rattle.brc_report.specs.declared.paint.Paint.TheVariants.{Plain};
 
 use brc_report::Paint;
 use brc_work::Gate;
+use brc_world::{Event, Sight};
+
+/// What a terminal says of the claims and stops of a schedule that have changed nothing, behind their number.
+pub const CHANGED_NOTHING: &str = "of the claims and stops changed nothing (--trace shows which)";
 
 /// How many steps between two progress reports of a schedule.
 const STEPS_BETWEEN: u64 = 65_536;
@@ -23,6 +27,9 @@ pub trait Terminal: Gate + Sync {
     /// Shows how many steps a schedule has made so far. `brc step` calls it once in some 65,536 steps.
     fn made(&mut self, steps: u64);
 
+    /// Counts a claim or a stop of a schedule that has changed nothing. `clear` says how many there are.
+    fn no_op(&mut self);
+
     /// Shows how many states a search has visited so far. `brc explain --schedule` calls it once in some 256 states.
     fn visited(&mut self, states: u64);
 
@@ -32,7 +39,8 @@ pub trait Terminal: Gate + Sync {
     /// Returns how many seconds the command has taken so far, or 0 if there is no clock.
     fn passed(&self) -> u64;
 
-    /// Takes away what it has shown. A command calls it once nothing more is made, before anything is written.
+    /// Takes away what it has shown, and says how many claims and stops have changed nothing. A command calls it once
+    /// nothing more is made, before anything is written.
     fn clear(&mut self);
 }
 
@@ -55,6 +63,8 @@ impl Terminal for NoTerminal {
 
     fn made(&mut self, _steps: u64) {}
 
+    fn no_op(&mut self) {}
+
     fn visited(&mut self, _states: u64) {}
 
     fn judged(&mut self, _functions: u64) {}
@@ -73,4 +83,15 @@ pub fn more_made<T: Terminal>(made: u64, more: u64, terminal: &mut T) -> u64 {
         terminal.made(sum);
     }
     sum
+}
+
+/// Returns whether a claim or a stop changes nothing: its thread takes no step by it, or the claim finds no mark.
+pub fn is_no_op(sight: &Option<Sight>) -> bool {
+    match sight {
+        None => true,
+        Some(sight) => match sight.event {
+            Event::Does { found, left, .. } => found == left,
+            Event::Silent | Event::Calls(_) => false,
+        },
+    }
 }

@@ -1,5 +1,5 @@
 //! Tests of the commands and of the command line that a case of `brc_cases` can't show: output errors, files in pieces,
-//! terminals, and the functions over texts; and files of cases that can't be read.
+//! long lines, terminals, and the functions over texts; and files of cases that can't be read.
 #![tactic(auto)]
 
 #[cfg(test)]
@@ -8,6 +8,8 @@ mod case_files;
 mod cases;
 #[cfg(test)]
 mod left_file;
+#[cfg(test)]
+mod long_lines;
 #[cfg(test)]
 mod narrow;
 #[cfg(test)]

@@ -4,7 +4,9 @@ use crate::cases::{
     CHECK, FIRST, LEAKING, MISSPELT, ONE_REPORT, SMALLEST, STEP, Shelf, UNREAD, outputs, to_run,
 };
 use brc_check::CheckCode;
-use brc_command::{Asked, Format, check_files, execute};
+use brc_command::{
+    Asked, Bounds, Format, NoTerminal, Unchecked, check_files, execute, execute_unchecked,
+};
 use brc_pages::Topic;
 use brc_run::System;
 use std::alloc::Global;
@@ -46,9 +48,9 @@ const SCHEDULE: &[u8] = b"schedule 1\nworkers 1\nrows 4\ncall 1 f 1\n";
 const RUNNING: &[u8] =
     b"threads 1\nrunning 2\ncreated 1\nclosed 0\nalive 1\nhost faults 0\nclose faults 0\nleft 1 list\n";
 
-// A writer that takes only some bytes gets a prefix of the text. One that takes them all changes neither the line on
-// standard error nor the status, which are the module's own. A text of more than `LONG` bytes is cut at some bytes
-// alone.
+// A writer that takes only some bytes gets a prefix of the text. The line on standard error and the status are the
+// module's own if something is wrong with it, or if the writer takes all bytes. A text of more than `LONG` bytes is cut
+// at some bytes alone.
 fn assert_stops<R: System + Abort + AllocGlobal>(
     rt: &R,
     asked: &Asked<'_>,
@@ -68,7 +70,7 @@ fn assert_stops<R: System + Abort + AllocGlobal>(
             if text.len() > LONG && !some.contains(&most) {
                 continue;
             }
-            let (line, status) = if most == text.len() {
+            let (line, status) = if most == text.len() || own_status > 0 {
                 (own_line, own_status)
             } else {
                 (b"cannot write\n".as_slice(), 2)
@@ -112,6 +114,12 @@ const EXPLAINED: &[(&[u8], (&[u8], u8))] = &[
     (MISSPELT, (b"unreadable line 3 L2\n", 2)),
 ];
 
+// The schedules, and their lines and statuses.
+const SCHEDULES: &[(&[u8], (&[u8], u8))] = &[
+    (SCHEDULE, (b"", 0)),
+    (b"schedule 2\n", (b"unreadable schedule line 1 L1\n", 2)),
+];
+
 #[test]
 fn stops_at_an_output_error(rt: HostRuntime) {
     let accepted = b"accepted 1 functions 1 instructions\n";
@@ -133,11 +141,78 @@ fn stops_at_an_output_error(rt: HostRuntime) {
         let (text, _, _) = outputs(&rt, &explain, Ok(*module), UNREAD);
         assert_stops(&rt, &explain, module, text.as_slice(), *own);
     }
+    let explain = Asked::ExplainSchedule { file: "m.brc" };
+    for (schedule, own) in SCHEDULES {
+        let (text, _, _) = outputs(&rt, &explain, Ok(*schedule), UNREAD);
+        assert_stops(&rt, &explain, schedule, text.as_slice(), *own);
+    }
     let page = Asked::Page {
         topic: Topic::Check(CheckCode::LeftOwned),
     };
     let (text, _, _) = outputs(&rt, &page, UNREAD, UNREAD);
     assert_stops(&rt, &page, b"", text.as_slice(), (b"", 0));
+}
+
+const WRONG_END: &[u8] =
+    b"schedule 1\nworkers 1\nrows 4\ncall 1 f 1\nstep 1 ok 1000\nstep 0 ok 1000\n";
+
+/// A search of one worker, or the steps of a schedule.
+fn asked_of(searches: bool, trace: bool) -> Unchecked<'static> {
+    if searches {
+        return Unchecked::Explain {
+            file: "m.brc",
+            bounds: Bounds {
+                workers: 1,
+                rows: 1,
+                states: 1000,
+                seconds: None,
+            },
+        };
+    }
+    Unchecked::Step {
+        file: "m.brc",
+        schedule: "s.txt",
+        trace,
+        picture: None,
+    }
+}
+
+// Whether a run of the leaking module is searched for, or a schedule is traced, and which; how the line on standard
+// error begins, and the status.
+const WRONG: &[((bool, bool), &[u8], &[u8], u8)] = &[
+    ((true, false), b"", b"refused f @1 C5\n", 1),
+    ((false, true), WRONG_END, b"wrong end: ", 1),
+    ((false, false), WRONG_END, b"wrong end: ", 1),
+    ((false, false), SCHEDULE, b"cannot write\n", 2),
+];
+
+#[test]
+fn names_what_is_wrong_before_an_output_error(rt: HostRuntime) {
+    for ((searches, trace), schedule, line, status) in WRONG {
+        let asked = asked_of(*searches, *trace);
+        for left in [0, 1, 80] {
+            let mut out = Narrow {
+                taken: Vec::new(rt.alloc()),
+                left,
+                interrupts: false,
+            };
+            let mut err: Vec<u8> = Vec::new(rt.alloc());
+            let mut files = Shelf {
+                module: Ok(LEAKING),
+                schedule: Ok(*schedule),
+            };
+            let found = execute_unchecked(
+                rt.alloc(),
+                &asked,
+                &mut files,
+                &mut NoTerminal,
+                &mut out,
+                &mut err,
+            );
+            assert_eq!(rt; (found, out.left), (*status, 0), "{asked:?} after {left}");
+            assert!(rt; err.as_slice().starts_with(line), "{asked:?} after {left}");
+        }
+    }
 }
 
 // The files, the format, and the text; and the lines on standard error and the statuses, if it takes all of the text,
@@ -159,13 +234,20 @@ const CHECKS: &[Check<'static>] = &[
         (b"m.brc: cannot write\nn.brc: unreadable file\n", 2),
     ),
     (
+        &["m.brc", "n.brc"],
+        Format::All,
+        b"m.brc: accepted 1 functions 1 instructions\n",
+        (b"n.brc: unreadable file\n", 2),
+        (b"m.brc: cannot write\nn.brc: unreadable file\n", 2),
+    ),
+    (
         &["m.brc"],
         Format::Json {
             function: Some("f"),
         },
-        b"{\"at\":null,\"code\":null,\"file\":\"m.brc\",\"function\":null,\"line\":null,\
-          \"message\":\"The module is accepted.\",\"other_path\":null,\"path\":null,\
-          \"verdict\":\"accepted\"}\n",
+        b"{\"also\":null,\"at\":null,\"code\":null,\"file\":\"m.brc\",\"function\":null,\"line\":null,\
+          \"mend\":null,\"message\":\"The module is accepted.\",\"other_path\":null,\"path\":null,\
+          \"place\":null,\"variable\":null,\"verdict\":\"accepted\"}\n",
         (b"", 0),
         (b"cannot write\n", 2),
     ),

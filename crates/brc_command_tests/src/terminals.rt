@@ -44,6 +44,8 @@ impl Terminal for Notes {
         self.last = steps;
     }
 
+    fn no_op(&mut self) {}
+
     fn visited(&mut self, _states: u64) {}
 
     fn judged(&mut self, functions: u64) {

@@ -1,3 +1,4 @@
 mod Named
 mod RowsOfSteps
+mod Steps
 mod Walks

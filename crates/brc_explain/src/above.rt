@@ -70,6 +70,11 @@ pub fn find_line(text: &[u8], number: u64) -> Situation<'_> {
     }
 }
 
+/// Returns the line of this number, from 1, without its line feed.
+pub fn line_at(text: &[u8], number: u64) -> &[u8] {
+    find_line(text, number).line
+}
+
 /// Returns the text's first line, and whether a line feed ends it.
 fn first_line(text: &[u8]) -> (&[u8], bool) {
     match split_line(text) {

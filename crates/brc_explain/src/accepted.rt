@@ -65,10 +65,7 @@ fn list_accepted<W: Write>(
     requires { IsFunction function.now }
 {
     let rows = listing_of(alloc, function, None)?;
-    let remarks = Remarks {
-        code: "",
-        unknown: "unreachable",
-    };
+    let remarks = Remarks { code: "", led: &[] };
     write_listing(
         alloc,
         functions,

@@ -10,6 +10,17 @@ use brc_lang::{
 use std::io;
 use std::io::Write;
 
+/// Returns the variable that is used and empty; or else the one that a call has at two places, and gives up at one.
+pub fn empty_variable(instr: Instr, state: &State) -> Option<Variable> {
+    match empty_one(instr, state) {
+        Some(variable) => Some(variable),
+        None => {
+            let (variable, _) = clash_of(arguments_of(&instr))?;
+            Some(variable)
+        }
+    }
+}
+
 /// Returns the first of the instruction's variables that is empty, but for the one that it fills.
 fn empty_one(instr: Instr, state: &State) -> Option<Variable> {
     let roles = roles_of(instr);

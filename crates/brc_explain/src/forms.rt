@@ -41,6 +41,12 @@ const INDEX: Operand = Operand::Number(0, 255);
 
 const PATH: Operand = Operand::Number(0, 15);
 
+/// The cells of a new list.
+pub const CELLS: Operand = Operand::Number(1, 8);
+
+/// The same in version 3, where there may be more.
+pub const LONG_CELLS: Operand = Operand::Number(1, 64);
+
 /// The forms of the instructions that each version has, in the order in which a reader looks for them.
 pub const FORMS: &[Form] = &[
     Form {
@@ -53,7 +59,7 @@ pub const FORMS: &[Form] = &[
         name: "list",
         text: "list vD N else @L",
         does: "vD = PyList_New(N); goes to @L if NULL",
-        operands: &[V, Operand::Number(1, 8), E, T],
+        operands: &[V, CELLS, E, T],
     },
     Form {
         name: "none",
@@ -179,12 +185,12 @@ pub const TAKE: Form = Form {
     operands: &[V, Operand::Number(0, 15)],
 };
 
-/// The form of a new list in version 3, where it may have more cells.
+/// The form of a new list in version 3.
 const LONG_LIST: Form = Form {
     name: "list",
     text: "list vD N else @L",
     does: "vD = PyList_New(N); goes to @L if NULL",
-    operands: &[V, Operand::Number(1, 64), E, T],
+    operands: &[V, LONG_CELLS, E, T],
 };
 
 /// The form of a call, of which version 1 has none. The number of its operands is that of the function's parameters.

@@ -1,7 +1,7 @@
 //! Which word of a line is at fault (L2 and L3). The reader looks at the first word, the number of words and the word
 //! `else` first, and then at the words from left to right; so does this search.
 
-use crate::forms::{CALL, Form, Operand, form_of};
+use crate::forms::{CALL, CELLS, Form, LONG_CELLS, Operand, form_of};
 use crate::visible::{Span, behind, part, whole};
 use crate::words::{empty_word, word_at, word_count};
 use brc_lang::{Version, is_name, is_word, number_between};
@@ -37,7 +37,8 @@ const HEADING_OR_STATIC: Wanted = Wanted::Said(
     "`static K ..`, as in `static 5 6`, or `func NAME`, as in `func f`",
 );
 
-const NAME: Wanted = Wanted::Said(
+/// A name of a function.
+pub const NAME: Wanted = Wanted::Said(
     "a name: a letter a to z, and up to 15 more of a to z, 0 to 9 and _",
 );
 
@@ -54,7 +55,8 @@ const MOST_NUMBERS: usize = 64;
 /// The greatest number of a function's parameters.
 const MOST_PARAMETERS: usize = 4;
 
-fn fault(span: Span, wrong: &'static str, wanted: Wanted) -> LineFault {
+/// Returns a fault without the form of an instruction.
+pub fn fault(span: Span, wrong: &'static str, wanted: Wanted) -> LineFault {
     LineFault {
         span,
         wrong,
@@ -127,7 +129,11 @@ fn static_fault(line: &[u8]) -> LineFault {
 /// Returns what is wrong with a line outside a function that has its name there, and no parameters.
 fn name_fault(line: &[u8], name: Span) -> LineFault {
     if let Some(extra) = word_at(line, 2) {
-        let wrong = "This word is one too many: a name has no space in it.";
+        let wrong = if is_passing(part(line, extra)) {
+            "A parameter needs `module 2` as the text's first line (or `module 3`)."
+        } else {
+            "This word is one too many: a name has no space in it."
+        };
         return fault(
             extra,
             wrong,
@@ -171,6 +177,8 @@ fn outside(version: Version, word: &[u8]) -> &'static str {
         "No function is open here, so there is none to end."
     } else if is_word(word, b"static") && version == Version::Three {
         "A static line is above all functions, and a function is above this one."
+    } else if is_word(word, b"static") {
+        "`static` needs `module 3` as the text's first line."
     } else if form_of(version, word).is_some() {
         "This is an instruction, and no function is open here."
     } else {
@@ -183,7 +191,11 @@ pub fn instruction_fault(version: Version, line: &[u8]) -> LineFault {
     let first = word_at(line, 0).unwrap_or(whole(line));
     let word = part(line, first);
     let Some(form) = form_of(version, word) else {
-        return fault(first, unknown(line, word), Wanted::Name);
+        let later = form_of(Version::Three, word);
+        return LineFault {
+            form: later,
+            ..fault(first, unknown(line, word, later), Wanted::Name)
+        };
     };
     let found = if form.name == CALL.name {
         call_fault(line)
@@ -196,9 +208,16 @@ pub fn instruction_fault(version: Version, line: &[u8]) -> LineFault {
     }
 }
 
-/// Returns what is wrong with a line of a function that begins with this word, which is no instruction's name.
-fn unknown(line: &[u8], word: &[u8]) -> &'static str {
-    if line.is_empty() {
+/// Returns what is wrong with a line of a function that begins with this word, which is no instruction's name, or the
+/// name of one of a later version.
+fn unknown(line: &[u8], word: &[u8], later: Option<Form>) -> &'static str {
+    if let Some(form) = later {
+        if form.name == CALL.name {
+            "`call` needs `module 2` as the text's first line (or `module 3`)."
+        } else {
+            "`take` needs `module 3` as the text's first line."
+        }
+    } else if line.is_empty() {
         "The line is empty. A text has no empty line."
     } else if word.is_empty() {
         "The line begins with a space. It begins with the name of its instruction."
@@ -310,7 +329,8 @@ fn else_fault(line: &[u8], operands: &[Operand]) -> Option<LineFault> {
     None
 }
 
-fn fits(word: &[u8], operand: Operand) -> bool {
+/// Returns whether the word fits in the operand's place.
+pub fn fits(word: &[u8], operand: Operand) -> bool {
     match operand {
         Operand::Variable => marked_number(b'v', 15, word),
         Operand::Number(low, high) => number_between(low, high, word).is_ok(),
@@ -342,7 +362,7 @@ fn marked_number(mark: u8, high: u32, word: &[u8]) -> bool {
 }
 
 /// Returns what is wrong with a word that doesn't fit in its place.
-fn misfit(word: &[u8], operand: Operand) -> &'static str {
+pub fn misfit(word: &[u8], operand: Operand) -> &'static str {
     if word.is_empty() {
         return "A word is missing here: there is an empty one between two spaces.";
     }
@@ -353,6 +373,9 @@ fn misfit(word: &[u8], operand: Operand) -> &'static str {
             } else {
                 "This is no variable: it doesn't begin with v."
             }
+        }
+        Operand::Number(_, _) if operand == CELLS && fits(word, LONG_CELLS) => {
+            "A list of more than 8 cells needs `module 3` as the text's first line."
         }
         Operand::Number(_, _) => number_misfit(word),
         Operand::Mode => "There is no such mode.",

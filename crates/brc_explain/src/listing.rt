@@ -15,11 +15,11 @@ use std::io::Write;
 
 /// What a listing shows beside its rows.
 #[derive(Clone, Copy, Debug)]
-pub struct Remarks {
+pub struct Remarks<'a> {
     /// What stands behind the row at fault.
     pub code: &'static str,
-    /// What stands for the state of a row without one.
-    pub unknown: &'static str,
+    /// The points to which instructions lead, though their states may be unknown. The others are unreachable.
+    pub led: &'a [usize],
 }
 
 /// Returns the text of an instruction of one of the module's functions.
@@ -83,7 +83,7 @@ pub fn write_listing<W: Write>(
     functions: &[Function],
     function: &Function,
     rows: &[Row],
-    remarks: Remarks,
+    remarks: Remarks<'_>,
     paint: Paint,
     out: &mut W,
 ) -> Result<(), ExplainFault> {
@@ -121,18 +121,27 @@ pub fn write_opening<W: Write>(function: &Function, paint: Paint, out: &mut W) -
     write_pieces(&[paint.off().as_bytes(), b"\n"], out)
 }
 
+/// Returns what stands for the state of a row without one.
+fn unknown(row: &Row, remarks: Remarks<'_>) -> &'static [u8] {
+    if remarks.led.contains(&row.at) {
+        b"-"
+    } else {
+        b"unreachable"
+    }
+}
+
 /// Writes the state before the instruction of a row, what a call does with its arguments, and the mark of the row at
 /// fault.
 fn write_before<W: Write>(
     row: &Row,
     instr: &Instr,
-    remarks: Remarks,
+    remarks: Remarks<'_>,
     paint: Paint,
     out: &mut W,
 ) -> io::Result<()> {
     match &row.before {
         Some(state) => write_state(state, paint, out)?,
-        None => write_in(Role::Aside, &[remarks.unknown.as_bytes()], paint, out)?,
+        None => write_in(Role::Aside, &[unknown(row, remarks)], paint, out)?,
     }
     write_arguments(instr, paint, out)?;
     if row.is_marked {

@@ -1,28 +1,23 @@
 //! What a line names and the text doesn't have: a function to call, a static list.
 
 use crate::above::{Heading, Situation, heading_of};
+use crate::advice::write_range;
 use crate::line_fault::CALL_WORDS;
-use crate::unreadable::{write_line, write_range};
-use crate::visible::{part, whole};
-use crate::words::{word_at, word_count};
+use crate::words::word_count;
 use brc_lang::{write_bytes, write_number, write_pieces};
-use brc_report::Paint;
 use std::io;
 use std::io::Write;
 
-/// Writes that no function above has the name that a call calls, or that it has other parameters.
+/// Writes that no function above has this name, which a call has, or that it has other parameters.
 pub fn write_callee<W: Write>(
     text: &[u8],
     found: &Situation<'_>,
-    number: u64,
-    paint: Paint,
+    name: &[u8],
     out: &mut W,
 ) -> io::Result<()> {
-    let name = word_at(found.line, 2).unwrap_or(whole(found.line));
-    write_line(found, number, name, paint, out)?;
     // The function that the line is in is open, and its own heading is the line above its body.
     let own = found.body_line.saturating_sub(1);
-    match heading_of(text, part(found.line, name)) {
+    match heading_of(text, name) {
         Some(heading) if heading.number < own => write_arguments(&heading, found.line, out),
         _ => write_bytes(
             b"No function above this one has this name.\n\
@@ -34,14 +29,7 @@ pub fn write_callee<W: Write>(
 }
 
 /// Writes that the module has no static list of the number that `take` asks for.
-pub fn write_static_list<W: Write>(
-    found: &Situation<'_>,
-    number: u64,
-    paint: Paint,
-    out: &mut W,
-) -> io::Result<()> {
-    let list = word_at(found.line, 2).unwrap_or(whole(found.line));
-    write_line(found, number, list, paint, out)?;
+pub fn write_static_list<W: Write>(found: &Situation<'_>, out: &mut W) -> io::Result<()> {
     if found.statics == 0 {
         return write_bytes(
             b"The module has no static list.\n\
@@ -69,7 +57,7 @@ fn write_arguments<W: Write>(heading: &Heading<'_>, call: &[u8], out: &mut W) ->
 }
 
 /// Writes the number and the noun, which ends in s but for one.
-fn write_counted<W: Write>(number: u64, noun: &str, out: &mut W) -> io::Result<()> {
+pub fn write_counted<W: Write>(number: u64, noun: &str, out: &mut W) -> io::Result<()> {
     let ending: &[u8] = if number == 1 { b"" } else { b"s" };
     write_number(number, out)?;
     write_pieces(&[b" ", noun.as_bytes(), ending], out)

@@ -9,8 +9,11 @@ ghost use Rattle.brc_explain.specs.Rows.{IsNamed, NoneNamed, ShowsRefusal, LeadT
 use crate::called::write_called;
 use crate::fault::ExplainFault;
 use crate::forms::write_forms;
+use crate::joining::write_mend;
+use crate::led::points_led_to;
 use crate::listing::{Remarks, width_of, write_listing};
 use crate::path_text::{Walk, write_path};
+use crate::refusals::{is_of_one_function, refusal_asked, refusal_of};
 use crate::rows::{Row, StepRow, StepRows, listing_of, rows_of};
 use crate::state_text::write_legend;
 use crate::walking::reached;
@@ -27,9 +30,10 @@ use std::alloc::{AllocError, Global};
 use std::io;
 use std::io::Write;
 
-/// Writes why `check` refuses the module: a listing of the function at fault, a path that leads to the fault or the two
-/// paths that differ, and the meaning of the code. The function of the number `only`, if it is another one, is listed
-/// first.
+/// Writes why the checker refuses a function of the module: the one of the number `only`, if it is refused, or else the
+/// one that `check` names. There is a listing of the function, a path that leads to the fault or the two paths that
+/// differ, and the meaning of the code; and a line for each other function that is refused. If the function of the
+/// number `only` is accepted, it is listed first.
 ///
 /// Returns `NoMemory` if memory is refused, also to `check`, and `Output` if the writer makes an error.
 pub fn explain_refused<W: Write>(
@@ -48,20 +52,22 @@ pub fn explain_refused<W: Write>(
     if refused.code == CheckCode::NoMemory {
         return Err(ExplainFault::NoMemory);
     }
-    explain_reported(alloc, module, refused, only, paint, out)
+    let asked = refusal_asked(alloc, module, refused, only)?;
+    explain_reported(alloc, module, &asked, only, paint, out)?;
+    write_others(alloc, module, &asked, paint, out)
 }
 
 /// What is shown of a refusal before it is words: the function at fault, its listing, and the paths to the fault.
 #[derive(Drop)]
-struct Shown<'a> {
-    function: &'a Function,
-    listing: Sequence<Row>,
-    path: Path,
-    steps: StepRows,
+pub struct Shown<'a> {
+    pub function: &'a Function,
+    pub listing: Sequence<Row>,
+    pub path: Path,
+    pub steps: StepRows,
 }
 
 /// Returns what is shown of the refusal.
-fn shown_of<'a>(
+pub fn shown_of<'a>(
     alloc: Global,
     module: &'a Module,
     refused: &Refused,
@@ -95,7 +101,7 @@ pub fn steps_to(alloc: Global, module: &Module, refused: &Refused) -> Result<Ste
     Ok(steps)
 }
 
-/// Writes why `check` refuses the module, if it isn't for want of memory.
+/// Writes why the checker refuses the function, if it isn't for want of memory.
 fn explain_reported<W: Write>(
     alloc: Global,
     module: &Module,
@@ -112,6 +118,7 @@ fn explain_reported<W: Write>(
     write_head(&page, module.version, refused, paint, out)?;
     let functions = module.functions.as_slice();
     if let Some(asked) = asked_for(functions, only, &refused.function) {
+        write_innocence(asked, refused, out)?;
         let listing = listing_of(alloc, asked, None)?;
         list_function(
             alloc,
@@ -137,8 +144,55 @@ fn explain_reported<W: Write>(
     write_heading("The instructions, and what they are in C", paint, out)?;
     write_forms(function.code.as_slice(), out)?;
     write_called(functions, function.code.as_slice(), paint, out)?;
-    write_meaning(&page, paint, out)?;
+    write_meaning(&page, &shown, refused, paint, out)?;
     Ok(())
+}
+
+/// Writes that the function that was asked for is accepted, and which one isn't.
+fn write_innocence<W: Write>(asked: &Function, refused: &Refused, out: &mut W) -> io::Result<()> {
+    write_pieces(
+        &[
+            b"\n",
+            asked.name.as_bytes(),
+            b" is accepted. The module is refused for ",
+            refused.function.as_bytes(),
+            b".\n",
+        ],
+        out,
+    )
+}
+
+/// Writes a line for each function that is refused, but for the one that is shown.
+fn write_others<W: Write>(
+    alloc: Global,
+    module: &Module,
+    shown: &Refused,
+    paint: Paint,
+    out: &mut W,
+) -> Result<(), ExplainFault>
+    requires fits { IsModule «module».now }
+{
+    let mut is_first = true;
+    for number in 0..module.functions.len() {
+        if let Some(other) = refusal_of(alloc, module, number)? {
+            if !is_of_one_function(&other, shown) {
+                if is_first {
+                    write_heading("Also refused: --function NAME explains it", paint, out)?;
+                }
+                write_other(&other, paint, out)?;
+                is_first = false;
+            }
+        }
+    }
+    Ok(())
+}
+
+fn write_other<W: Write>(other: &Refused, paint: Paint, out: &mut W) -> io::Result<()> {
+    let page = page_of(Topic::Check(other.code));
+    write_pieces(&[b"  ", other.function.as_bytes(), b" @"], out)?;
+    write_number(other.at as u64, out)?;
+    write_bytes(b"  ", out)?;
+    write_title(page.code, page.title, paint, out)
 }
 
 fn write_head<W: Write>(
@@ -210,18 +264,29 @@ fn list_function<W: Write>(
     paint: Paint,
     out: &mut W,
 ) -> Result<(), ExplainFault> {
+    let led = points_led_to(alloc, function.code.as_slice())?;
     let remarks = Remarks {
         code: page.code,
-        unknown: "-",
+        led: led.as_slice(),
     };
     write_listing(alloc, functions, function, rows, remarks, paint, out)?;
-    if rows.iter().any(|row| row.before.is_none()) {
+    if has_unknown(rows, led.as_slice()) {
         write_bytes(
-            b"  (-: no path leads there, or none was followed up to there before the fault)\n",
+            b"  (-: no path was followed up to there before the fault)\n",
             out,
         )?;
     }
     Ok(())
+}
+
+/// Returns whether one of the rows at these points has no state.
+fn has_unknown(rows: &[Row], led: &[usize]) -> bool {
+    for row in rows {
+        if row.before.is_none() && led.contains(&row.at) {
+            return true;
+        }
+    }
+    false
 }
 
 /// Writes the path that leads to the refusal, or the two paths, and what is wrong there.
@@ -343,11 +408,18 @@ fn write_differing<W: Write>(
     }
 }
 
-fn write_meaning<W: Write>(page: &Page, paint: Paint, out: &mut W) -> io::Result<()> {
+fn write_meaning<W: Write>(
+    page: &Page,
+    shown: &Shown<'_>,
+    refused: &Refused,
+    paint: Paint,
+    out: &mut W,
+) -> io::Result<()> {
     write_heading("What it means", paint, out)?;
     write_paragraph(page.meaning, out)?;
     write_section(page.rule_heading, page.rule, paint, out)?;
-    write_section("How to mend it", page.mend, paint, out)?;
+    write_heading("How to mend it", paint, out)?;
+    write_mend(page, shown, refused, out)?;
     write_pieces(
         &[
             b"\nWith an example and its mended form: brc explain --code ",

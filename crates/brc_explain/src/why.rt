@@ -82,33 +82,55 @@ fn is_right(instr: Instr, kind: Kind) -> bool {
     }
 }
 
-fn write_kind<W: Write>(instr: Instr, state: &State, out: &mut W) -> io::Result<()> {
-    let roles = roles_of(instr);
-    if let Some(object) = roles.object {
-        let kind = kind_of(var_at(state, object));
-        if !is_right(instr, kind) {
-            let wanted = wanted_kinds(&instr);
-            return write_misfit(object, kind, wanted, out);
-        }
-    }
-    if let Some(used) = roles.used {
-        let kind = kind_of(var_at(state, used));
-        let wanted = wanted_kind(&instr);
-        return write_misfit(used, kind, wanted, out);
-    }
-    write_argument_kind(&instr, state, out)
+/// A variable whose object is of a kind that its instruction doesn't want there.
+#[derive(Clone, Copy, Debug)]
+pub struct Misfit {
+    pub variable: Variable,
+    /// The kind that is wanted, in words.
+    pub wanted: &'static str,
 }
 
-/// Writes which is the first argument whose object isn't of the kind that its parameter takes.
-fn write_argument_kind<W: Write>(instr: &Instr, state: &State, out: &mut W) -> io::Result<()> {
-    for argument in arguments_of(instr) {
-        let kind = kind_of(var_at(state, argument.from));
-        let wanted = argument.parameter.kind;
-        if wanted != Kind::Any && kind != wanted {
-            return write_misfit(argument.from, kind, kind_phrase(wanted), out);
+/// Returns the first of the instruction's variables whose object isn't of a kind that is wanted there.
+pub fn misfit_of(instr: Instr, state: &State) -> Option<Misfit> {
+    let roles = roles_of(instr);
+    if let Some(object) = roles.object {
+        if !is_right(instr, kind_of(var_at(state, object))) {
+            return Some(Misfit {
+                variable: object,
+                wanted: wanted_kinds(&instr),
+            });
         }
     }
-    Ok(())
+    match roles.used {
+        Some(used) => Some(Misfit {
+            variable: used,
+            wanted: wanted_kind(&instr),
+        }),
+        None => argument_misfit(&instr, state),
+    }
+}
+
+/// Returns the first argument whose object isn't of the kind that its parameter takes.
+fn argument_misfit(instr: &Instr, state: &State) -> Option<Misfit> {
+    for argument in arguments_of(instr) {
+        let wanted = argument.parameter.kind;
+        if wanted != Kind::Any && kind_of(var_at(state, argument.from)) != wanted {
+            return Some(Misfit {
+                variable: argument.from,
+                wanted: kind_phrase(wanted),
+            });
+        }
+    }
+    None
+}
+
+fn write_kind<W: Write>(instr: Instr, state: &State, out: &mut W) -> io::Result<()> {
+    match misfit_of(instr, state) {
+        Some(Misfit { variable, wanted }) => {
+            write_misfit(variable, kind_of(var_at(state, variable)), wanted, out)
+        }
+        None => Ok(()),
+    }
 }
 
 fn write_misfit<W: Write>(
@@ -124,7 +146,7 @@ fn write_misfit<W: Write>(
 }
 
 /// Returns the variable whose reference the instruction gives away; of those of a call, the first that owns none.
-fn given_one(instr: Instr, state: &State) -> Option<Variable> {
+pub fn given_one(instr: Instr, state: &State) -> Option<Variable> {
     match roles_of(instr).given {
         Some(given) => Some(given),
         None => unowned_argument(&instr, state),
@@ -169,6 +191,18 @@ fn write_still<W: Write>(instr: Instr, state: &State, out: &mut W) -> io::Result
         ],
         out,
     )
+}
+
+/// Returns the first variable that owns a reference at the end of a call, but for the one that is returned.
+pub fn left_one(instr: Instr, state: &State) -> Option<Variable> {
+    let returned = roles_of(instr).given;
+    for (number, var) in state.slots.iter().enumerate() {
+        let variable = Variable::new(number as u8);
+        if is_owned(*var) && returned != Some(variable) {
+            return Some(variable);
+        }
+    }
+    None
 }
 
 /// Writes which variables own references at the end of a call, but for the one that is returned.

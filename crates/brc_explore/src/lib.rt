@@ -6,4 +6,4 @@ mod possible;
 mod search;
 
 pub use plans::{Bounds, Run, find_run};
-pub use search::{Found, Order, Watch, find};
+pub use search::{Found, ItemRead, Order, Watch, find};

@@ -6,7 +6,7 @@ ghost use Rattle.brc_model.specs.Limits.{row_limit};
 ghost use Rattle.brc_replay.specs.WrongRuns.{event_in, IsWrongRun};
 
 use crate::possible::is_possible;
-use crate::search::{Order, Watch, find};
+use crate::search::{ItemRead, Order, Watch, find};
 use brc_lang::{Function, Instr, Module};
 use brc_model::Call;
 use brc_plain::Refused;
@@ -106,6 +106,14 @@ struct Later<'w, W> {
 impl<W: Watch> Watch for Later<'_, W> {
     fn visited(&mut self, states: usize) -> bool {
         self.watch.visited(self.before.saturating_add(states))
+    }
+
+    fn ended(&mut self, had_room: bool) {
+        self.watch.ended(had_room);
+    }
+
+    fn read_item(&mut self, read: ItemRead) {
+        self.watch.read_item(read);
     }
 }
 

@@ -6,7 +6,7 @@ ghost use Rattle.brc_model.specs.Limits.{row_limit};
 ghost use Rattle.brc_model.specs.Safety.{AreCalls};
 ghost use Rattle.brc_replay.specs.WrongRuns.{event_in, IsWrongRun};
 
-use brc_lang::Module;
+use brc_lang::{Instr, Module};
 use brc_model::{Call, Choice};
 use brc_plain::{Plain, Refused};
 use brc_replay::{Event, goes_wrong};
@@ -29,6 +29,24 @@ pub enum Order {
 pub trait Watch {
     /// Hears how many states the search has visited, and says whether it is to go on.
     fn visited(&mut self, states: usize) -> bool;
+
+    /// Hears that a search has ended, and whether it had room for each state that it came to.
+    fn ended(&mut self, had_room: bool);
+
+    /// Hears that the search has come past a `borrow` or a `fetch`: by which exit, of which instruction of which
+    /// function.
+    fn read_item(&mut self, read: ItemRead);
+}
+
+/// An exit of a `borrow` or a `fetch`, whose two exits lead to different instructions.
+#[derive(Clone, Copy, Debug, PartialEq, Eq)]
+pub struct ItemRead {
+    /// The function's number.
+    pub function: usize,
+    /// The instruction's number.
+    pub at: usize,
+    /// Whether there was an item.
+    pub found: bool,
 }
 
 /// What a search has found.
@@ -87,8 +105,13 @@ fn search<W: Watch>(
     requires calls_fit { AreCalls «module».now calls.now }
 {
     let first = Plain::first(alloc, module, rows, calls)?;
-    let mut search = States::new(alloc, states);
-    search.look(first, order, watch)
+    let mut search = States::new(alloc, module, states);
+    let found = search.look(first, order, watch);
+    watch.ended(!search.is_cut);
+    for read in search.reads.as_slice() {
+        watch.read_item(*read);
+    }
+    found
 }
 
 /// How the search has come to a state: by an event of an earlier one.
@@ -121,6 +144,7 @@ impl Step {
 #[derive(Drop)]
 struct States<'a> {
     alloc: Global,
+    module: &'a Module,
     /// The most states.
     most: usize,
     /// How the search has come to each state, in the order in which it has.
@@ -129,17 +153,24 @@ struct States<'a> {
     waiting: VecDeque<Plain<'a>>,
     /// The keys of all states.
     seen: HashSet<u64>,
+    /// Whether there was no room for a further state.
+    is_cut: bool,
+    /// How items were read, each once.
+    reads: Vec<ItemRead>,
 }
 
 // Each drop of a machine costs the prover seconds. So few functions own one, and these have few returns.
 impl<'a> States<'a> {
-    fn new(alloc: Global, most: usize) -> States<'a> {
+    fn new(alloc: Global, module: &'a Module, most: usize) -> States<'a> {
         States {
             alloc,
+            module,
             most,
             steps: Vec::new(alloc),
             waiting: VecDeque::new(alloc),
             seen: HashSet::new(alloc),
+            is_cut: false,
+            reads: Vec::new(alloc),
         }
     }
 
@@ -178,7 +209,9 @@ impl<'a> States<'a> {
 
     /// Keeps the machine, if it is another one than those so far, and there is room for it.
     fn come_to(&mut self, plain: Plain<'a>, step: Step) -> Result<(), Refused> {
-        if self.steps.len() < self.most && self.seen.insert(plain.key())? {
+        if self.steps.len() >= self.most {
+            self.is_cut = self.is_cut || !self.seen.contains(&plain.key());
+        } else if self.seen.insert(plain.key())? {
             self.steps.push(step)?;
             self.waiting.push_back(plain)?;
         }
@@ -255,8 +288,24 @@ impl<'a> States<'a> {
         if leaks(&next) {
             return Ok(Some(step));
         }
+        let behind = next.at(step.thread);
         self.come_to(next, step)?;
+        self.see_read(plain.at(step.thread), behind)?;
         Ok(None)
+    }
+
+    /// Keeps how an item was read, if a thread has come past such an instruction from the one point to the other.
+    fn see_read(
+        &mut self,
+        before: Option<(usize, usize)>,
+        behind: Option<(usize, usize)>,
+    ) -> Result<(), Refused> {
+        if let Some(read) = item_read(self.module, before, behind) {
+            if !self.reads.contains(&read) {
+                self.reads.push(read)?;
+            }
+        }
+        Ok(())
     }
 
     /// Returns the events that lead to the state of this number, and then this one.
@@ -274,6 +323,41 @@ impl<'a> States<'a> {
         }
         events.reverse();
         Ok(events)
+    }
+}
+
+/// Returns how an item was read by the instruction at the first point, if it is one that does, and the second point is
+/// behind one of its exits.
+fn item_read(
+    module: &Module,
+    before: Option<(usize, usize)>,
+    behind: Option<(usize, usize)>,
+) -> Option<ItemRead> {
+    let (function, at) = before?;
+    let (other, next) = behind?;
+    let otherwise = fault_exit(module, function, at)?;
+    if other != function || otherwise == at.saturating_add(1) {
+        return None;
+    }
+    let found = next == at.saturating_add(1);
+    if !found && next != otherwise {
+        return None;
+    }
+    Some(ItemRead {
+        function,
+        at,
+        found,
+    })
+}
+
+/// Returns where a `borrow` or a `fetch` leads if there is no item. Another instruction has no such exit.
+fn fault_exit(module: &Module, function: usize, at: usize) -> Option<usize> {
+    let function = module.functions.as_slice().get(function)?;
+    match function.code.as_slice().get(at)? {
+        Instr::Borrow { otherwise, .. } | Instr::Fetch { otherwise, .. } => {
+            Some(usize::from(*otherwise))
+        }
+        _ => None,
     }
 }
 

@@ -316,6 +316,13 @@ const STATES_DIFFER: Page = Page {
         "- Or give each its own end: a label for each state, as `goto one` and",
         "  `goto none` in place of one `goto error`.",
         "- In a loop: give up at the end of each pass what the pass has made.",
+        "- An item is borrowed on one path alone: an `unlock` of its own on each path",
+        "  empties the variable; or, where it borrows, `none vN` and `drop vN`.",
+        "- Kinds that differ: what a `call` returns is of no known kind. In a text that",
+        "  begins with `module 2`, let a function make the object, as `func zero`,",
+        "  `num v1 0 else @2`, `ret v1`, `fail`, `end`, and `call vN zero else @L`.",
+        "- `as` asks on one path alone, in a loop too: ask about a second reference,",
+        "  made by `newref vM vN`, and drop that on each way.",
     ],
     example: &[
         ("module 1", ""),

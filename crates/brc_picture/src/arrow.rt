@@ -13,6 +13,15 @@ pub struct Arrow {
     pub row: u64,
     pub from: Stop,
     pub to: Stop,
+    /// Which of the tracks beside its first lane it runs down in, from 0, or `None` before it has one.
+    pub track: Option<u32>,
+}
+
+impl Arrow {
+    /// Whether it leads to a lane further right.
+    pub fn is_to_the_right(&self) -> bool {
+        self.from.thread < self.to.thread
+    }
 }
 
 /// An end of an arrow: a step.
@@ -80,7 +89,12 @@ impl Arrows {
     fn take(&mut self, place: Place, to: Stop) -> Result<(), AllocError> {
         match self.taken(place) {
             Some((row, from)) if from.thread != to.thread => {
-                self.arrows.push(Arrow { row, from, to })?;
+                self.arrows.push(Arrow {
+                    row,
+                    from,
+                    to,
+                    track: None,
+                })?;
                 Ok(())
             }
             _ => Ok(()),

@@ -1,7 +1,7 @@
 //! The bars of a picture: the objects that its steps touch.
 
 use crate::life::{Life, Lives, touched_row, turn_of};
-use crate::note::{Note, left_by};
+use crate::note::{Left, Note, found_by, left_by};
 use brc_effect::rows::block_of;
 use brc_model::{Duty, Layout};
 use brc_trace::Entry;
@@ -22,6 +22,9 @@ pub struct Bar {
     pub column: Option<u32>,
     pub bands: Vec<Band>,
     pub notes: Vec<Note>,
+    /// The counts with which the picture begins, as far as a step has found them.
+    local: Option<Left>,
+    shared: Option<Left>,
     life: Life,
     since: u32,
 }
@@ -51,9 +54,39 @@ impl Bar {
             column: None,
             bands: Vec::new(alloc),
             notes: Vec::new(alloc),
+            local: None,
+            shared: None,
             life,
             since: first,
         }
+    }
+
+    /// Remembers the count that a step has found, if the picture's steps before it haven't accessed this one. An object
+    /// that is born in the picture begins without counts.
+    fn found(&mut self, count: Left) {
+        if self.first != 0 {
+            return;
+        }
+        match count {
+            Left::Local { .. } if self.local.is_none() => self.local = Some(count),
+            Left::Shared { .. } if self.shared.is_none() => self.shared = Some(count),
+            _ => {}
+        }
+    }
+
+    /// Notes the counts with which the picture begins. Its first line is that of a box's words, so no step has a note
+    /// there; the first step may have one in the line below it.
+    fn note_first(&mut self) -> Result<(), AllocError> {
+        if let Some(left) = self.local {
+            self.notes.push(Note { line: 0, left })?;
+        }
+        if self.notes.as_slice().iter().any(|note| note.line == 1) {
+            return Ok(());
+        }
+        if let Some(left) = self.shared {
+            self.notes.push(Note { line: 1, left })?;
+        }
+        Ok(())
     }
 
     /// From this line on the object has this state.
@@ -122,6 +155,9 @@ impl Bars {
         if let Some(row) = touched_row(event) {
             self.want(alloc, row, line, entry, before)?;
         }
+        if let Some((row, count)) = found_by(event) {
+            self.found(row, count);
+        }
         if let Some((row, left)) = left_by(entry.thread, event) {
             self.note(row, Note { line, left })?;
         }
@@ -145,6 +181,14 @@ impl Bars {
         }
         self.bars.push(Bar::new(alloc, row, line, entry, before))?;
         Ok(())
+    }
+
+    fn found(&mut self, row: u32, count: Left) {
+        for bar in self.bars.as_mut_slice().iter_mut() {
+            if bar.row == row {
+                bar.found(count);
+            }
+        }
     }
 
     fn note(&mut self, row: u32, note: Note) -> Result<(), AllocError> {
@@ -176,6 +220,7 @@ impl Bars {
                 lines
             };
             bar.finish(end)?;
+            bar.note_first()?;
         }
         Ok(bars)
     }

@@ -5,12 +5,12 @@ use crate::lane::Lane;
 use crate::life::Life;
 use crate::note::{Left, Note};
 use crate::place::{Across, BAR, column_at, height_of, text_of, top_of};
-use crate::shapes::{close_text, open_text, write_rect};
+use crate::shapes::{close_text, open_text, write_cut_number, write_rect};
 use crate::style::life_class;
 use brc_effect::rows::ROOT;
 use brc_lang::write_bytes;
 use brc_word::values::{DEFAULT, FILE, LIST, MERGED, NOBODY, NUM, ONE_REFERENCE, QUEUED, SOCK};
-use brc_word::{kind_argument, kind_number, local_count};
+use brc_word::{is_immortal, kind_argument, kind_number, local_count};
 use std::io;
 use std::io::Write;
 
@@ -19,6 +19,13 @@ const BIAS: u64 = 1 << 40;
 
 /// What is left of a text in a bar.
 const PAD: u64 = 4;
+
+/// The digits for which a bar has room behind `local`, before a state, and behind `num`. It has 12 characters.
+const LOCAL_DIGITS: usize = 6;
+
+const SHARED_DIGITS: usize = 5;
+
+const VALUE_DIGITS: usize = 8;
 
 /// Writes the bar, if it has a column: its head, its bands, and what steps have left in the object's words.
 pub fn write_bar<W: Write>(lanes: &[Lane], bar: &Bar, out: &mut W) -> io::Result<()> {
@@ -72,9 +79,10 @@ fn write_note<W: Write>(across: Across, note: &Note, out: &mut W) -> io::Result<
 fn write_left<W: Write>(left: Left, out: &mut W) -> io::Result<()> {
     match left {
         Left::Local { word: NOBODY } => write_bytes(b"no owner", out),
+        Left::Local { word } if is_immortal(word) => write_bytes(b"immortal", out),
         Left::Local { word } => {
-            let count = local_count(word);
-            write!(out, "local {count}")
+            write_bytes(b"local ", out)?;
+            write_cut_number(u64::from(local_count(word)), LOCAL_DIGITS, out)
         }
         Left::Shared { word } => write_shared(word, out),
         Left::Kind { word } => write_kind(word, out),
@@ -88,29 +96,32 @@ fn write_left<W: Write>(left: Left, out: &mut W) -> io::Result<()> {
 /// Writes the shared count with its sign, and the state.
 fn write_shared<W: Write>(word: u64, out: &mut W) -> io::Result<()> {
     let biased = word / ONE_REFERENCE;
-    let (sign, count) = if biased < BIAS {
-        ("-", BIAS - biased)
+    let (count, room) = if biased < BIAS {
+        write_bytes(b"-", out)?;
+        (BIAS - biased, SHARED_DIGITS - 1)
     } else {
-        ("", biased - BIAS)
+        (biased - BIAS, SHARED_DIGITS)
     };
     let state = word % ONE_REFERENCE;
-    let name = if state == DEFAULT {
-        "shared"
+    let name: &[u8] = if state == DEFAULT {
+        b" shared"
     } else if state == QUEUED {
-        "queued"
+        b" queued"
     } else if state == MERGED {
-        "merged"
+        b" merged"
     } else {
-        "unused"
+        b" unused"
     };
-    write!(out, "{sign}{count} {name}")
+    write_cut_number(count, room, out)?;
+    write_bytes(name, out)
 }
 
 fn write_kind<W: Write>(word: u64, out: &mut W) -> io::Result<()> {
     let kind = kind_number(word);
     let argument = kind_argument(word);
     if kind == NUM {
-        write!(out, "num {argument}")
+        write_bytes(b"num ", out)?;
+        write_cut_number(u64::from(argument), VALUE_DIGITS, out)
     } else if kind == LIST {
         write!(out, "list {argument}")
     } else if kind == FILE {

@@ -59,7 +59,8 @@ impl Boxes {
         if !self.is_in_last(entry) {
             let above = self.end_of_same(entry);
             let words = part_text(alloc, functions, entry.sight.function, entry.doing.part)?;
-            widen(lanes, entry.thread, words.len());
+            let deeper = depth_of(entry.doing).saturating_sub(1).saturating_mul(2) as usize;
+            widen(lanes, entry.thread, words.len().saturating_add(deeper));
             let first = self.lines;
             self.lines = first.saturating_add(1);
             self.boxes.push(PartBox {

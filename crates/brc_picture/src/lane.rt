@@ -6,8 +6,8 @@ use std::alloc::{AllocError, Global};
 /// The least characters of a line in a lane.
 const LEAST_WIDTH: usize = 14;
 
-/// The most characters of a line in a lane.
-pub const MOST_WIDTH: usize = 46;
+/// The most characters of a line in a lane. Words that need more are cut.
+const MOST_WIDTH: usize = 54;
 
 /// A thread's lane.
 #[derive(Clone, Copy, Debug)]
@@ -15,6 +15,8 @@ pub struct Lane {
     pub thread: u8,
     /// How many characters a line of it has.
     pub width: usize,
+    /// How many arrows run down right of it, side by side.
+    pub tracks: u32,
 }
 
 /// Returns the lanes of the threads that take these steps, main's first.
@@ -25,6 +27,7 @@ pub fn lanes_of(alloc: Global, entries: &[Entry]) -> Result<Vec<Lane>, AllocErro
             lanes.push(Lane {
                 thread,
                 width: LEAST_WIDTH,
+                tracks: 0,
             })?;
         }
     }

@@ -2,20 +2,18 @@
 
 use crate::bar::Bar;
 use crate::boxes::PartBox;
-use crate::lane::{Lane, MOST_WIDTH};
+use crate::lane::Lane;
 use crate::picture::{Picture, StepLine};
 use crate::place::{
-    Across, LEFT, PAD, TOP, column_at, height_of, lane_of, middle_of, text_of, top_of,
+    Across, DEEPER, LEFT, PAD, TOP, characters_in, column_at, height_of, lane_of, middle_of,
+    text_of, top_of,
 };
-use crate::shapes::{close_text, open_text, write_rect, write_text};
+use crate::shapes::{close_text, open_text, write_cut_text, write_rect};
 use crate::style::thread_class;
 use brc_lang::write_bytes;
 use brc_trace::Outcome;
 use std::io;
 use std::io::Write;
-
-/// By how much the words of a called function are indented more than those of its caller.
-const DEEPER: u64 = 10;
 
 /// By how much a step is indented.
 const INDENT: u64 = 14;
@@ -100,21 +98,14 @@ pub fn write_box<W: Write>(lanes: &[Lane], part: &PartBox, out: &mut W) -> io::R
     } else {
         "part"
     };
-    write_text(
+    write_cut_text(
         left,
         text_of(part.first),
         class,
-        shortened(part.words.as_slice()),
+        part.words.as_slice(),
+        characters_in(across.width.saturating_sub(deeper)),
         out,
     )
-}
-
-/// Returns the text's beginning that has room in a lane.
-fn shortened(text: &[u8]) -> &[u8] {
-    match text.get(..MOST_WIDTH) {
-        Some(beginning) => beginning,
-        None => text,
-    }
 }
 
 /// Writes the step's number, its rule, and what becomes of references and lives.

@@ -21,6 +21,7 @@ mod seen;
 mod shapes;
 mod style;
 mod svg;
+mod tracks;
 
 pub use life::touched_row;
 pub use picture::Wrong;

@@ -5,53 +5,96 @@ use crate::bar::Bar;
 use crate::lane::Lane;
 use crate::picture::{Picture, Wrong};
 use crate::place::{
-    Across, BAR, BETWEEN, LINE, column_at, height_of, lane_of, middle_of, reason_across, top_of,
+    Across, BAR, LINE, column_at, coming_of, height_of, lane_of, leaving_of, reason_across, top_of,
+    track_at,
 };
 use crate::reason::{reason_height, write_reason};
-use crate::shapes::{close_text, open_text, write_rect};
+use crate::shapes::{close_text, write_rect};
+use crate::tracks::left_of;
 use std::io;
 use std::io::Write;
 
-/// How far an arrow bends out of its lane.
-const BEND: u64 = 26;
+/// How far before a corner an arrow begins to bend.
+const BEND: u64 = 4;
 
-/// Writes the arrow from the nearer side of the one lane to that of the other, with the row's number at its beginning.
+/// What is between an arrow's head and its lane.
+const TIP: u64 = 2;
+
+/// What is between the side of a lane and a row's number.
+const SIDE: u64 = 3;
+
+/// The least row whose number is written small, so that it has room before a step's words.
+const LONG_ROW: u64 = 1000;
+
+/// Writes the arrow from the nearer side of the one lane, down in its track, to the nearer side of the other lane, with
+/// the row's number at its beginning, inside the lane. No word is in its way: its two lines have none in other lanes.
 pub fn write_arrow<W: Write>(lanes: &[Lane], arrow: &Arrow, out: &mut W) -> io::Result<()> {
+    let Some(track) = arrow.track else {
+        return Ok(());
+    };
+    let down = track_at(lanes, left_of(lanes, arrow), track);
     let from = lane_of(lanes, arrow.from.thread);
     let to = lane_of(lanes, arrow.to.thread);
-    let from_y = middle_of(arrow.from.line);
-    let to_y = middle_of(arrow.to.line);
-    let to_the_right = from.left < to.left;
-    let (from_x, from_bend, to_x, to_bend) = if to_the_right {
-        let (from_x, to_x) = (from.right(), to.left.saturating_sub(2));
-        (
-            from_x,
-            from_x.saturating_add(BEND),
-            to_x,
-            to_x.saturating_sub(BEND),
-        )
+    if arrow.is_to_the_right() {
+        let course = Course {
+            begins: from.right(),
+            bends: down.saturating_sub(BEND),
+            down,
+            bent: down.saturating_add(BEND),
+            ends: to.left.saturating_sub(TIP),
+        };
+        write_course(arrow, course, out)?;
+        write_row(arrow, from.right().saturating_sub(SIDE), " end", out)
     } else {
-        let (from_x, to_x) = (from.left, to.right().saturating_add(2));
-        (
-            from_x,
-            from_x.saturating_sub(BEND),
-            to_x,
-            to_x.saturating_add(BEND),
-        )
-    };
+        let course = Course {
+            begins: from.left,
+            bends: down.saturating_add(BEND),
+            down,
+            bent: down.saturating_sub(BEND),
+            ends: to.right().saturating_add(TIP),
+        };
+        write_course(arrow, course, out)?;
+        write_row(arrow, from.left.saturating_add(SIDE), "", out)
+    }
+}
+
+/// Where an arrow begins, bends down, runs down, has bent to the other lane, and ends.
+#[derive(Clone, Copy, Debug)]
+struct Course {
+    begins: u64,
+    bends: u64,
+    down: u64,
+    bent: u64,
+    ends: u64,
+}
+
+fn write_course<W: Write>(arrow: &Arrow, course: Course, out: &mut W) -> io::Result<()> {
+    let Course {
+        begins,
+        bends,
+        down,
+        bent,
+        ends,
+    } = course;
+    let high = leaving_of(arrow.from.line);
+    let low = coming_of(arrow.to.line);
+    let (below, above) = (high.saturating_add(BEND), low.saturating_sub(BEND));
     write!(
         out,
-        "<path d=\"M{from_x} {from_y}C{from_bend} {from_y} {to_bend} {to_y} {to_x} {to_y}\" class=\"moves\" \
-marker-end=\"url(#tip)\"/>\n"
-    )?;
-    let label = if to_the_right {
-        from_x.saturating_add(3)
-    } else {
-        from_x.saturating_sub(BETWEEN - 5)
-    };
-    open_text(label, from_y.saturating_sub(3), "moved", out)?;
+        "<path d=\"M{begins} {high}H{bends}Q{down} {high} {down} {below}V{above}Q{down} {low} {bent} {low}H{ends}\" \
+class=\"moves\" marker-end=\"url(#tip)\"/>\n"
+    )
+}
+
+/// Writes the number of the row whose reference moves.
+fn write_row<W: Write>(arrow: &Arrow, left: u64, side: &str, out: &mut W) -> io::Result<()> {
+    let base = leaving_of(arrow.from.line);
+    let size = if arrow.row < LONG_ROW { "" } else { " tiny" };
     let row = arrow.row;
-    write!(out, "{row}")?;
+    write!(
+        out,
+        "<text x=\"{left}\" y=\"{base}\" class=\"moved{side}{size}\">{row}"
+    )?;
     close_text(out)
 }
 

@@ -25,6 +25,18 @@ pub enum Left {
     Unlocked,
 }
 
+/// Returns the row of the object whose count the event accesses, and the word that it finds there.
+pub fn found_by(event: &Event) -> Option<(u32, Left)> {
+    let Event::Does { address, found, .. } = event else {
+        return None;
+    };
+    match *address {
+        Address::Local { row } => Some((row, Left::Local { word: *found })),
+        Address::Shared { row } => Some((row, Left::Shared { word: *found })),
+        _ => None,
+    }
+}
+
 /// Returns the row of the object whose word the thread's step has changed, and what it left there, if that is worth a
 /// note.
 pub fn left_by(thread: u8, event: &Event) -> Option<(u32, Left)> {

@@ -7,6 +7,8 @@ use crate::columns::place_bars;
 use crate::lane::{Lane, lanes_of, widen};
 use crate::life::touched_row;
 use crate::seen::Seen;
+use crate::shapes::digits_of;
+use crate::tracks::place_arrows;
 use brc_lang::Function;
 use brc_trace::{Entry, Fate, Outcome, Rule, life_outcome, reference_outcome, rule_at};
 use brc_world::Event;
@@ -99,12 +101,14 @@ pub fn picture_of(
     let lines = boxes.lines;
     let mut bars = bars.into_bars(lines)?;
     let columns = place_bars(bars.as_mut_slice());
+    let mut arrows = arrows.into_arrows();
+    place_arrows(lanes.as_mut_slice(), arrows.as_mut_slice());
     Ok(Picture {
         lanes,
         boxes: boxes.into_boxes(),
         steps,
         bars,
-        arrows: arrows.into_arrows(),
+        arrows,
         lines,
         columns,
         gone: seen.recent.gone,
@@ -163,10 +167,18 @@ fn characters(step: &StepLine) -> usize {
         .saturating_add(outcome_characters(step.life))
 }
 
-/// Returns how many characters the outcome has behind two spaces, if its row has up to three digits.
+/// Returns how many characters the outcome has behind two spaces.
 fn outcome_characters(outcome: Option<Outcome>) -> usize {
     match outcome {
-        Some(outcome) => outcome.fate.text().len().saturating_add(8),
+        Some(outcome) => {
+            let digits = digits_of(u64::from(outcome.row)).max(3);
+            outcome
+                .fate
+                .text()
+                .len()
+                .saturating_add(digits)
+                .saturating_add(5)
+        }
         None => 0,
     }
 }

@@ -1,6 +1,6 @@
 //! The words that say what is wrong, in lines.
 
-use crate::place::{CHARACTER, LEFT, LINE, PAD, text_of};
+use crate::place::{LEFT, LINE, PAD, characters_in, text_of};
 use crate::shapes::write_text;
 use std::io;
 use std::io::Write;
@@ -10,11 +10,6 @@ const NOTHING: &[u8] = &[];
 
 /// The most lines of the words. What is further is left out.
 const MOST_LINES: u64 = 6;
-
-/// Returns how many characters a line of this width has.
-fn characters_in(width: u64) -> usize {
-    (width.saturating_sub(2 * PAD) / CHARACTER) as usize
-}
 
 /// Returns what has room in a line of so many characters, and the rest. It ends at a space, if there is one.
 fn split_line(text: &[u8], characters: usize) -> (&[u8], &[u8]) {

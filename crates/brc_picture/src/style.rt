@@ -2,20 +2,19 @@
 
 use crate::life::Life;
 
-/// The number of threads' colours. Main has the first one, and worker 8 has main's.
-const COLOURS: u32 = 8;
+/// The classes of the threads by their numbers. There are eight colours, and each further eight threads have borders of
+/// another kind.
+const LOOKS: &[&str] = &[
+    "t0", "t1", "t2", "t3", "t4", "t5", "t6", "t7", "t0 g1", "t1 g1", "t2 g1", "t3 g1", "t4 g1",
+    "t5 g1", "t6 g1", "t7 g1", "t0 g2", "t1 g2", "t2 g2", "t3 g2", "t4 g2", "t5 g2", "t6 g2",
+    "t7 g2", "t0 g3", "t1 g3", "t2 g3", "t3 g3", "t4 g3", "t5 g3", "t6 g3", "t7 g3", "t0 g4",
+];
 
-/// Returns the class of the thread's colour.
+/// Returns the class of the thread.
 pub fn thread_class(thread: u32) -> &'static str {
-    match thread % COLOURS {
-        0 => "t0",
-        1 => "t1",
-        2 => "t2",
-        3 => "t3",
-        4 => "t4",
-        5 => "t5",
-        6 => "t6",
-        _ => "t7",
+    match LOOKS.get(thread as usize) {
+        Some(look) => *look,
+        None => "t0",
     }
 }
 
@@ -42,9 +41,10 @@ text{font:11px ui-monospace,'DejaVu Sans Mono',Menlo,Consolas,monospace;fill:#22
 .small{font-size:10px}
 .row{font-size:10px;font-weight:bold}
 .guide{fill:none;stroke-dasharray:1 3}
-.gap{fill-opacity:.35;stroke-dasharray:3 3}
 .moves{fill:none;stroke:#b25a00;stroke-width:1.6}
-.moved{font-size:9px;fill:#b25a00}
+.moved{font-size:9px;font-weight:bold;fill:#b25a00}
+.end{text-anchor:end}
+.tiny{font-size:6px}
 .wrong{fill:#c01818;stroke:#7a0000}
 .frame{fill:none;stroke:#c01818;stroke-width:2.5}
 .bad{fill:#c01818}
@@ -58,12 +58,17 @@ text{font:11px ui-monospace,'DejaVu Sans Mono',Menlo,Consolas,monospace;fill:#22
 .t5{stroke:#7a5c3e}rect.t5{fill:#eadfd3}text.t5{fill:#7a5c3e;stroke:none}
 .t6{stroke:#5566c4}rect.t6{fill:#dfe2f7}text.t6{fill:#5566c4;stroke:none}
 .t7{stroke:#55803a}rect.t7{fill:#e1eed8}text.t7{fill:#55803a;stroke:none}
+rect.g1{stroke-width:2.6}
+rect.g2{stroke-width:2.6;stroke-dasharray:12 3}
+rect.g3{stroke-width:2.6;stroke-dasharray:3 3}
+rect.g4{stroke-width:2.6;stroke-dasharray:12 3 3 3}
+rect.gap{fill-opacity:.35;stroke-width:1;stroke-dasharray:3 3}
 .unborn{fill:none;stroke:#aaa;stroke-dasharray:2 2}
 .queued{fill:#ffd24d}
 .merged{fill:#c9b6ea}
 .dying{fill:#f0876b}
 .closed{fill:#444}
 </style>
-<defs><marker id=\"tip\" viewBox=\"0 0 8 8\" refX=\"7\" refY=\"4\" markerWidth=\"7\" markerHeight=\"7\" \
+<defs><marker id=\"tip\" viewBox=\"0 0 8 8\" refX=\"7\" refY=\"4\" markerWidth=\"5\" markerHeight=\"5\" \
 orient=\"auto\"><path d=\"M0 0L8 4L0 8Z\" fill=\"#b25a00\"/></marker></defs>
 ";

@@ -4,7 +4,7 @@ ghost use Rattle.brc_lang.specs.Grammar.{IsModule};
 
 use crate::accepted_examples::ACCEPTED;
 use crate::mended_examples::MENDED;
-use brc_explore::{Bounds, Watch, find_run};
+use brc_explore::{Bounds, ItemRead, Watch, find_run};
 use brc_lang::{Module, read};
 use std::alloc::Global;
 
@@ -25,6 +25,10 @@ impl Watch for Patient {
     fn visited(&mut self, _states: usize) -> bool {
         true
     }
+
+    fn ended(&mut self, _had_room: bool) {}
+
+    fn read_item(&mut self, _read: ItemRead) {}
 }
 
 #[test]

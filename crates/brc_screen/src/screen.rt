@@ -1,6 +1,6 @@
 ghost use Rattle.std.specs.Prelude.{◌≡◌};
 
-use brc_command::Terminal;
+use brc_command::{CHANGED_NOTHING, Terminal};
 use brc_report::Paint;
 use brc_work::Gate;
 use std::io::Eprint;
@@ -19,7 +19,7 @@ const CALLS_BETWEEN: u64 = 64;
 /// What wipes the line that the cursor is in (ECMA-48: to its first column, and erased from there).
 const WIPED: &str = "\r\x1b[K";
 
-/// The terminal of the system, if standard output or standard error is one.
+/// The terminal of the system, if there is one.
 ///
 /// The workers of a run share it, so what they change of it is atomic.
 #[derive(Drop)]
@@ -36,20 +36,23 @@ pub struct Screen<'r, R> {
     due: AtomicU64,
     /// Whether a number is shown.
     shown: AtomicBool,
+    /// How many claims and stops have changed nothing.
+    no_ops: u64,
 }
 
 impl<'r, R: Eprint + Clock> Screen<'r, R> {
-    /// Returns the screen behind `rt`, whose texts have colours if standard output is a terminal, and which shows how
-    /// far a command is if standard error is one.
-    pub fn new(rt: &'r R, output: bool, errors: bool) -> Screen<'r, R> {
+    /// Returns the screen behind `rt`, whose texts have colours if `colors`, and whose standard error shows how far a
+    /// command is if `watched`.
+    pub fn new(rt: &'r R, colors: bool, watched: bool) -> Screen<'r, R> {
         Screen {
             rt,
-            paint: if output { Paint::Ansi } else { Paint::Plain },
-            watched: errors,
+            paint: if colors { Paint::Ansi } else { Paint::Plain },
+            watched,
             began: Instant::now(rt).ok(),
             calls: AtomicU64::new(0),
             due: AtomicU64::new(SILENCE),
             shown: AtomicBool::new(false),
+            no_ops: 0,
         }
     }
 
@@ -105,6 +108,10 @@ impl<R: Eprint + Clock + Sync> Terminal for Screen<'_, R> {
         }
     }
 
+    fn no_op(&mut self) {
+        self.no_ops = self.no_ops.saturating_add(1);
+    }
+
     fn visited(&mut self, states: u64) {
         if self.watched {
             self.show(states, "states");
@@ -133,5 +140,10 @@ impl<R: Eprint + Clock + Sync> Terminal for Screen<'_, R> {
         if self.shown.swap(false, Ordering::SeqCst) {
             let _ = eprint!(self.rt; "{WIPED}");
         }
+        let no_ops = self.no_ops;
+        if self.watched && no_ops > 0 {
+            let _ = eprintln!(self.rt; "{no_ops} {CHANGED_NOTHING}");
+        }
+        self.no_ops = 0;
     }
 }

@@ -1,7 +1,9 @@
--- A thread that is gone takes no step: its events change nothing, have no entry, and are counted.
-use Rattle.std.proofs.Common.{◌≡◌, ℕ, zero, suc, ◌+◌, ◌∙◌, true, false, List, [], Option, None, Some, slice_get, replicate, min, refl, ap, arith}
+-- A thread that is gone takes no step: its events change nothing, and are counted. Those that are no claim and no stop
+-- have no line.
+use Rattle.std.proofs.Common.{◌≡◌, ℕ, zero, suc, ◌+◌, ◌∙◌, true, false, List, [], ◌++◌, Option, None, Some, slice_get, replicate, min, refl, ap, arith}
 use Rattle.std.proofs.lemmas.Bool.{and_left, and_right}
 use Rattle.brc_lang.specs.declared.module.Function.{Function}
+use Rattle.brc_report.specs.declared.paint.Paint.{Paint}
 use Rattle.brc_model.specs.declared.actor.Status.{Status}
 use Rattle.brc_model.specs.declared.actor.Status.TheVariants.{Running, Leaving, Gone}
 use Rattle.brc_model.specs.declared.layout.Layout.{Layout}
@@ -20,7 +22,8 @@ use Rattle.brc_machine.specs.Sights.{sight_by}
 use Rattle.brc_world.specs.Sights.{sight_at}
 use Rattle.brc_trace.specs.declared.past.Doing.{Doing}
 use Rattle.brc_trace.specs.declared.past.Past.{Past}
-use Rattle.brc_trace.specs.TraceText.{past_by, past_after, entries_on, most_number}
+use Rattle.brc_trace.specs.NoOpTexts.{is_step_line, no_op_text}
+use Rattle.brc_trace.specs.TraceText.{past_by, past_after, text_on, most_number}
 
 claims_none : (layout : Layout) (t : ℕ) (a : StepActor) (row : ℕ) → a.actor.status ≡ Gone
     → may_claim layout t a row ≡ false
@@ -74,6 +77,14 @@ counted_is now last n threads number =
     ap (λ (ds : List Doing). let p : Past = record { threads = ds; number = last.number } in p) threads
     ∙ ap (λ (m : ℕ). let p : Past = record { threads = now.threads; number = m } in p) number
 
+-- a step of a line `step` has no line where it changes nothing
+has_no_line : (paint : Paint) (number t : ℕ) (choice : Choice) → is_step_line choice ≡ true
+    → no_op_text paint number t choice ≡ []
+has_no_line paint number t choices.Ok plain = refl
+has_no_line paint number t choices.Fault plain = refl
+has_no_line paint number t (choices.Claim row) plain = absurd cc
+has_no_line paint number t choices.Stop plain = absurd cc
+
 min_twice : (number n most : ℕ) → min (min (number + 1) most + suc n) most ≡ min (number + suc (suc n)) most
 min_twice number n most = omega arith
 
@@ -98,10 +109,14 @@ module _ (functions : List Function) (w : World) (t : ℕ) (choice : Choice) (go
       ∙ ap (λ (m : ℕ). let p : Past = record { threads = past.threads; number = m } in p)
       (min_twice past.number n most_number)
 
-  pub gone_entries : (past : Past) (n : ℕ) → entries_on functions w past (replicate n (t, choice)) ≡ []
-  gone_entries past zero = refl
-  gone_entries past (suc n) =
+  pub gone_text : (paint : Paint) (past : Past) (n : ℕ) → is_step_line choice ≡ true
+      → text_on paint functions w past (replicate n (t, choice)) ≡ []
+  gone_text paint past zero plain = refl
+  gone_text paint past (suc n) plain =
       rw (unseen w t choice gone)
-      (ap (λ (v : World). entries_on functions v (counted_past past 1) (replicate n (t, choice)))
+      (ap (λ (v : World). no_op_text paint past.number t choice
+      ++ text_on paint functions v (counted_past past 1) (replicate n (t, choice)))
       (stays w t choice gone)
-      ∙ gone_entries (counted_past past 1) n)
+      ∙ ap (λ (l : List ℕ). l ++ text_on paint functions w (counted_past past 1) (replicate n (t, choice)))
+      (has_no_line paint past.number t choice plain)
+      ∙ gone_text paint (counted_past past 1) n plain)

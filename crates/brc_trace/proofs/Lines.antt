@@ -10,10 +10,10 @@ use Rattle.brc_model.specs.World.{World}
 use Rattle.brc_schedule.specs.declared.schedule.Steps.{Steps}
 use Rattle.brc_world.specs.Answers.{is_gone_at}
 use Rattle.brc_world.specs.Runs.{events_of_line, events_of}
-use Rattle.brc_trace.specs.declared.entry.Entry.{Entry}
 use Rattle.brc_trace.specs.declared.past.Past.{Past}
-use Rattle.brc_trace.specs.TraceText.{IsTraced, StopsAmong, lines_text}
-use Rattle.brc_trace.proofs.Gone.{counted_past, gone_world, gone_past, gone_entries}
+use Rattle.brc_trace.specs.NoOpTexts.{is_step_line}
+use Rattle.brc_trace.specs.TraceText.{IsTraced, StopsAmong}
+use Rattle.brc_trace.proofs.Gone.{counted_past, gone_world, gone_past, gone_text}
 use Rattle.brc_trace.proofs.Traces.{traced_then, stops_then, stops_before}
 use Rattle.brc_trace.proofs.Writing.{nothing_appended}
 
@@ -63,14 +63,14 @@ module _ (paint : Paint) (functions : List Function) (w : World) (past : Past) w
       (repeated t choice (times - (done + 1))) new a c
       (stops_then paint functions w past (repeated t choice done) ((t, choice) ∷ []) at now new a b c first second))
 
-  gone_traced : (t : ℕ) (choice : Choice) (n : ℕ) (a : Option (List ℕ)) → is_gone_at w t ≡ true
+  gone_traced : (t : ℕ) (choice : Choice) (n : ℕ) (a : Option (List ℕ)) → is_step_line choice ≡ true → is_gone_at w t ≡ true
       → IsTraced paint functions w past (repeated t choice (suc n)) w (counted_past past (suc n)) a a
-  gone_traced t choice n a gone = record {
+  gone_traced t choice n a plain gone = record {
     made = sym (gone_world functions w t choice gone (suc n));
     remembers = sym (gone_past functions w t choice gone past n);
     written =
-        subst (λ (l : List Entry). Appends a a (lines_text paint functions l))
-        (sym (gone_entries functions w t choice gone past (suc n))) (nothing_appended a);
+        subst (λ (l : List ℕ). Appends a a l) (sym (gone_text functions w t choice gone paint past (suc n) plain))
+        (nothing_appended a);
   }
 
   -- ---- the lines of a schedule
@@ -114,11 +114,11 @@ module _ (paint : Paint) (functions : List Function) (w : World) (past : Past) w
 -- The thread is gone, and its further steps are counted.
 module _ (paint : Paint) (functions : List Function) (w : World) (past : Past) where
   pub rest_counted : (t : ℕ) (choice : Choice) (done times : ℕ) (at : World) (now : Past) (last : Past)
-      (a b : Option (List ℕ)) → done < times → is_gone_at at t ≡ true
+      (a b : Option (List ℕ)) → done < times → is_step_line choice ≡ true → is_gone_at at t ≡ true
       → IsTraced paint functions w past (repeated t choice done) at now a b
       → last ≡ counted_past now (times - done)
       → IsTraced paint functions w past (repeated t choice times) at last a b
-  rest_counted t choice done times at now last a b lt gone first is =
+  rest_counted t choice done times at now last a b lt plain gone first is =
       let left : times - done ≡ suc (times - done - 1) = omega (arith, lt) in
       subst (λ (l : List (ℕ × Choice)). IsTraced paint functions w past l at last a b)
       (sym (apart t choice done times lt))
@@ -127,4 +127,4 @@ module _ (paint : Paint) (functions : List Function) (w : World) (past : Past) w
       (sym (is ∙ ap (counted_past now) left))
       (traced_then paint functions w past (repeated t choice done) (repeated t choice (suc (times - done - 1)))
       at now at (counted_past now (suc (times - done - 1))) a b b first
-      (gone_traced paint functions at now t choice (times - done - 1) b gone)))
+      (gone_traced paint functions at now t choice (times - done - 1) b plain gone)))

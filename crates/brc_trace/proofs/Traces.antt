@@ -4,17 +4,14 @@ use Rattle.std.specs.Io.KnownBytes.{Appends}
 use Rattle.std.specs.Prelude.{OnOk, OnErr}
 use Rattle.std.proofs.lemmas.List.{append-nil}
 use Rattle.brc_lang.specs.Written.{AppendsBeginning}
-use Rattle.std.proofs.lemmas.List.Concat.{flat_map-append}
 use Rattle.std.proofs.lemmas.List.Sums.{fold-append}
 use Rattle.brc_lang.specs.declared.module.Function.{Function}
 use Rattle.brc_report.specs.declared.paint.Paint.{Paint}
 use Rattle.brc_model.specs.declared.thread.Choice.{Choice}
 use Rattle.brc_model.specs.World.{World, step}
 use Rattle.brc_world.specs.Runs.{world_after}
-use Rattle.brc_trace.specs.declared.entry.Entry.{Entry}
 use Rattle.brc_trace.specs.declared.past.Past.{Past}
-use Rattle.brc_trace.specs.EntryTexts.{entry_text}
-use Rattle.brc_trace.specs.TraceText.{past_at, past_after, entries_at, entries_on, lines_text}
+use Rattle.brc_trace.specs.TraceText.{past_at, past_after, text_at, text_on}
 use Rattle.brc_trace.specs.TraceText.{IsTraced, StopsAmong}
 use Rattle.brc_trace.proofs.Writing.{nothing_appended, not_begun, begins_early, begins_late, both_written}
 
@@ -33,13 +30,13 @@ made_to (Ok x) paint functions w past events new now a b to is done = done.made 
 pub written_to : {X E : Type 0} (r : Result X E) (paint : Paint) (functions fs : List Function) (w : World)
     (past first : Past) (events all : List (ℕ × Choice)) (new : World) (now : Past) (a b : Option (List ℕ))
     → functions ≡ fs → past ≡ first → events ≡ all → OnOk r (IsTraced paint functions w past events new now a b)
-    → OnOk r (Appends a b (lines_text paint fs (entries_on fs w first all)))
+    → OnOk r (Appends a b (text_on paint fs w first all))
 written_to (Err e) paint functions fs w past first events all new now a b of began same done = tt
 written_to (Ok x) paint functions fs w past first events all new now a b of began same done =
     subst (Appends a b)
-    (ap (λ (gs : List Function). lines_text paint gs (entries_on gs w past events)) of
-    ∙ ap (λ (p : Past). lines_text paint fs (entries_on fs w p events)) began
-    ∙ ap (λ (xs : List (ℕ × Choice)). lines_text paint fs (entries_on fs w first xs)) same) done.written
+    (ap (λ (gs : List Function). text_on paint gs w past events) of
+    ∙ ap (λ (p : Past). text_on paint fs w p events) began
+    ∙ ap (λ (xs : List (ℕ × Choice)). text_on paint fs w first xs) same) done.written
 
 -- ---- two lists of events
 
@@ -53,61 +50,51 @@ past_both functions w past [] ys = refl
 past_both functions w past (event ∷ xs) ys =
     past_both functions (step w event.0 event.1) (past_at functions w past event) xs ys
 
-entries_both : (functions : List Function) (w : World) (past : Past) (xs ys : List (ℕ × Choice))
-    → entries_on functions w past (xs ++ ys)
-    ≡ entries_on functions w past xs ++ entries_on functions (world_after w xs) (past_after functions w past xs) ys
-entries_both functions w past [] ys = refl
-entries_both functions w past (event ∷ xs) ys =
+text_both : (paint : Paint) (functions : List Function) (w : World) (past : Past) (xs ys : List (ℕ × Choice))
+    → text_on paint functions w past (xs ++ ys)
+    ≡ text_on paint functions w past xs
+    ++ text_on paint functions (world_after w xs) (past_after functions w past xs) ys
+text_both paint functions w past [] ys = refl
+text_both paint functions w past (event ∷ xs) ys =
     let next = step w event.0 event.1 in
     let then = past_at functions w past event in
-    ap (λ (l : List Entry). entries_at w past event ++ l) (entries_both functions next then xs ys)
-    ∙ sym (append_assoc (entries_at w past event) (entries_on functions next then xs)
-    (entries_on functions (world_after next xs) (past_after functions next then xs) ys))
+    ap (λ (l : List ℕ). text_at paint functions w past event ++ l) (text_both paint functions next then xs ys)
+    ∙ sym (append_assoc (text_at paint functions w past event) (text_on paint functions next then xs)
+    (text_on paint functions (world_after next xs) (past_after functions next then xs) ys))
 
 module _ (paint : Paint) (functions : List Function) (w : World) (past : Past) where
-  lines_both : (xs ys : List (ℕ × Choice))
-      → lines_text paint functions (entries_on functions w past (xs ++ ys))
-      ≡ lines_text paint functions (entries_on functions w past xs)
-      ++ lines_text paint functions (entries_on functions (world_after w xs) (past_after functions w past xs) ys)
-  lines_both xs ys =
-      ap (lines_text paint functions) (entries_both functions w past xs ys)
-      ∙ flat_map-append (entry_text paint functions) (entries_on functions w past xs)
-      (entries_on functions (world_after w xs) (past_after functions w past xs) ys)
-
-  lines_from : (xs ys : List (ℕ × Choice)) (at : World) (now : Past) → at ≡ world_after w xs → now
+  text_from : (xs ys : List (ℕ × Choice)) (at : World) (now : Past) → at ≡ world_after w xs → now
       ≡ past_after functions w past xs
-      → lines_text paint functions (entries_on functions w past (xs ++ ys))
-      ≡ lines_text paint functions (entries_on functions w past xs)
-      ++ lines_text paint functions (entries_on functions at now ys)
-  lines_from xs ys at now world_is past_is =
-      lines_both xs ys
-      ∙ ap (λ (v : World). lines_text paint functions (entries_on functions w past xs)
-      ++ lines_text paint functions (entries_on functions v (past_after functions w past xs) ys)) (sym world_is)
-      ∙ ap (λ (p : Past). lines_text paint functions (entries_on functions w past xs)
-      ++ lines_text paint functions (entries_on functions at p ys)) (sym past_is)
+      → text_on paint functions w past (xs ++ ys)
+      ≡ text_on paint functions w past xs ++ text_on paint functions at now ys
+  text_from xs ys at now world_is past_is =
+      text_both paint functions w past xs ys
+      ∙ ap (λ (v : World). text_on paint functions w past xs
+      ++ text_on paint functions v (past_after functions w past xs) ys) (sym world_is)
+      ∙ ap (λ (p : Past). text_on paint functions w past xs ++ text_on paint functions at p ys) (sym past_is)
 
   -- ---- one event
 
-  lines_one : (event : ℕ × Choice) → lines_text paint functions (entries_at w past event)
-      ≡ lines_text paint functions (entries_on functions w past (event ∷ []))
-  lines_one event = ap (lines_text paint functions) (sym (append-nil (entries_at w past event)))
+  text_one : (event : ℕ × Choice) → text_at paint functions w past event
+      ≡ text_on paint functions w past (event ∷ [])
+  text_one event = sym (append-nil (text_at paint functions w past event))
 
   pub one_traced : (event : ℕ × Choice) (new : World) (now : Past) (a b : Option (List ℕ)) (bytes : List ℕ)
       → new ≡ step w event.0 event.1 → now ≡ past_at functions w past event
-      → bytes ≡ lines_text paint functions (entries_at w past event) → Appends a b bytes
+      → bytes ≡ text_at paint functions w past event → Appends a b bytes
       → IsTraced paint functions w past (event ∷ []) new now a b
   one_traced event new now a b bytes made remembers is written = record {
     made = made;
     remembers = remembers;
-    written = subst (Appends a b) (is ∙ lines_one event) written;
+    written = subst (Appends a b) (is ∙ text_one event) written;
   }
 
   pub one_stopped : (event : ℕ × Choice) (new : World) (a b : Option (List ℕ)) (bytes : List ℕ)
-      → new ≡ step w event.0 event.1 → bytes ≡ lines_text paint functions (entries_at w past event)
+      → new ≡ step w event.0 event.1 → bytes ≡ text_at paint functions w past event
       → AppendsBeginning a b bytes → StopsAmong paint functions w past (event ∷ []) new a b
   one_stopped event new a b bytes made is begun = record {
     stands = record { made = event ∷ []; left = []; parts = refl; stands = made };
-    begun = subst (AppendsBeginning a b) (is ∙ lines_one event) begun;
+    begun = subst (AppendsBeginning a b) (is ∙ text_one event) begun;
   }
 
   -- no event has been made, and nothing written
@@ -135,7 +122,7 @@ module _ (paint : Paint) (functions : List Function) (w : World) (past : Past) w
         ∙ ap (λ (p : Past). past_after functions (world_after w xs) p ys) first.remembers
         ∙ sym (past_both functions w past xs ys);
     written =
-        both_written a b c _ _ _ (lines_from xs ys at now first.made first.remembers) first.written second.written;
+        both_written a b c _ _ _ (text_from xs ys at now first.made first.remembers) first.written second.written;
   }
 
   pub stops_then : (xs ys : List (ℕ × Choice)) (at : World) (now : Past) (new : World) (a b c : Option (List ℕ))
@@ -153,7 +140,7 @@ module _ (paint : Paint) (functions : List Function) (w : World) (past : Past) w
           second.stands.stands ∙ ap (λ (v : World). world_after v second.stands.made) first.made
           ∙ sym (after_both w xs second.stands.made);
     };
-    begun = begins_late a b c _ _ _ (lines_from xs ys at now first.made first.remembers) first.written second.begun;
+    begun = begins_late a b c _ _ _ (text_from xs ys at now first.made first.remembers) first.written second.begun;
   }
 
   pub stops_before : (xs ys : List (ℕ × Choice)) (new : World) (a b : Option (List ℕ))
@@ -167,5 +154,5 @@ module _ (paint : Paint) (functions : List Function) (w : World) (past : Past) w
           ∙ append_assoc stop.stands.made stop.stands.left ys;
       stands = stop.stands.stands;
     };
-    begun = begins_early a b _ _ _ (lines_both xs ys) stop.begun;
+    begun = begins_early a b _ _ _ (text_both paint functions w past xs ys) stop.begun;
   }

@@ -55,7 +55,7 @@ event_text paint layout exit (Does d address found left) =
     found_text paint layout d address found left ++ duty_text paint exit d address found left
 
 -- the number of the step, and its thread
-abbrev pub opening_text : Paint → ℕ → ℕ → List ℕ
+unfoldable pub opening_text : Paint → ℕ → ℕ → List ℕ
 opening_text paint number thread =
     painted paint roles.Aside (decimal number) ++ codes "  thread " ++ decimal thread ++ gap
 

@@ -1,6 +1,7 @@
 pub mod Depths
 pub mod EntryTexts
 pub mod Naming
+pub mod NoOpTexts
 pub mod Outcomes
 pub mod PartTexts
 pub mod Rules

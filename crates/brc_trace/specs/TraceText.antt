@@ -1,5 +1,5 @@
--- The trace of a list of events: the lines of its steps, in order. A thread that is gone, one that may not claim a row,
--- and one that may not stop, takes no step and has no line, but its event is counted.
+-- The trace of a list of events: the lines of its steps, in order. A claim or a stop that may not be made is no step,
+-- and has a line that says so. Other events of a thread that is gone have no line, but are counted.
 use Rattle.std.specs.Prelude.{◌≡◌, ℕ, ◌+◌, ◌^◌, ◌-◌, min, List, [], ◌∷◌, ◌++◌, length, Option, None, Some, slice_index_or, slice_set, replicate}
 use Rattle.std.specs.List.{flat_map}
 use Rattle.std.specs.Io.KnownBytes.{Appends}
@@ -18,6 +18,7 @@ use Rattle.brc_trace.specs.declared.past.Doing.{Doing}
 use Rattle.brc_trace.specs.declared.past.Past.{Past}
 use Rattle.brc_trace.specs.Depths.{crossing_at, depth_after}
 use Rattle.brc_trace.specs.EntryTexts.{entry_text}
+use Rattle.brc_trace.specs.NoOpTexts.{no_op_text}
 
 -- ---- what a trace remembers
 
@@ -94,10 +95,25 @@ past_after functions w past (event ∷ rest) =
 abbrev pub lines_text : Paint → List Function → List Entry → List ℕ
 lines_text paint functions entries = flat_map (entry_text paint functions) entries
 
+-- the line of an event of thread t by the choice: of its step, or of a claim or a stop that changes nothing
+abbrev pub text_by : Paint → List Function → Past → ℕ → Choice → Option Sight → List ℕ
+text_by paint functions past t choice None = no_op_text paint past.number t choice
+text_by paint functions past t choice (Some sight) = lines_text paint functions (entries_by past t (Some sight))
+
+abbrev pub text_at : Paint → List Function → World → Past → ℕ × Choice → List ℕ
+text_at paint functions w past event =
+    text_by paint functions past event.0 event.1 (sight_at w event.0 event.1)
+
+-- Returns the lines of the events, from a world of a module of these functions, and what is remembered there.
+abbrev pub text_on : Paint → List Function → World → Past → List (ℕ × Choice) → List ℕ
+text_on paint functions w past [] = []
+text_on paint functions w past (event ∷ rest) =
+    text_at paint functions w past event
+    ++ text_on paint functions (step w event.0 event.1) (past_at functions w past event) rest
+
 -- Returns the trace of the events from a world in which no step has been taken yet.
 abbrev pub trace_text : Paint → World → List (ℕ × Choice) → List ℕ
-trace_text paint w events =
-    lines_text paint w.functions (entries_on w.functions w (first_past (length w.actors)) events)
+trace_text paint w events = text_on paint w.functions w (first_past (length w.actors)) events
 
 -- ---- a trace that is written
 
@@ -113,10 +129,10 @@ pub record IsTraced (paint : Paint) (functions : List Function) (old : World) (p
     (events : List (ℕ × Choice)) (new : World) (now : Past) (before after : Option (List ℕ)) : Type 0 where
   pub made : new ≡ world_after old events
   pub remembers : now ≡ past_after functions old past events
-  pub written : Appends before after (lines_text paint functions (entries_on functions old past events))
+  pub written : Appends before after (text_on paint functions old past events)
 
 -- Some of the events have been made, and a beginning of their lines is written.
 pub record StopsAmong (paint : Paint) (functions : List Function) (old : World) (past : Past)
     (events : List (ℕ × Choice)) (new : World) (before after : Option (List ℕ)) : Type 0 where
   pub stands : StandsAmong old events new
-  pub begun : AppendsBeginning before after (lines_text paint functions (entries_on functions old past events))
+  pub begun : AppendsBeginning before after (text_on paint functions old past events)

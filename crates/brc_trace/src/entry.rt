@@ -51,7 +51,13 @@ pub fn show_entry(
 }
 
 /// Adds the step's number and its thread.
-fn show_opening(paint: Paint, number: u64, thread: u8, line: &mut Line) -> Result<(), AllocError>
+#[tactic(auto, unfolding(crate::specs::EntryTexts::opening_text))]
+pub fn show_opening(
+    paint: Paint,
+    number: u64,
+    thread: u8,
+    line: &mut Line,
+) -> Result<(), AllocError>
     ensures { OnOk result (line.new ≡ line.old ++ opening_text paint number thread) }
 {
     line.text(paint.on(Role::Aside))?;

@@ -8,6 +8,7 @@ mod fault;
 mod laws;
 mod line;
 mod marks;
+mod no_op;
 mod outcome;
 mod part;
 mod past;

@@ -6,12 +6,13 @@ ghost use Rattle.std.specs.Io.KnownBytes.{Appends};
 ghost use Rattle.brc_lang.specs.Written.{AppendsBeginning};
 ghost use Rattle.brc_world.specs.Runs.{world_after, events_of_line, events_of};
 ghost use Rattle.brc_world.specs.Worlds.{model_of};
-ghost use Rattle.brc_trace.specs.TraceText.{past_by, past_at, entries_by, entries_at, lines_text, trace_text};
+ghost use Rattle.brc_trace.specs.TraceText.{past_by, past_at, text_by, text_at, trace_text};
 ghost use Rattle.brc_trace.specs.TraceText.{StandsAmong, IsTraced, StopsAmong};
 
 use crate::entry::show_entry;
 use crate::fault::TraceFault;
 use crate::line::Line;
+use crate::no_op::{is_step_line, show_no_op};
 use crate::past::{Past, first_past};
 use brc_lang::{Function, Module, write_bytes};
 use brc_model::Choice;
@@ -21,8 +22,8 @@ use brc_world::{Scratch, Sight, World};
 use std::alloc::{AllocError, Global};
 use std::io::Write;
 
-/// Takes the steps of the schedule, and writes a line for each of them. A thread that is gone takes no step and has no
-/// line, nor has a claim that may not be made, or a stop of a thread that can't stop where it is.
+/// Takes the steps of the schedule, and writes a line for each of them, and for each claim that may not be made, and
+/// each stop of a thread that can't stop where it is. Other steps of a thread that is gone have no line.
 ///
 /// The schedule's calls are not read: the world, which is one of the module, has begun with them. Each line is written
 /// once its step is taken. Returns `NoMemory` if memory is refused, and `Output` if the writer returns an error. Then a
@@ -88,7 +89,7 @@ impl Tracer {
     }
 
     /// Takes the steps of one line of a schedule, and writes the lines of the steps. Once the thread is gone, the rest
-    /// of its steps change nothing and have no line: they are counted and not tried.
+    /// of its steps change nothing and have no line, unless it is a claim or a stop: they are counted and not tried.
     fn trace_steps<W: Write>(
         &mut self,
         paint: Paint,
@@ -107,9 +108,11 @@ impl Tracer {
         ensures remembers { OnOk result (length self.new.past.threads ≡ length self.old.past.threads) }
     {
         for done in 0..steps.times {
-            if world.is_gone(usize::from(steps.thread)) {
-                self.past.count(steps.times - done);
-                return Ok(());
+            if is_step_line(steps.choice) {
+                if world.is_gone(usize::from(steps.thread)) {
+                    self.past.count(steps.times - done);
+                    return Ok(());
+                }
             }
             self.trace_step(paint, functions, world, steps.thread, steps.choice, out)?;
         }
@@ -155,14 +158,14 @@ impl Tracer {
     ) -> Result<(), TraceFault>
         requires there { thread < length world.now.actors }
         requires fits { length self.old.past.threads ≡ length world.now.actors }
-        ensures line { OnOk result (self.new.line ≡ lines_text paint functions.now
-            (entries_at (model_of world.now) self.old.past (thread, choice))) }
+        ensures line { OnOk result (self.new.line ≡ text_at paint functions.now (model_of world.now) self.old.past
+            (thread, choice)) }
         ensures past { OnOk result (self.new.past ≡ past_at functions.now (model_of world.now) self.old.past
             (thread, choice)) }
         ensures remembers { OnOk result (length self.new.past.threads ≡ length self.old.past.threads) }
     {
         match world.next_event(&mut self.scratch, usize::from(thread), choice) {
-            Ok(sight) => Ok(self.show(paint, functions, thread, &sight)?),
+            Ok(sight) => Ok(self.show(paint, functions, thread, choice, &sight)?),
             Err(_) => Err(TraceFault::NoMemory),
         }
     }
@@ -172,11 +175,12 @@ impl Tracer {
         paint: Paint,
         functions: &[Function],
         thread: u8,
+        choice: Choice,
         sight: &Option<Sight>,
     ) -> Result<(), AllocError>
         requires { thread < length self.old.past.threads }
-        ensures line { OnOk result (self.new.line ≡ lines_text paint functions.now
-            (entries_by self.old.past thread sight.now)) }
+        ensures line { OnOk result (self.new.line ≡ text_by paint functions.now self.old.past thread choice
+            sight.now) }
         ensures past { OnOk result (self.new.past ≡ past_by functions.now self.old.past thread sight.now) }
         ensures remembers { OnOk result (length self.new.past.threads ≡ length self.old.past.threads) }
     {
@@ -184,6 +188,8 @@ impl Tracer {
         if let Some(sight) = sight {
             let entry = self.past.note(functions, thread, *sight);
             show_entry(paint, functions, &entry, &mut self.line)?;
+        } else {
+            show_no_op(paint, self.past.number, thread, choice, &mut self.line)?;
         }
         self.past.count(1);
         Ok(())

@@ -2,14 +2,14 @@ use Rattle.std.proofs.Common.{ℕ, ◌∙◌, ap, Option}
 use Rattle.brc_machine.specs.declared.sight.Sight.{Sight}
 use Rattle.brc_world.specs.Sights.{sight_at}
 use Rattle.brc_world.specs.Worlds.{model_of}
-use Rattle.brc_trace.specs.TraceText.{past_by, entries_by, lines_text}
+use Rattle.brc_trace.specs.TraceText.{past_by, text_by}
 use Rattle.brc_trace.proofs.tracing.Tracer.prepare.Goals as goal
 
 pub returns-in_ok-show-in-Ok-clause-line : goal.returns-in_ok-show-in-Ok-clause-line
 returns-in_ok-show-in-Ok-clause-line c =
     c.in_ok-show-in-Ok.ensures.line
-    ∙ ap (λ (s : Option Sight). lines_text c.args.paint c.args.functions.now
-    (entries_by c.args.self.now.past c.args.thread s))
+    ∙ ap (λ (s : Option Sight). text_by c.args.paint c.args.functions.now c.args.self.now.past c.args.thread
+    c.args.choice s)
     (c.in-Ok.ensures ∙ ap (λ (n : ℕ). sight_at (model_of c.args.world.now) n c.args.choice) c.from.ensures)
 
 pub returns-in_ok-show-in-Ok-clause-past : goal.returns-in_ok-show-in-Ok-clause-past

@@ -10,7 +10,7 @@ pub returns-then-is_gone-clause-traced : goal.returns-then-is_gone-clause-traced
 returns-then-is_gone-clause-traced g c =
     rest_counted c.args.paint c.args.functions.now (model_of c.args.world.now) c.args.self.now.past c.args.steps.thread
     c.args.steps.choice c.loop-done.done c.args.steps.times (model_of c.loop-done.world) c.loop-done.self.past
-    c.count.new.self _ _ c.loop-done-test.true
+    c.count.new.self _ _ c.loop-done-test.true (sym c.is_step_line.ensures ∙ c.if-is_step_line.true)
     (subst (λ (n : ℕ). is_gone_at (model_of c.loop-done.world) n ≡ true) c.from.ensures
     (sym c.is_gone.ensures ∙ c.if-is_gone.true))
     c.loop-done.invariant.traced
