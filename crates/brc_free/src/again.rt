@@ -10,6 +10,7 @@ use crate::finaliser::Finaliser;
 use crate::merging::merge;
 use crate::waiting::Waits;
 use brc_heap::{Hand, Heap, Looked, Marker, MergeStep, SharedRelease, Work};
+use brc_table::Contention;
 use std::sync::Wait;
 
 /// Does the next duties, behind which others may come: adds the carried local count to the row's shared one, and tries
@@ -31,9 +32,13 @@ pub(crate) fn merge_again<T: Drop, Q: Waits, R: Wait>(
     ensures work { HasWorked hand.old.view [] (carried_left hand.old.view.actor.agenda) hand.new.view }
 {
     for _ in rt.forever() {
+        hand.count(Contention::LOST);
         queue.wait();
         match heap.merge(hand, row, carried, Work::Next) {
-            MergeStep::Kept | MergeStep::Dying => return,
+            MergeStep::Kept | MergeStep::Dying => {
+                hand.count(Contention::MERGED);
+                return;
+            }
             MergeStep::Again => {}
         }
     }
@@ -62,11 +67,20 @@ impl<'h, T: Drop, Q: Marker<T> + Waits> Finaliser<'h, T, Q> {
         for _ in rt.forever() {
             match heap.release_shared(hand, row, Work::Next) {
                 SharedRelease::Kept | SharedRelease::Dying => return,
-                SharedRelease::Queued => match queue.post(hand, row) {
-                    Looked::Left => return,
-                    Looked::Claimed => merge(queue, rt, heap, hand, row),
-                },
-                SharedRelease::Again => queue.wait(),
+                SharedRelease::Queued => {
+                    hand.count(Contention::QUEUED);
+                    match queue.post(hand, row) {
+                        Looked::Left => return,
+                        Looked::Claimed => {
+                            hand.count(Contention::CLAIMED);
+                            merge(queue, rt, heap, hand, row);
+                        }
+                    }
+                }
+                SharedRelease::Again => {
+                    hand.count(Contention::LOST);
+                    queue.wait();
+                }
             }
         }
         unreachable!()

@@ -18,6 +18,7 @@ use brc_heap::{Hand, Heap, Marker};
 use brc_host::{Fault, Host};
 use brc_list::Lists;
 use brc_model::Duty;
+use brc_table::Contention;
 use brc_word::kind_number;
 use brc_word::values::LIST;
 use std::marker::Model;
@@ -150,6 +151,7 @@ impl<'h, T: Drop, Q: Marker<T> + Waits> Finaliser<'h, T, Q> {
             × (result ≡ raised (close_faults closes) 0)
             × HasAnswered H.answers H.counts host.old closes host.new }
     {
+        hand.count(Contention::CLAIMED);
         merge(self.queue, rt, self.heap, hand, row);
         self.give_up(rt, hand, row);
         self.settle(rt, hand, host)

@@ -12,6 +12,7 @@ use crate::merging::merge;
 use crate::waiting::Waits;
 use brc_heap::{Hand, Heap, LocalRelease, Looked, Marker, SharedRelease, Work, ZeroStep};
 use brc_model::{Duty, Holding};
+use brc_table::Contention;
 use std::sync::Wait;
 
 /// Does what `merge` does, as a call: an owner's last local reference is mostly the last of all.
@@ -165,7 +166,10 @@ impl<'h, T: Drop, Q: Marker<T> + Waits> Finaliser<'h, T, Q> {
         match self.heap.release_shared(hand, row, Work::Next) {
             SharedRelease::Kept | SharedRelease::Dying => {}
             SharedRelease::Queued => Self::hand_over(self.heap, self.queue, rt, hand, row),
-            SharedRelease::Again => Self::give_up_again(self.heap, self.queue, rt, hand, row),
+            SharedRelease::Again => {
+                hand.count(Contention::LOST);
+                Self::give_up_again(self.heap, self.queue, rt, hand, row);
+            }
         }
     }
 
@@ -180,9 +184,11 @@ impl<'h, T: Drop, Q: Marker<T> + Waits> Finaliser<'h, T, Q> {
         ensures kept { KeepsButView hand.old hand.new }
         ensures work { HasWorked hand.old.view [] (behind hand.old.view.actor.agenda) hand.new.view }
     {
+        hand.count(Contention::QUEUED);
         match queue.post(hand, row) {
             Looked::Left => {}
             Looked::Claimed => {
+                hand.count(Contention::CLAIMED);
                 merge(queue, rt, heap, hand, row);
                 Self::give_up_again(heap, queue, rt, hand, row);
             }

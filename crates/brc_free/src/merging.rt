@@ -9,6 +9,7 @@ ghost use Rattle.brc_free.specs.Works.{HasWorked, merge_left};
 use crate::again::merge_again;
 use crate::waiting::Waits;
 use brc_heap::{Hand, Heap, MergeStep, Work};
+use brc_table::Contention;
 use std::sync::Wait;
 
 /// Does the next duties, behind which others may come: swaps the row's local word for nobody's, and adds its count to
@@ -34,7 +35,7 @@ pub fn merge<T: Drop, Q: Waits, R: Wait>(
         None => return,
     };
     match heap.merge(hand, row, carried, Work::Next) {
-        MergeStep::Kept | MergeStep::Dying => {}
+        MergeStep::Kept | MergeStep::Dying => hand.count(Contention::MERGED),
         MergeStep::Again => merge_again(queue, rt, heap, hand, row, carried),
     }
 }

@@ -17,6 +17,7 @@ use brc_heap::{Hand, Heap, MergeStep, SharedRelease};
 use brc_host::{FakeHost, FakeResource, Host};
 use brc_lang::{Kind, Mode};
 use brc_queue::Looked;
+use brc_table::Contention;
 use crossbeam_queue::ArrayQueue;
 use std::alloc::{AllocError, Global};
 use std::sync::Wait;
@@ -110,6 +111,10 @@ fn owns<R: Wait>(rt: &R, worker: Worker<'_>, between: &Signals, owner: Owner) ->
     match owner {
         Owner::Stays => {
             if !looks_through(rt, heap, &mut hand, &mut host) {
+                return None;
+            }
+            // It has taken the object's mark, and merged the object.
+            if hand.contention() != Contention::CLAIMED.plus(Contention::MERGED) {
                 return None;
             }
             let closed = host.closed();

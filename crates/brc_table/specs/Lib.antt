@@ -23,3 +23,4 @@ pub mod Ending
 pub mod Joining
 pub mod Guarding
 pub mod Spares
+pub mod Contention

@@ -76,6 +76,7 @@ impl<T: Drop> Words<T> {
             used: _,
             spares,
             carried,
+            contention: _,
         } = hand;
         drop(spares);
         drop(carried);

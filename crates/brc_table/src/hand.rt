@@ -6,8 +6,10 @@ ghost use Rattle.brc_table.specs.Uses.{field_rows};
 ghost use Rattle.brc_table.specs.Views.{RowsAreThere, is_given};
 
 use crate::carried::{Carried, Spare, is_spent};
+use crate::contention::Contention;
 use crate::view::View;
 use atomic_table::Seat;
+use std::cell::Cell;
 use std::marker::Model;
 
 /// The right of one thread to act on a table. A hand can go to another thread, and there is never more than one of a
@@ -27,6 +29,8 @@ pub struct Hand<T> {
     // Of each begun merge of a row of the thread's own block, the local count that was swapped out, by the row's
     // index in its block.
     pub(crate) carried: Carried,
+    // Counted off the owner's fast path, and never read by a step. A contract sees nothing of it.
+    pub(crate) contention: Cell<Contention>,
 }
 
 impl<T> Model for Hand<T> {
@@ -91,6 +95,17 @@ impl<T> Hand<T> {
         ensures { result ≡ is_given thread self.now.view }
     {
         is_spent(self.spares.as_slice(), thread)
+    }
+
+    /// Returns how often the hand's thread has met others, and with main's hand those whose hands it has joined.
+    pub fn contention(&self) -> Contention {
+        self.contention.get()
+    }
+
+    /// Counts that the hand's thread has met another one.
+    #[inline]
+    pub fn count(&self, meeting: Contention) {
+        self.contention.set(self.contention.get().plus(meeting));
     }
 
     /// States that the hand has taken the fields that its view lists.

@@ -37,7 +37,7 @@ impl<E: Ended> Join<View> for Joins<E> {
 
 impl<T: Drop> Words<T> {
     /// Joins a hand whose thread is gone, and which has taken no field: the other hand keeps what is known of that
-    /// thread. No word changes.
+    /// thread, and counts what that thread has counted. No word changes.
     pub fn join(&self, hand: &mut Hand<T>, gone: Hand<T>)
         requires table { IsOf self.now hand.old }
         requires other_table { IsOf self.now gone }
@@ -67,9 +67,11 @@ impl<T: Drop> Words<T> {
             used: _,
             spares,
             carried,
+            contention,
         } = gone;
         drop(spares);
         drop(carried);
+        hand.count(contention.get());
         self.table
             .shared
             .join_seat::<Joins<E>>(&mut hand.seat, seat);

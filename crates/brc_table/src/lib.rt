@@ -7,6 +7,7 @@ mod births;
 mod carried;
 mod cells;
 mod closed;
+mod contention;
 mod dying;
 mod exits;
 mod fields;
@@ -30,6 +31,7 @@ mod words;
 mod work;
 
 pub use closed::Closed;
+pub use contention::Contention;
 pub use hand::Hand;
 pub use laws::{
     counts_agree_in_every_table, fields_end_in_every_table, first_kinds_stay,

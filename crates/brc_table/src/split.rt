@@ -7,12 +7,14 @@ ghost use Rattle.brc_table.specs.Hands.{IsOf, CarriesNothing, KeepsButView};
 ghost use Rattle.brc_table.specs.Giving.{MayGive, MayStart, starting};
 
 use crate::carried::take_spare;
+use crate::contention::Contention;
 use crate::hand::Hand;
 use crate::view::View;
 use crate::words::Words;
 use atomic_table::{Play, Split};
 use brc_model::{accounts_are_there, chains_are_there, references_are_handed_over};
 use brc_word::values::RUNNING;
+use std::cell::Cell;
 use std::marker::{Brand, PhantomData};
 
 /// The worker whose hand main gives out.
@@ -115,6 +117,7 @@ impl<T: Drop> Words<T> {
             used: 0,
             spares: Vec::new(*main.spares.allocator()),
             carried: spare.carried,
+            contention: Cell::new(Contention::NONE),
         }
     }
 }

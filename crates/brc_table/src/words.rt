@@ -11,6 +11,7 @@ ghost use Rattle.brc_table.specs.Homes.{HoldsFirstWords};
 ghost use Rattle.brc_table.specs.Places.{word_count, FewFirstRows};
 
 use crate::carried::{nothing_carried, spares_of};
+use crate::contention::Contention;
 use crate::first_words::first_words;
 use crate::hand::Hand;
 use crate::place::Cells;
@@ -25,6 +26,7 @@ use brc_lang::Sequence;
 use brc_model::{Layout, hands_begin};
 use brc_word::mark_at;
 use std::alloc::{AllocError, Global};
+use std::cell::Cell;
 use std::marker::Model;
 use std::snapshot::Snapshot;
 
@@ -94,6 +96,7 @@ impl<T: Drop> Words<T> {
             used: block_size(layout, 0),
             spares,
             carried,
+            contention: Cell::new(Contention::NONE),
         };
         let words = Words {
             table,
