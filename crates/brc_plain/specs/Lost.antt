@@ -19,3 +19,7 @@ pub record IsLost (m : StepMachine) (row : ℕ) : Type 0 where
   pub born : is_among row m.abstract.born ≡ true
   pub not_closed : is_among row m.abstract.closed ≡ false
   pub not_kept : list_any (keeps m.abstract row) m.abstract.references ≡ false
+
+-- Says whether the row's object is lost.
+abbrev pub is_lost : AbstractState → ℕ → Bool
+is_lost p row = (is_among row p.born && not (is_among row p.closed)) && not (list_any (keeps p row) p.references)

@@ -6,7 +6,7 @@ ghost use Rattle.std.specs.List.{list_any, remove};
 ghost use Rattle.brc_model.specs.AbstractState.{Born, PassOn, are_allowed, holds_by_cells, is_allowed, is_among, is_cell_of, move, moved, references_to, same, same_holder, same_holding, without};
 ghost use Rattle.brc_model.specs.Kinds.{is_counted_kind};
 ghost use Rattle.brc_plain.specs.Bags.{bag_in, holder_in, move_in, reference_in};
-ghost use Rattle.brc_plain.specs.Lost.{is_open_cell, keeps};
+ghost use Rattle.brc_plain.specs.Lost.{is_lost, is_open_cell, keeps};
 
 use crate::refused::Refused;
 use brc_effect::rows::is_immortal_row;
@@ -228,9 +228,7 @@ impl Bag {
 
     /// Returns whether the row's object is born and isn't closed, and no cell of an open list holds a reference to it.
     pub fn is_lost(&self, row: u32) -> bool
-        ensures born { result ≡ true → is_among row (bag_in self.now).born ≡ true }
-        ensures not_closed { result ≡ true → is_among row (bag_in self.now).closed ≡ false }
-        ensures not_kept { result ≡ true → list_any (keeps (bag_in self.now) row) (bag_in self.now).references ≡ false }
+        ensures { result ≡ is_lost (bag_in self.now) row }
     {
         is_among(row, self.born.as_slice())
             && !is_among(row, self.closed.as_slice())

@@ -1,6 +1,6 @@
 //! Whether a step is within the machine's numbers. Nothing is known of a refused module's, so each step asks.
 
-ghost use Rattle.std.specs.Prelude.{◌≡◌, ◌+◌, ◌<◌, ◌≤◌, ◌^◌, true, OnOk};
+ghost use Rattle.std.specs.Prelude.{◌≡◌, ◌+◌, ◌<◌, ◌≤◌, ◌^◌, true, false, OnOk, IfErr};
 ghost use Rattle.brc_model.specs.Machine.{used_by};
 ghost use Rattle.brc_model.specs.Within.{IsShared, Suits};
 ghost use Rattle.brc_word.specs.Words.{biased_part, local_part, owner_part};
@@ -20,7 +20,8 @@ const BIASED_COUNTS: u64 = 1 << 41;
 
 /// Refuses the answer if the fact doesn't hold.
 fn ask(fact: bool) -> Result<(), Refused>
-    ensures { OnOk result (fact ≡ true) }
+    ensures holds { OnOk result (fact ≡ true) }
+    ensures refused { IfErr result (λ refused. fact ≡ false) }
 {
     if fact {
         Ok(())
@@ -43,7 +44,8 @@ fn owner(word: u64) -> u64
 
 /// Asks whether the word is a shared word of a header.
 fn ask_shared(word: u64) -> Result<(), Refused>
-    ensures { OnOk result (IsShared word) }
+    ensures shared { OnOk result (IsShared word) }
+    ensures refused { IfErr result (λ refused. IsShared word → ⊥) }
 {
     ask(biased(word) < BIASED_COUNTS)?;
     ask(word % ONE_REFERENCE != 1)
@@ -51,7 +53,9 @@ fn ask_shared(word: u64) -> Result<(), Refused>
 
 /// Asks whether a release that loaded the word counts down a count that isn't 0.
 fn ask_release(thread: u8, running: bool, word: u64) -> Result<(), Refused>
-    ensures { OnOk result (running ≡ true → owner_part word ≡ thread + 1 → 1 ≤ local_part word) }
+    ensures counted { OnOk result (running ≡ true → owner_part word ≡ thread + 1 → 1 ≤ local_part word) }
+    ensures refused { IfErr result (λ refused.
+        (running ≡ true → owner_part word ≡ thread + 1 → 1 ≤ local_part word) → ⊥) }
 {
     if running && owner(word) == u64::from(thread) + 1 {
         ask(1 <= local_count(word))?;
@@ -67,7 +71,8 @@ pub fn ask_suits(
     duty: Duty,
     found: u64,
 ) -> Result<(), Refused>
-    ensures { OnOk result (Suits thread running rows duty found) }
+    ensures suits { OnOk result (Suits thread running rows duty found) }
+    ensures refused { IfErr result (λ refused. Suits thread running rows duty found → ⊥) }
 {
     match duty {
         Duty::RetainStore { word, .. } => ask(local_count(word) < MOST_LOCAL),
@@ -82,16 +87,23 @@ pub fn ask_suits(
             ask(1 <= biased(found))
         }
         Duty::SharedExchange { word, .. } => {
-            ask_shared(word)?;
-            ask(1 <= biased(word))
+            // An exchange that is lost leaves the word as it is.
+            if found == word {
+                ask_shared(word)?;
+                ask(1 <= biased(word))?;
+            }
+            Ok(())
         }
         Duty::MergeLoad { carried, .. } => {
             ask_shared(found)?;
             ask(biased(found) + u64::from(carried) < BIASED_COUNTS)
         }
         Duty::MergeExchange { carried, word, .. } => {
-            ask_shared(word)?;
-            ask(biased(word) + u64::from(carried) < BIASED_COUNTS)
+            if found == word {
+                ask_shared(word)?;
+                ask(biased(word) + u64::from(carried) < BIASED_COUNTS)?;
+            }
+            Ok(())
         }
         Duty::TakeFound { word, marks } => {
             ask(0 < marks)?;
@@ -112,7 +124,8 @@ pub fn ask_suits(
 
 /// Asks whether the row or the cell to which the duty's effect adds 1 is low enough.
 pub fn ask_numbered(rows: u32, duty: Duty) -> Result<(), Refused>
-    ensures { OnOk result (IsNumbered rows duty) }
+    ensures numbered { OnOk result (IsNumbered rows duty) }
+    ensures refused { IfErr result (λ refused. IsNumbered rows duty → ⊥) }
 {
     match duty {
         Duty::Die { row } => ask(row < rows),
@@ -123,7 +136,8 @@ pub fn ask_numbered(rows: u32, duty: Duty) -> Result<(), Refused>
 
 /// Asks whether the mark word that the duty names has a low number.
 pub fn ask_indexed(duty: Duty) -> Result<(), Refused>
-    ensures { OnOk result (IsIndexed duty) }
+    ensures indexed { OnOk result (IsIndexed duty) }
+    ensures refused { IfErr result (λ refused. IsIndexed duty → ⊥) }
 {
     match duty {
         Duty::Scan { word, .. } => ask(word < 1 << 31),
@@ -138,7 +152,8 @@ pub fn ask_indexed(duty: Duty) -> Result<(), Refused>
 
 /// Asks whether the number of rows that the thread has used after the duty fits.
 pub fn ask_used(used: u32, duty: Duty) -> Result<(), Refused>
-    ensures { OnOk result (used_by used duty < 2 ^ 32) }
+    ensures uses { OnOk result (used_by used duty < 2 ^ 32) }
+    ensures refused { IfErr result (λ refused. used_by used duty < 2 ^ 32 → ⊥) }
 {
     match duty {
         Duty::BirthLocal { .. } => ask(used < u32::MAX),

@@ -1,6 +1,6 @@
 //! A thread before or inside an instruction.
 
-ghost use Rattle.std.specs.Prelude.{◌≡◌, ◌+◌, ◌∷◌, [], slice_set, suc, IfOk};
+ghost use Rattle.std.specs.Prelude.{◌≡◌, ◌<◌, ◌≤◌, ◌+◌, ◌^◌, ◌∷◌, [], slice_set, suc, IfOk, IfErr};
 ghost use Rattle.brc_model.specs.declared.actor.Place.TheVariants as places;
 ghost use Rattle.brc_model.specs.Action as model;
 ghost use Rattle.brc_model.specs.Actions.{by_variable, depth_of};
@@ -42,6 +42,7 @@ pub struct Here<'a> {
 pub fn next_of(at: usize) -> Result<usize, Refused>
     ensures next { IfOk result (λ next. next ≡ at + 1) }
     ensures after { IfOk result (λ next. next ≡ suc at) }
+    ensures refused { IfErr result (λ refused. 2 ^ 64 ≤ at + 1) }
 {
     if at == usize::MAX {
         return Err(Refused::OutOfBounds);
@@ -51,7 +52,8 @@ pub fn next_of(at: usize) -> Result<usize, Refused>
 
 /// Returns the holding by the variable of a call around which this number of calls is open.
 pub fn holding_at(depth: usize, variable: Variable) -> Result<Holding, Refused>
-    ensures { IfOk result (λ holding. holding ≡ Holding.ByVariable depth variable) }
+    ensures holding { IfOk result (λ holding. holding ≡ Holding.ByVariable depth variable) }
+    ensures refused { IfErr result (λ refused. 255 < depth) }
 {
     if depth > 255 {
         return Err(Refused::OutOfBounds);
@@ -159,7 +161,8 @@ impl<'a> Here<'a> {
 
     /// Returns the row of the thread's next object.
     pub fn next_row(&self) -> Result<u32, Refused>
-        ensures { IfOk result (λ row. row ≡ row_at self.now.layout self.now.thread self.now.used) }
+        ensures row { IfOk result (λ row. row ≡ row_at self.now.layout self.now.thread self.now.used) }
+        ensures refused { IfErr result (λ refused. 2 ^ 31 ≤ self.now.used) }
     {
         if self.used >= 1 << 31 {
             return Err(Refused::OutOfBounds);

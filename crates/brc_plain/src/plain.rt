@@ -1,13 +1,14 @@
 //! The plain machine.
 
 ghost use Rattle.std.specs.Prelude.{◌≡◌, ◌<◌, ◌≤◌, ◌↔◌, true, length, IfOk, IfSome};
+ghost use Rattle.std.specs.List.{find};
 ghost use Rattle.brc_lang.specs.Grammar.{IsModule};
 ghost use Rattle.brc_model.specs.Limits.{row_limit};
 ghost use Rattle.brc_model.specs.Safety.{has_gone, AllGone, AreCalls};
 ghost use Rattle.brc_model.specs.StepMachine.{counting};
 ghost use Rattle.brc_plain.specs.Plains.{machine_in};
 ghost use Rattle.brc_plain.specs.Begun.{begun};
-ghost use Rattle.brc_plain.specs.Lost.{IsLost};
+ghost use Rattle.brc_plain.specs.Lost.{IsLost, is_lost};
 
 use crate::bag::Bag;
 use crate::first::{first_bag, first_lives, first_threads};
@@ -164,13 +165,10 @@ impl<'a> Plain<'a> {
     /// Returns the row of an object that is born and that nobody has closed, and to which no cell of an open list holds
     /// a reference, if there is one. At the end of a safe module's run there is none.
     pub fn lost(&self) -> Option<u32>
-        ensures { IfSome result (λ row. IsLost (machine_in self.now) row) }
+        ensures first { result ≡ find (is_lost (machine_in self.now).abstract) (machine_in self.now).abstract.born }
+        ensures lost { IfSome result (λ row. IsLost (machine_in self.now) row) }
     {
-        for row in self.bag.born.as_slice() {
-            if self.bag.is_lost(*row) {
-                return Some(*row);
-            }
-        }
-        None
+        let found = self.bag.born.iter().find(|row| self.bag.is_lost(**row));
+        found.copied()
     }
 }

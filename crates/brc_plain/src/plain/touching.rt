@@ -1,6 +1,6 @@
 //! The word that a thread's duty is about.
 
-ghost use Rattle.std.specs.Prelude.{◌≡◌, ◌<◌, ◌≤◌, ◌^◌, IfOk};
+ghost use Rattle.std.specs.Prelude.{◌≡◌, ◌<◌, ◌≤◌, ◌^◌, length, IfOk, IfErr};
 ghost use Rattle.brc_model.specs.Duties.{address_of, new_word};
 ghost use Rattle.brc_model.specs.Machine.{is_running, used_by};
 ghost use Rattle.brc_model.specs.Within.{Suits};
@@ -42,6 +42,10 @@ pub fn touch_of(
     ensures numbered { IfOk result (λ touch. IsNumbered touch.rows duty.now) }
     ensures indexed { IfOk result (λ touch. IsIndexed duty.now) }
     ensures uses { IfOk result (λ touch. used_by thread.now.used duty.now < 2 ^ 32) }
+    ensures refused { IfErr result (λ refused. let rows = length memory.now.local in
+        rows ≤ 2 ^ 20 → IsIndexed duty.now → IsNumbered rows duty.now → used_by thread.now.used duty.now < 2 ^ 32
+        → Suits own (is_running thread.now.status) rows duty.now
+            (word_in memory.now (address_of blocks own thread.now.head duty.now)) → ⊥) }
 {
     let rows = memory.rows();
     if rows > MOST_ROWS {
