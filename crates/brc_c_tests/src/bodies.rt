@@ -1,9 +1,11 @@
+//! The bodies of functions as trees.
+
 use crate::reading::{bodies_of, same};
 use std::alloc::Global;
 use std::test::Fail;
 
 /// The body of a function with the parameters `a` and `b`, and the text of its tree.
-const ROWS: [(&str, &str); 43] = [
+pub const ROWS: [(&str, &str); 43] = [
     ("", "{ }"),
     (";", "{ { } }"),
     ("a = 1;", "{ (a = 1); }"),
@@ -143,7 +145,7 @@ const ROWS: [(&str, &str); 43] = [
 ];
 
 /// The body of a function that isn't read, from line 2 on, and where and why it isn't.
-const NOT_READ: [(&str, &str); 23] = [
+pub const NOT_READ: [(&str, &str); 23] = [
     ("a = ;", "2:5 `;` is read where an expression is expected"),
     ("a = 1", "3:1 `}` is read where `;` is expected"),
     ("f(1", "3:1 `}` is read where `)` is expected"),
@@ -179,14 +181,14 @@ const NOT_READ: [(&str, &str); 23] = [
 ];
 
 /// Fails unless the body has this tree.
-fn body(alloc: Global, body: &str, wanted: &str) -> Result<(), Fail> {
+pub fn body(alloc: Global, body: &str, wanted: &str) -> Result<(), Fail> {
     let source = format!(in alloc; "static int f(PyObject *a, int b) {{ {body} }}")?;
     let found = bodies_of(alloc, source.as_bytes())?;
     same(body, found.as_str().trim_end(), wanted)
 }
 
-/// Fails unless the body isn't read, for this reason, and the function after it is.
-fn body_not_read(alloc: Global, body: &str, wanted: &str) -> Result<(), Fail> {
+/// Fails unless the body isn't read, for this reason, and the function after it is, as each one after one that isn't.
+pub fn body_not_read(alloc: Global, body: &str, wanted: &str) -> Result<(), Fail> {
     let source = format!(in alloc;
         "int f(int a) {{\n{body}\n}}\nint g(void)\n{{\nreturn 1;\n}}\n"
     )?;
@@ -194,16 +196,4 @@ fn body_not_read(alloc: Global, body: &str, wanted: &str) -> Result<(), Fail> {
     let (first, second) = found.as_str().split_once('\n').unwrap_or(("", ""));
     same(body, first, wanted)?;
     same(body, second, "{ return 1; }\n")
-}
-
-/// Each function after one that isn't read is read.
-#[test]
-fn bodies(rt: HostRuntime) -> Result<(), Fail> {
-    for (source, wanted) in &ROWS {
-        body(rt.alloc(), source, wanted)?;
-    }
-    for (source, wanted) in &NOT_READ {
-        body_not_read(rt.alloc(), source, wanted)?;
-    }
-    Ok(())
 }

@@ -2,13 +2,13 @@
 
 use crate::judged::said_of;
 use crate::reading::same;
-use brc_c_program::AskedFormat;
+use brc_c_program::{AskedFormat, Status};
 use serde_json::Value;
 use std::alloc::{AllocError, Global};
 use std::test::Fail;
 
 /// Files with findings of each level, and of more than one place.
-const FILES: [&str; 4] = [
+pub const FILES: [&str; 4] = [
     "static int an_error(PyObject *o)\n{\nPyObject *x = PyObject_Repr(o);\nreturn x == NULL;\n}\n\
     static long a_warning(PyObject *list)\n{\nreturn PyLong_AsLong(PyList_GET_ITEM(list, 0));\n}\n\
     static PyObject *possibly(PyObject *o)\n{\nPyObject *x = make(o);\nif (x == NULL)\nreturn NULL;\n\
@@ -80,25 +80,34 @@ fn array_at<'v>(value: &'v Value, path: &str) -> &'v [Value] {
 fn of_objects(alloc: Global, text: &str) -> Result<String, Fail> {
     let mut all = String::new(alloc);
     for line in text.lines() {
-        let object = Value::from_str(alloc, line)?;
-        if text_at(&object, "/verdict") == "refused" {
-            let first = number_at(&object, "/line");
-            let column = number_at(&object, "/column");
-            let place = format!(in alloc; "{first}:{column}")?;
-            let code = text_at(&object, "/code");
-            add(&mut all, place.as_str(), text_at(&object, "/level"), code)?;
-        }
+        add_of_object(alloc, &mut all, line)?;
     }
     Ok(all)
+}
+
+/// Appends the finding of an object, if it has one.
+fn add_of_object(alloc: Global, all: &mut String, line: &str) -> Result<(), Fail> {
+    let object = Value::from_str(alloc, line)?;
+    Ok(add_of_value(alloc, all, &object)?)
+}
+
+fn add_of_value(alloc: Global, all: &mut String, object: &Value) -> Result<(), AllocError> {
+    if text_at(object, "/verdict") != "refused" {
+        return Ok(());
+    }
+    let first = number_at(object, "/line");
+    let column = number_at(object, "/column");
+    let place = format!(in alloc; "{first}:{column}")?;
+    let code = text_at(object, "/code");
+    add(all, place.as_str(), text_at(object, "/level"), code)
 }
 
 /// Returns the findings of a document of SARIF.
 fn of_document(alloc: Global, document: &Value) -> Result<String, AllocError> {
     let mut all = String::new(alloc);
     for found in array_at(document, "/runs/0/results") {
-        let region = "/locations/0/physicalLocation/region";
-        let first = number_at(found, format!(in alloc; "{region}/startLine")?.as_str());
-        let column = number_at(found, format!(in alloc; "{region}/startColumn")?.as_str());
+        let first = number_at(found, "/locations/0/physicalLocation/region/startLine");
+        let column = number_at(found, "/locations/0/physicalLocation/region/startColumn");
         let place = format!(in alloc; "{first}:{column}")?;
         let level = match text_at(found, "/level") {
             "note" => "possible",
@@ -151,32 +160,52 @@ fn is_document(document: &Value) -> bool {
 }
 
 /// Fails unless the formats say the same of a file.
-fn agree(alloc: Global, source: &str) -> Result<(), Fail> {
+pub fn agree(alloc: Global, source: &str) -> Result<(), Fail> {
     let text = said_of(alloc, source, AskedFormat::Text)?;
     let wanted = of_text(alloc, text.text.as_str())?;
-    let json = said_of(alloc, source, AskedFormat::Json)?;
-    let found = of_objects(alloc, json.text.as_str())?;
-    same(source, found.as_str(), wanted.as_str())?;
-    let sarif = said_of(alloc, source, AskedFormat::Sarif)?;
-    let document = Value::from_str(alloc, sarif.text.as_str().trim_end())?;
-    let found = of_document(alloc, &document)?;
-    same(source, found.as_str(), wanted.as_str())?;
-    if is_document(&document) && json.status == text.status && sarif.status == text.status {
-        return Ok(());
-    }
-    Err(Fail::new(format_args!("{:?}", sarif.text)))
+    objects_agree(alloc, source, wanted.as_str(), text.status)?;
+    document_agrees(alloc, source, wanted.as_str(), text.status)
 }
 
-#[test]
-fn formats(rt: HostRuntime) -> Result<(), Fail> {
-    for source in &FILES {
-        agree(rt.alloc(), source)?;
+/// Fails unless the objects about a file have these findings, and the command this status.
+fn objects_agree(alloc: Global, source: &str, wanted: &str, status: Status) -> Result<(), Fail> {
+    let json = said_of(alloc, source, AskedFormat::Json)?;
+    let found = of_objects(alloc, json.text.as_str())?;
+    if json.status != status {
+        return Err("the status is another one")?;
     }
-    let first = said_of(rt.alloc(), FILES[0], AskedFormat::Text)?;
-    let found = of_text(rt.alloc(), first.text.as_str())?;
-    same(
-        FILES[0],
-        found.as_str(),
-        "4:1 error C5\n8:22 warning C8\n15:1 possible C3\n",
-    )
+    same(source, found.as_str(), wanted)
+}
+
+/// Fails unless the document about a file has these findings, and what it has to have, and the command this status.
+fn document_agrees(alloc: Global, source: &str, wanted: &str, status: Status) -> Result<(), Fail> {
+    let sarif = said_of(alloc, source, AskedFormat::Sarif)?;
+    let text = sarif.text.as_str();
+    if sarif.status != status || !is_written(alloc, text)? {
+        return Err(Fail::new(format_args!("{text:?}")));
+    }
+    let found = of_document_text(alloc, text)?;
+    same(source, found.as_str(), wanted)
+}
+
+/// Whether a text is a document that has what SARIF 2.1.0 wants of one.
+fn is_written(alloc: Global, text: &str) -> Result<bool, Fail> {
+    let document = Value::from_str(alloc, text.trim_end())?;
+    Ok(is_document(&document))
+}
+
+/// Returns the findings of the text of a document of SARIF.
+fn of_document_text(alloc: Global, text: &str) -> Result<String, Fail> {
+    let document = Value::from_str(alloc, text.trim_end())?;
+    Ok(of_document(alloc, &document)?)
+}
+
+/// The findings of the first file.
+pub const FIRST: &str = "4:1 error C5\n8:22 warning C8\n15:1 possible C3\n";
+
+/// Fails unless the text about a file has these findings.
+pub fn finds(alloc: Global, source: &str, wanted: &str) -> Result<(), Fail> {
+    let said = said_of(alloc, source, AskedFormat::Text)?;
+    let found = of_text(alloc, said.text.as_str())?;
+    same(source, found.as_str(), wanted)
 }

@@ -1,7 +1,10 @@
-//! A C file in memory, judged as the command judges it.
+//! A C file in memory, judged as the command judges it: in three formats, and with releases that are changed. Then
+//! outlines.
 
+use crate::{formats, outlines, releases};
 use brc_c_program::{Asked, AskedFormat, AskedRules, Files, Judgement, Status, judge_files};
 use std::alloc::{AllocError, Global};
+use std::test::Fail;
 
 const FILE: &str = "m.c";
 
@@ -78,4 +81,24 @@ fn judged(
         shows_modules: false,
     };
     judge_files(alloc, &asked, &mut OneFile { text: source })
+}
+
+#[test]
+fn functions_are_judged(rt: HostRuntime) -> Result<(), Fail> {
+    let alloc = rt.alloc();
+    for source in &formats::FILES {
+        formats::agree(alloc, source)?;
+    }
+    formats::finds(alloc, formats::FILES[0], formats::FIRST)?;
+    for marked in &releases::RIGHT {
+        releases::needs_each(alloc, marked)?;
+    }
+    for (number, (said, wanted)) in outlines::SAID.iter().enumerate() {
+        assert_eq!(rt;
+            outlines::is_found(alloc, *said)?,
+            *wanted,
+            "outline {number}"
+        );
+    }
+    Ok(())
 }

@@ -1,3 +1,5 @@
+//! How large a source, its functions and a command may be.
+
 use crate::judged::errors_of;
 use crate::reading::{bodies_of, preprocessed, same};
 use brc_c_program::FILES_LIMIT;
@@ -55,16 +57,9 @@ fn is_read(alloc: Global, row: &Repeated, times: usize) -> Result<bool, Fail> {
     Ok(text.starts_with("{"))
 }
 
-#[test]
-fn sizes(rt: HostRuntime) -> Result<(), Fail> {
-    for row in &ROWS {
-        assert!(rt; is_read(rt.alloc(), row, row.3)?, "{row:?}");
-        assert!(rt;
-            !is_read(rt.alloc(), row, row.3.saturating_add(1))?,
-            "{row:?}"
-        );
-    }
-    Ok(())
+/// Returns whether a body with the texts as often as may be is read, and one with one more isn't.
+fn has_size(alloc: Global, row: &Repeated) -> Result<bool, Fail> {
+    Ok(is_read(alloc, row, row.3)? && !is_read(alloc, row, row.3.saturating_add(1))?)
 }
 
 /// Each macro uses the one before it ten times.
@@ -128,33 +123,32 @@ fn bodies_are(alloc: Global, source: &str, wanted: &str) -> Result<(), Fail> {
     same(source, found.as_str(), wanted)
 }
 
+/// Fails unless standard error has this if a command takes a file this often.
+fn errors_are(alloc: Global, times: usize, wanted: &str) -> Result<(), Fail> {
+    let source = "int f(int a) { return a; }\n";
+    let found = errors_of(alloc, source, times)?;
+    same(source, found.as_str(), wanted)
+}
+
+/// A command takes 256 files at most.
 #[test]
-fn many(rt: HostRuntime) -> Result<(), Fail> {
+fn sizes_have_limits(rt: HostRuntime) -> Result<(), Fail> {
     let alloc = rt.alloc();
-    assert_eq!(rt;
-        functions_read(alloc)?,
-        [FUNCTION_LIMIT + 1, FUNCTION_LIMIT]
-    );
-    assert_eq!(rt; included(alloc)?, 64);
+    for row in &ROWS {
+        assert!(rt; has_size(alloc, row)?, "{row:?}");
+    }
+    let counts = (functions_read(alloc)?, included(alloc)?);
+    assert_eq!(rt; counts, ([FUNCTION_LIMIT + 1, FUNCTION_LIMIT], 64));
     bodies_end(alloc, GROWING, "more than 32768 tokens\n{ return 1; }\n")?;
     bodies_are(
         alloc,
         EMPTY,
         "8:16 a macro makes too much before `A`\n{ return 1; }\n",
-    )
-}
-
-/// A command takes 256 files at most.
-#[test]
-fn files(rt: HostRuntime) -> Result<(), Fail> {
-    let alloc = rt.alloc();
-    let source = "int f(int a) { return a; }\n";
-    let whole = errors_of(alloc, source, FILES_LIMIT)?;
-    same(source, whole.as_str(), "")?;
-    let beyond = errors_of(alloc, source, FILES_LIMIT + 1)?;
-    same(
-        source,
-        beyond.as_str(),
+    )?;
+    errors_are(alloc, FILES_LIMIT, "")?;
+    errors_are(
+        alloc,
+        FILES_LIMIT + 1,
         "257 files: a command takes 256 at most\n",
     )
 }

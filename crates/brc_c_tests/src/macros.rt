@@ -20,14 +20,19 @@ fn left_of(alloc: Global, symbols: &Symbols, done: &Preprocessed) -> Result<Vec<
 }
 
 /// Fails unless this is left of the source.
-fn leaves(alloc: Global, source: &str, wanted: &str) -> Result<(), Fail> {
-    let mut symbols = Symbols::new(alloc)?;
-    let done = preprocessed(alloc, &mut symbols, source.as_bytes())?;
-    let left = left_of(alloc, &symbols, &done)?;
+pub fn leaves(alloc: Global, source: &str, wanted: &str) -> Result<(), Fail> {
+    let left = left_in(alloc, source.as_bytes())?;
     same(source, str::from_utf8(left.as_slice())?, wanted)
 }
 
-const ROWS: [(&str, &str); 29] = [
+fn left_in(alloc: Global, source: &[u8]) -> Result<Vec<u8>, Fail> {
+    let mut symbols = Symbols::new(alloc)?;
+    let done = preprocessed(alloc, &mut symbols, source)?;
+    Ok(left_of(alloc, &symbols, &done)?)
+}
+
+/// A source, and what is left of it.
+pub const ROWS: [(&str, &str); 29] = [
     ("a\nb", "a b "),
     ("#define X 1 + 2\nX X", "1 + 2 1 + 2 "),
     ("#define X X Y\nX", "X Y "),
@@ -79,11 +84,3 @@ const ROWS: [(&str, &str); 29] = [
         "7 X ",
     ),
 ];
-
-#[test]
-fn rows(rt: HostRuntime) -> Result<(), Fail> {
-    for (source, wanted) in &ROWS {
-        leaves(rt.alloc(), source, wanted)?;
-    }
-    Ok(())
-}

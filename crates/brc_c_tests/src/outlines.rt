@@ -3,7 +3,7 @@
 
 use brc_c_outline::{Broken, Outline, Point, is_broken, shows};
 use brc_check::entry_of;
-use brc_lang::{CheckCode, Kind, read};
+use brc_lang::{CheckCode, Kind, Module, read};
 use brc_model::{Slot, State};
 use std::alloc::{AllocError, Global};
 use std::test::Fail;
@@ -11,8 +11,8 @@ use std::test::Fail;
 const LOSES: &[u8] = b"module 1\nfunc f\nnewref v1 v0\nfail\nend\n";
 
 /// What an outline says of the function.
-#[derive(Clone, Copy, Debug)]
-struct Said {
+#[derive(Clone, Copy)]
+pub struct Said {
     /// The point where paths go on from the first one.
     way: usize,
     /// The instruction at which the second point starts.
@@ -30,7 +30,9 @@ const RIGHT: Said = Said {
 };
 
 /// Returns the point at which the function begins, and then that at which it has lost a reference.
-fn outline_of(alloc: Global, entry: State, lost: State, said: Said) -> Result<Outline, AllocError> {
+fn outline_of(alloc: Global, entry: State, said: Said) -> Result<Outline, AllocError> {
+    let mut lost = entry;
+    lost.slots[1] = Slot::Owned(Kind::List);
     let mut points = Vec::new(alloc);
     points.push(Point {
         start: 0,
@@ -51,41 +53,32 @@ fn outline_of(alloc: Global, entry: State, lost: State, said: Said) -> Result<Ou
 }
 
 /// Returns whether the function is found to do what is said of it, and to break the rule.
-fn is_found(alloc: Global, said: Said) -> Result<bool, Fail> {
+pub fn is_found(alloc: Global, said: Said) -> Result<bool, Fail> {
     let module = read(alloc, LOSES)?;
-    let Some(function) = module.functions.as_slice().first() else {
-        return Ok(false);
-    };
-    let entry = entry_of(function.parameters.as_slice());
-    let mut lost = entry;
-    lost.slots[1] = Slot::Owned(Kind::List);
-    let outline = outline_of(alloc, entry, lost, said)?;
-    Ok(shows(alloc, &module, &outline)? && is_broken(alloc, &outline, RIGHT.at, RIGHT.code)?)
+    let outline = outline_of(alloc, entry_of(&[]), said)?;
+    Ok(is_shown_broken(alloc, &module, &outline)?)
 }
 
-/// Fails unless what is said is found to be so, or not.
-fn ends_so(alloc: Global, said: Said, wanted: bool) -> Result<(), Fail> {
-    if is_found(alloc, said)? == wanted {
-        return Ok(());
+/// Returns whether the outline is that of the function, and breaks the rule.
+fn is_shown_broken(alloc: Global, module: &Module, outline: &Outline) -> Result<bool, AllocError> {
+    if shows(alloc, module, outline)? {
+        is_broken(alloc, outline, RIGHT.at, RIGHT.code)
+    } else {
+        Ok(false)
     }
-    Err(Fail::new(format_args!("{said:?}")))
 }
 
-#[test]
-fn an_outline_says_what_a_function_does(rt: HostRuntime) -> Result<(), Fail> {
-    let alloc = rt.alloc();
-    ends_so(alloc, RIGHT, true)?;
-    let others = [
-        Said { way: 0, ..RIGHT },
-        Said { start: 0, ..RIGHT },
-        Said { at: 0, ..RIGHT },
+/// What is said, and whether it is found to be so.
+pub const SAID: [(Said, bool); 5] = [
+    (RIGHT, true),
+    (Said { way: 0, ..RIGHT }, false),
+    (Said { start: 0, ..RIGHT }, false),
+    (Said { at: 0, ..RIGHT }, false),
+    (
         Said {
             code: CheckCode::StillOwns,
             ..RIGHT
         },
-    ];
-    for said in others.iter() {
-        ends_so(alloc, *said, false)?;
-    }
-    Ok(())
-}
+        false,
+    ),
+];

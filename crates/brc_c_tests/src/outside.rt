@@ -1,3 +1,5 @@
+//! What is declared outside functions.
+
 use crate::reading::{read, same};
 use crate::rendering::{add_pieces, add_type, spelled};
 use brc_c_text::{Symbol, Symbols};
@@ -104,7 +106,8 @@ fn add(
     text.push_str("; ")
 }
 
-const ROWS: [(&str, &str); 24] = [
+/// A text, and what it declares.
+pub const ROWS: [(&str, &str); 24] = [
     (
         "typedef struct { PyObject_HEAD PyObject *owner; int n; } CardObject;",
         "record CardObject/0 object owner:PyObject* n:int; ",
@@ -199,17 +202,13 @@ const ROWS: [(&str, &str); 24] = [
 ];
 
 /// Fails unless this is what a text declares.
-fn declares(alloc: Global, source: &str, wanted: &str) -> Result<(), Fail> {
-    let mut symbols = Symbols::new(alloc)?;
-    let tree = read(alloc, &mut symbols, source.as_bytes())?;
-    let found = declared(alloc, &symbols, &tree)?;
+pub fn declares(alloc: Global, source: &str, wanted: &str) -> Result<(), Fail> {
+    let found = declared_in(alloc, source.as_bytes())?;
     same(source, found.as_str(), wanted)
 }
 
-#[test]
-fn rows(rt: HostRuntime) -> Result<(), Fail> {
-    for (source, wanted) in &ROWS {
-        declares(rt.alloc(), source, wanted)?;
-    }
-    Ok(())
+fn declared_in(alloc: Global, source: &[u8]) -> Result<String, Fail> {
+    let mut symbols = Symbols::new(alloc)?;
+    let tree = read(alloc, &mut symbols, source)?;
+    Ok(declared(alloc, &symbols, &tree)?)
 }

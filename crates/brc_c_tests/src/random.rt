@@ -1,3 +1,5 @@
+//! Sources that are put together at random, and are read to their end.
+
 ghost use Rattle.std.specs.Prelude.{◌<◌};
 
 use crate::reading::read;
@@ -60,7 +62,7 @@ const PIECES: [&str; 40] = [
 ];
 
 /// Reads a function of random pieces.
-fn reads_pieces(alloc: Global, state: &mut u64) -> Result<(), Fail> {
+pub fn reads_pieces(alloc: Global, state: &mut u64) -> Result<(), Fail> {
     let mut source = String::from_str(alloc, "int f(int a) {")?;
     for _piece in 0..60 {
         source.push_str(PIECES[below(state, PIECES.len())])?;
@@ -70,7 +72,7 @@ fn reads_pieces(alloc: Global, state: &mut u64) -> Result<(), Fail> {
 }
 
 /// Reads random bytes.
-fn reads_bytes(alloc: Global, state: &mut u64) -> Result<(), Fail> {
+pub fn reads_bytes(alloc: Global, state: &mut u64) -> Result<(), Fail> {
     let mut source = Vec::new(alloc);
     for _byte in 0..80 {
         source.push((below(state, 256) & 255) as u8)?;
@@ -83,23 +85,5 @@ fn check(alloc: Global, source: &[u8]) -> Result<(), Fail> {
     let mut symbols = Symbols::new(alloc)?;
     read(alloc, &mut symbols, source)?;
     scan(alloc, source)?;
-    Ok(())
-}
-
-#[test]
-fn pieces(rt: HostRuntime) -> Result<(), Fail> {
-    let mut state = 1;
-    for _time in 0..300 {
-        reads_pieces(rt.alloc(), &mut state)?;
-    }
-    Ok(())
-}
-
-#[test]
-fn bytes(rt: HostRuntime) -> Result<(), Fail> {
-    let mut state = 7;
-    for _time in 0..300 {
-        reads_bytes(rt.alloc(), &mut state)?;
-    }
     Ok(())
 }

@@ -1,7 +1,7 @@
 //! Functions that are put together at random: each ends with a verdict or a reason.
 
 use crate::judged::said_of;
-use crate::random::below;
+use crate::random::{below, reads_bytes, reads_pieces};
 use brc_c_program::AskedFormat;
 use std::alloc::{AllocError, Global};
 use std::test::Fail;
@@ -191,16 +191,23 @@ fn all_not_read(alloc: Global, is_of_statements: bool) -> Result<u32, Fail> {
     Ok(count)
 }
 
+/// Sources of pieces and of bytes are read too.
 #[test]
-fn functions_of_tokens(rt: HostRuntime) -> Result<(), Fail> {
-    let count = all_not_read(rt.alloc(), false)?;
-    assert!(rt; count > 500, "{count}");
-    Ok(())
-}
-
-#[test]
-fn functions_of_statements(rt: HostRuntime) -> Result<(), Fail> {
-    let count = all_not_read(rt.alloc(), true)?;
-    assert!(rt; count < 100, "{count}");
+fn random_sources_and_functions(rt: HostRuntime) -> Result<(), Fail> {
+    let alloc = rt.alloc();
+    let mut state = 1;
+    for _time in 0..300 {
+        reads_pieces(alloc, &mut state)?;
+    }
+    state = 7;
+    for _time in 0..300 {
+        reads_bytes(alloc, &mut state)?;
+    }
+    let of_tokens = all_not_read(alloc, false)?;
+    let of_statements = all_not_read(alloc, true)?;
+    assert!(rt;
+        of_tokens > 500 && of_statements < 100,
+        "{of_tokens} and {of_statements}"
+    );
     Ok(())
 }

@@ -1,9 +1,11 @@
-//! Sources as they are read from a text.
+//! Sources as they are read from a text: their tokens, what the preprocessor leaves, what they declare, the bodies of
+//! their functions, and the types of expressions.
 
 use crate::rendering::body_text;
+use crate::{bodies, macros, outside, tokens, types};
 use brc_c_macros::{Headers, Macros, Preprocessed, preprocess};
 use brc_c_read::{TypeNames, read_source};
-use brc_c_text::{Symbols, lexemes_of, scan};
+use brc_c_text::{Symbols, TextFault, lexemes_of, scan};
 use brc_c_tree::SourceTree;
 use std::alloc::{AllocError, Global};
 use std::test::Fail;
@@ -66,8 +68,12 @@ pub fn read(alloc: Global, symbols: &mut Symbols, source: &[u8]) -> Result<Sourc
 /// have its end proved at each assertion.
 pub fn bodies_of(alloc: Global, source: &[u8]) -> Result<String, Fail> {
     let mut symbols = Symbols::new(alloc)?;
-    let tree = read(alloc, &mut symbols, source)?;
-    Ok(body_lines(alloc, &symbols, &tree)?)
+    bodies_with(alloc, &mut symbols, source)
+}
+
+fn bodies_with(alloc: Global, symbols: &mut Symbols, source: &[u8]) -> Result<String, Fail> {
+    let tree = read(alloc, symbols, source)?;
+    Ok(body_lines(alloc, symbols, &tree)?)
 }
 
 fn body_lines(alloc: Global, symbols: &Symbols, tree: &SourceTree) -> Result<String, AllocError> {
@@ -78,4 +84,33 @@ fn body_lines(alloc: Global, symbols: &Symbols, tree: &SourceTree) -> Result<Str
         lines.push('\n')?;
     }
     Ok(lines)
+}
+
+#[test]
+fn sources_are_read(rt: HostRuntime) -> Result<(), Fail> {
+    let alloc = rt.alloc();
+    for (source, wanted) in &tokens::ROWS {
+        tokens::has_tokens(alloc, source, wanted)?;
+    }
+    for (source, wanted) in &macros::ROWS {
+        macros::leaves(alloc, source, wanted)?;
+    }
+    for (source, wanted) in &outside::ROWS {
+        outside::declares(alloc, source, wanted)?;
+    }
+    for (source, wanted) in &bodies::ROWS {
+        bodies::body(alloc, source, wanted)?;
+    }
+    for (source, wanted) in &bodies::NOT_READ {
+        bodies::body_not_read(alloc, source, wanted)?;
+    }
+    for (source, wanted) in &types::ROWS {
+        types::has_type(alloc, source, wanted)?;
+    }
+    let faults = [
+        tokens::fault_of(alloc, 1048577)?,
+        tokens::fault_of(alloc, 1048576)?,
+    ];
+    assert_eq!(rt; faults, [Some(TextFault::TooLong), None]);
+    Ok(())
 }

@@ -168,14 +168,6 @@ fn is_read_so(alloc: Global, wanted: &Sort) -> Result<bool, Fail> {
     Ok(says(&table, wanted))
 }
 
-#[test]
-fn rows_of_each_sort(rt: HostRuntime) -> Result<(), Fail> {
-    for wanted in &ROWS {
-        assert!(rt; is_read_so(rt.alloc(), wanted)?, "{:?}", wanted.0);
-    }
-    Ok(())
-}
-
 /// Texts that aren't read, with their first line at fault.
 const FAULTS: [(&[u8], u64, RowFault); 26] = [
     (b"f new . null\n", 1, RowFault::WordCount),
@@ -218,39 +210,29 @@ fn fault_of(alloc: Global, text: &[u8]) -> Option<(u64, RowFault)> {
     }
 }
 
-/// Returns what is at fault in a text that repeats a byte this many times.
-fn fault_of_long(
-    alloc: Global,
-    before: &[u8],
-    byte: u8,
-    times: usize,
-    behind: &[u8],
-) -> Result<Option<(u64, RowFault)>, AllocError> {
-    let mut text = Vec::from_slice(alloc, before)?;
-    for _ in 0..times {
-        text.push(byte)?;
+/// Returns what is at fault in a text that repeats a byte.
+fn fault_of_long(alloc: Global, long: &Long) -> Result<Option<(u64, RowFault)>, AllocError> {
+    let mut text = Vec::from_slice(alloc, long.0)?;
+    for _ in 0..long.2 {
+        text.push(long.1)?;
     }
-    text.extend_from_slice(behind)?;
+    text.extend_from_slice(long.3)?;
     Ok(fault_of(alloc, text.as_slice()))
 }
 
-#[test]
-fn faults_of_each_sort(rt: HostRuntime) -> Result<(), Fail> {
-    let alloc = rt.alloc();
-    for (text, line, fault) in &FAULTS {
-        assert_eq!(rt; fault_of(alloc, text), Some((*line, *fault)), "{text:?}");
-    }
-    let long = [
-        fault_of_long(alloc, b"f new ", b'b', 128, b" null pure\n")?,
-        fault_of_long(alloc, b"#", b'-', 255, b"\n")?,
-    ];
-    let wanted = [
-        Some((1, RowFault::TooManyArguments)),
-        Some((1, RowFault::LongLine)),
-    ];
-    assert_eq!(rt; long, wanted);
-    Ok(())
-}
+/// What is before a byte, the byte, how often it is there, what is behind, and the fault, which is in line 1.
+type Long = (&'static [u8], u8, usize, &'static [u8], RowFault);
+
+const LONG: [Long; 2] = [
+    (
+        b"f new ",
+        b'b',
+        128,
+        b" null pure\n",
+        RowFault::TooManyArguments,
+    ),
+    (b"#", b'-', 255, b"\n", RowFault::LongLine),
+];
 
 /// Names of functions, with what the manual says of them.
 const NAMES: [(&[u8], Gives, &[Takes]); 3] = [
@@ -309,19 +291,16 @@ fn carried(alloc: Global) -> Result<(bool, [Option<Gives>; 2]), TableFault> {
     Ok((has_names(&tables), gives))
 }
 
+/// Two tables of a user's.
+const OWN_ROWS: [&[u8]; 2] = [
+    b"PyList_New lent - none pure\n->tp_alloc null -- none pure\n",
+    b"PyList_New null - none pure\nmine new . null pure\n",
+];
+
 /// What functions and fields give once rows of a user's are added.
 fn with_own_rows(alloc: Global) -> Result<[Option<Gives>; 4], Fail> {
     let mut tables = Tables::new(alloc)?;
-    add(
-        alloc,
-        &mut tables,
-        b"PyList_New lent - none pure\n->tp_alloc null -- none pure\n",
-    )?;
-    add(
-        alloc,
-        &mut tables,
-        b"PyList_New null - none pure\nmine new . null pure\n",
-    )?;
+    add_own_rows(alloc, &mut tables)?;
     Ok([
         given(&tables, b"PyList_New", false),
         given(&tables, b"mine", false),
@@ -330,21 +309,41 @@ fn with_own_rows(alloc: Global) -> Result<[Option<Gives>; 4], Fail> {
     ])
 }
 
+fn add_own_rows(alloc: Global, tables: &mut Tables) -> Result<(), Fail> {
+    for text in &OWN_ROWS {
+        add(alloc, tables, text)?;
+    }
+    Ok(())
+}
+
 /// How many rows the program's table has.
 fn carried_rows(alloc: Global) -> Result<usize, TableFault> {
     Ok(Table::of_the_c_api(alloc)?.len())
 }
 
+/// What `PyList_New` and `mine` give, and the fields `tp_alloc` and `tp_free`, once the user's rows are added.
+const WITH_OWN_ROWS: [Option<Gives>; 4] = [
+    Some(Gives::Lent),
+    Some(Gives::New),
+    Some(Gives::Null),
+    Some(Gives::Free),
+];
+
+/// The user's rows come first.
 #[test]
-fn the_users_rows_come_first(rt: HostRuntime) -> Result<(), Fail> {
-    assert_eq!(rt; carried_rows(rt.alloc())?, 1318);
-    assert_eq!(rt; carried(rt.alloc())?, (true, [None, Some(Gives::New)]));
-    let wanted = [
-        Some(Gives::Lent),
-        Some(Gives::New),
-        Some(Gives::Null),
-        Some(Gives::Free),
-    ];
-    assert_eq!(rt; with_own_rows(rt.alloc())?, wanted);
+fn tables_are_read(rt: HostRuntime) -> Result<(), Fail> {
+    let alloc = rt.alloc();
+    for wanted in &ROWS {
+        assert!(rt; is_read_so(alloc, wanted)?, "{:?}", wanted.0);
+    }
+    for (text, line, fault) in &FAULTS {
+        assert_eq!(rt; fault_of(alloc, text), Some((*line, *fault)), "{text:?}");
+    }
+    for long in &LONG {
+        assert_eq!(rt; fault_of_long(alloc, long)?, Some((1, long.4)));
+    }
+    assert_eq!(rt; carried_rows(alloc)?, 1318);
+    assert_eq!(rt; carried(alloc)?, (true, [None, Some(Gives::New)]));
+    assert_eq!(rt; with_own_rows(alloc)?, WITH_OWN_ROWS);
     Ok(())
 }

@@ -18,7 +18,7 @@ fn add_token(
 }
 
 /// Fails unless these are the tokens of a source, and behind them its comments.
-fn has_tokens(alloc: Global, source: &[u8], wanted: &str) -> Result<(), Fail> {
+pub fn has_tokens(alloc: Global, source: &[u8], wanted: &str) -> Result<(), Fail> {
     let scanned = scan(alloc, source)?;
     let mut all = String::new(alloc);
     for token in &scanned.tokens {
@@ -48,7 +48,8 @@ fn letter_of(token: &Token) -> char {
     }
 }
 
-const ROWS: [(&[u8], &str); 18] = [
+/// A source, its tokens, and behind them its comments.
+pub const ROWS: [(&[u8], &str); 18] = [
     (b"", ""),
     (b"a b", "na@1:1 nb@1:3 "),
     (b"a\n b", "na@1:1 nb@2:2 "),
@@ -79,21 +80,11 @@ const ROWS: [(&[u8], &str); 18] = [
 ];
 
 /// Returns why a source of this many letters isn't scanned, or `None` if it is.
-fn fault_of(alloc: Global, letters: usize) -> Result<Option<TextFault>, AllocError> {
+pub fn fault_of(alloc: Global, letters: usize) -> Result<Option<TextFault>, AllocError> {
     let mut long = Vec::new(alloc);
     long.resize(letters, b'a')?;
     match scan(alloc, long.as_slice()) {
         Ok(_) => Ok(None),
         Err(fault) => Ok(Some(fault)),
     }
-}
-
-#[test]
-fn rows(rt: HostRuntime) -> Result<(), Fail> {
-    for (source, wanted) in &ROWS {
-        has_tokens(rt.alloc(), source, wanted)?;
-    }
-    assert_eq!(rt; fault_of(rt.alloc(), 1048577)?, Some(TextFault::TooLong));
-    assert_eq!(rt; fault_of(rt.alloc(), 1048576)?, None);
-    Ok(())
 }

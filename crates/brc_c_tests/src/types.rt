@@ -1,9 +1,11 @@
+//! The types of expressions.
+
 use crate::reading::{read, same};
 use crate::rendering::add_type;
 use brc_c_text::Symbols;
-use brc_c_tree::SourceTree;
+use brc_c_tree::{SourceTree, TypeName};
 use brc_c_types::{Types, types_of};
-use std::alloc::Global;
+use std::alloc::{AllocError, Global};
 use std::test::Fail;
 
 const BEFORE: &str =
@@ -14,7 +16,7 @@ const BEFORE: &str =
     static PyObject *global; PyObject *make(int); Ref other(void); PlainObject *plain(void);\n";
 
 /// An expression and its type, and behind that whether it is an object.
-const ROWS: [(&str, &str); 27] = [
+pub const ROWS: [(&str, &str); 27] = [
     ("self", "NodeObject* object"),
     ("n", "int"),
     ("args", "PyObject**"),
@@ -47,35 +49,42 @@ const ROWS: [(&str, &str); 27] = [
 /// Returns the type of the last expression of a text's first function, and whether it is an object.
 fn last_type(alloc: Global, symbols: &Symbols, tree: &SourceTree) -> Result<String, Fail> {
     let types = Types::new(alloc, tree)?;
-    let function = tree.functions.as_slice().first().ok_or("a function")?;
+    let Some(function) = tree.functions.as_slice().first() else {
+        return Err("there is no function")?;
+    };
     let found = types_of(alloc, &types, function)?;
     // The whole expression is the last of the tree.
-    let last = found.last().copied().flatten().ok_or("a type")?;
+    match found.last() {
+        Some(Some(last)) => Ok(type_text(alloc, symbols, &types, *last)?),
+        _ => Err("it has no type")?,
+    }
+}
+
+fn type_text(
+    alloc: Global,
+    symbols: &Symbols,
+    types: &Types,
+    of: TypeName,
+) -> Result<String, AllocError> {
     let mut text = String::new(alloc);
-    add_type(&mut text, symbols, last)?;
-    text.push_str(if types.is_object(symbols, last) {
-        " object"
-    } else {
-        ""
-    })?;
+    add_type(&mut text, symbols, of)?;
+    let is_object = types.is_object(symbols, of);
+    text.push_str(if is_object { " object" } else { "" })?;
     Ok(text)
 }
 
 /// Fails unless this is the type of an expression, behind `BEFORE` and a local variable.
-fn has_type(alloc: Global, expression: &str, wanted: &str) -> Result<(), Fail> {
+pub fn has_type(alloc: Global, expression: &str, wanted: &str) -> Result<(), Fail> {
     let source = format!(in alloc;
         "{BEFORE}int f(NodeObject *self, PyObject **args, int n, Ref ref) {{ PyObject *local; {expression}; }}"
     )?;
-    let mut symbols = Symbols::new(alloc)?;
-    let tree = read(alloc, &mut symbols, source.as_bytes())?;
-    let found = last_type(alloc, &symbols, &tree)?;
+    let found = type_in(alloc, source.as_bytes())?;
     same(expression, found.as_str(), wanted)
 }
 
-#[test]
-fn rows(rt: HostRuntime) -> Result<(), Fail> {
-    for (expression, wanted) in &ROWS {
-        has_type(rt.alloc(), expression, wanted)?;
-    }
-    Ok(())
+/// Returns the type of the last expression of a text's first function, and whether it is an object.
+fn type_in(alloc: Global, source: &[u8]) -> Result<String, Fail> {
+    let mut symbols = Symbols::new(alloc)?;
+    let tree = read(alloc, &mut symbols, source)?;
+    last_type(alloc, &symbols, &tree)
 }

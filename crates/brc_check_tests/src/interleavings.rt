@@ -1,6 +1,6 @@
 ghost use Rattle.brc_check_tests.specs.Callable.{HasCallableEnds};
 
-use crate::steps::{TAKE_AND_DROP, accepted_text, counted, last_call, step};
+use crate::steps::{SAID, TAKE_AND_DROP, accepted_text, counted, last_call, said, step};
 use brc_check::Checked;
 use brc_world::{Call, Choice, Did, NoMemory, World};
 use std::alloc::{AllocError, Global};
@@ -66,11 +66,17 @@ fn after<'a>(
     requires { HasCallableEnds checked.now.module }
 {
     let mut world = first(alloc, checked)?;
+    let did = make_all(&mut world, moves)?;
+    Ok((world, did))
+}
+
+/// Makes the moves. Returns what the last one did.
+fn make_all(world: &mut World<'_>, moves: &[u8]) -> Result<Option<Did>, NoMemory> {
     let mut did = None;
     for turn in moves {
-        did = make(&mut world, *turn)?;
+        did = make(world, *turn)?;
     }
-    Ok((world, did))
+    Ok(did)
 }
 
 fn moves_to(alloc: Global, paths: &[Vec<u8>], state: usize) -> Result<Option<Vec<u8>>, AllocError> {
@@ -103,18 +109,9 @@ fn is_last(world: &World<'_>, objects: u64) -> Result<bool, Fail> {
     Ok(true)
 }
 
-/// What a search has found.
-#[derive(Clone, Copy, Debug, PartialEq, Eq)]
-struct Found {
-    /// The number of states that moves lead to.
-    states: usize,
-    /// The number of states in which all threads are gone.
-    last: usize,
-    /// The number of states that no move changes.
-    ends: usize,
-    /// The number of states and threads whose step changes nothing there, though the thread isn't gone.
-    waits: usize,
-}
+/// What a search has found: the number of states that moves lead to; those in which all threads are gone; those that no
+/// move changes; and the number of states and threads whose step changes nothing there, though the thread isn't gone.
+type Found = [usize; 4];
 
 /// Returns whether no move has led to this state before.
 fn is_new(
@@ -139,6 +136,21 @@ fn last_if_new(
     }
 }
 
+/// Does what `last_if_new` does, if the last move led to the state.
+fn last_if_moved(
+    alloc: Global,
+    world: &World<'_>,
+    did: Option<Did>,
+    objects: u64,
+    seen: &mut BTreeSet<String>,
+) -> Result<Option<bool>, Fail> {
+    if did == Some(Did::Moved) {
+        last_if_new(alloc, world, objects, seen)
+    } else {
+        Ok(None)
+    }
+}
+
 /// Visits the state after the moves, if the last move leads to a new one. Returns what that move did, and of a new
 /// state whether all its threads are gone.
 fn visit(
@@ -151,10 +163,7 @@ fn visit(
     requires { HasCallableEnds checked.now.module }
 {
     let (world, did) = after(alloc, checked, moves)?;
-    if did != Some(Did::Moved) {
-        return Ok((did, None));
-    }
-    let found = last_if_new(alloc, &world, objects, seen)?;
+    let found = last_if_moved(alloc, &world, did, objects, seen)?;
     Ok((did, found))
 }
 
@@ -185,12 +194,7 @@ fn search(alloc: Global, checked: &Checked, objects: u64) -> Result<Found, Fail>
         }
         ends = ends.saturating_add(usize::from(is_end));
     }
-    Ok(Found {
-        states: paths.len(),
-        last,
-        ends,
-        waits,
-    })
+    Ok([paths.len(), last, ends, waits])
 }
 
 /// Visits each state that the module's interleavings lead to.
@@ -214,21 +218,21 @@ const CASES: &[Case] = &[
     ("a race and a call", CLEAR_AND_KEEP, 2, true),
 ];
 
-/// No state without a way on is left, except for those in which all threads are gone.
+/// Whether a search has come to its end, and no state without a way on is left, except for those in which all threads
+/// are gone; and whether a thread waits in some state.
+fn are_ends(found: Found) -> (bool, bool) {
+    let [states, last, ends, waits] = found;
+    (last > 0 && states < MOST_STATES && ends == last, waits > 0)
+}
+
+/// Each interleaving ends. Before that, what steps say that they did.
 #[test]
 fn every_interleaving_ends(rt: HostRuntime) -> Result<(), Fail> {
+    assert_eq!(rt; said(rt.alloc())?, SAID);
     for (name, text, objects, waits) in CASES {
         let found = found_in(rt.alloc(), text, *objects)?;
-        println!(rt;
-            "{name}: {} states, {} of them last ones, {} waits",
-            found.states, found.last, found.waits
-        )?;
-        assert!(rt; found.last > 0 && found.states < MOST_STATES, "{name}");
-        assert_eq!(rt;
-            (found.ends, found.waits > 0),
-            (found.last, *waits),
-            "{name}"
-        );
+        println!(rt; "{name}: {found:?} states, last ones, ends and waits")?;
+        assert_eq!(rt; are_ends(found), (true, *waits), "{name}");
     }
     Ok(())
 }

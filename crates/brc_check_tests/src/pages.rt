@@ -4,7 +4,7 @@ ghost use Rattle.brc_lang.specs.Grammar.{IsModule};
 
 use brc_check::{Refused, check};
 use brc_lang::{Module, ReadFault, read};
-use brc_pages::{ExampleLine, Topic, page_of, topic_named, write_page};
+use brc_pages::{ExampleLine, Page, Topic, page_of, topic_named, write_page};
 use brc_report::Paint;
 use std::alloc::Global;
 use std::test::*;
@@ -84,47 +84,55 @@ fn topic_of(code: &str) -> Result<Topic, Fail> {
     }
 }
 
-/// What `check` says of the example of a page and of its mended form.
-fn said_of(alloc: Global, code: &str) -> Result<(String, String), Fail> {
-    let page = page_of(topic_of(code)?);
-    let example = check_line(alloc, joined(alloc, page.example)?.as_slice())?;
-    let mended = check_line(alloc, joined(alloc, page.mended)?.as_slice())?;
-    Ok((example, mended))
+/// The page of a code. This function has no contract, because `page_of`'s would make each later line slow to prove.
+fn page_named(code: &str) -> Result<Page, Fail> {
+    Ok(page_of(topic_of(code)?))
+}
+
+/// Whether `check` says this of the example.
+fn is_said(alloc: Global, lines: &[ExampleLine], wanted: &str) -> Result<bool, Fail> {
+    let text = joined(alloc, lines)?;
+    Ok(check_line(alloc, text.as_slice())?.as_str() == wanted)
 }
 
 /// The page of a code as bytes.
 fn page_text(alloc: Global, code: &str, paint: Paint) -> Result<Vec<u8>, Fail> {
+    let topic = topic_of(code)?;
     let mut out: Vec<u8> = Vec::new(alloc);
-    write_page(topic_of(code)?, paint, &mut out)?;
+    write_page(topic, paint, &mut out)?;
     Ok(out)
 }
 
-/// Each code has a page, whose example has the code and whose mended example has none. A page has colours if they are
-/// asked for.
+/// Whether the page of a code has the code and is narrow, its example has the code, and its mended example has none.
+fn is_page(alloc: Global, code: &str) -> Result<bool, Fail> {
+    let page = page_named(code)?;
+    if page.code != code || too_wide(page_text(alloc, code, Paint::Plain)?.as_slice()) != 0 {
+        return Ok(false);
+    }
+    if code == "C12" || code == "L8" {
+        return Ok(page.example.is_empty());
+    }
+    Ok(
+        page.printed.ends_with(code)
+            && is_said(alloc, page.example, page.printed)?
+            && is_said(alloc, page.mended, "accepted")?,
+    )
+}
+
+/// Whether the page of a code has the part, with these colours.
+fn has_on_page(alloc: Global, code: &str, paint: Paint, part: &[u8]) -> Result<bool, Fail> {
+    Ok(has_part(page_text(alloc, code, paint)?.as_slice(), part))
+}
+
+/// Each code has a page. A page has colours if they are asked for.
 #[test]
 fn each_code_has_its_page(rt: HostRuntime) -> Result<(), Fail> {
+    let alloc = rt.alloc();
     for code in CODES {
-        let page = page_of(topic_of(code)?);
-        assert_eq!(rt; page.code, *code);
-        let wide = too_wide(page_text(rt.alloc(), code, Paint::Plain)?.as_slice());
-        assert_eq!(rt; wide, 0, "{code}");
-        if *code == "C12" || *code == "L8" {
-            assert!(rt; page.example.is_empty(), "{code}");
-            continue;
-        }
-        let (example, mended) = said_of(rt.alloc(), code)?;
-        assert_eq!(rt; example.as_str(), page.printed, "{code}");
-        assert!(rt; page.printed.ends_with(code), "{code}");
-        assert_eq!(rt; mended.as_str(), "accepted", "{code}");
+        assert!(rt; is_page(alloc, code)?, "{code}");
     }
-    let plain = page_text(rt.alloc(), "C5", Paint::Plain)?;
-    let coloured = page_text(rt.alloc(), "C5", Paint::Ansi)?;
-    assert!(rt; !has_part(plain.as_slice(), b"\x1b"));
-    assert!(rt;
-        has_part(
-            coloured.as_slice(),
-            b"\x1b[1;31mC5\x1b[0m: a reference is left"
-        )
-    );
+    let title = b"\x1b[1;31mC5\x1b[0m: a reference is left";
+    assert!(rt; has_on_page(alloc, "C5", Paint::Ansi, title)?);
+    assert!(rt; !has_on_page(alloc, "C5", Paint::Plain, b"\x1b")?);
     Ok(())
 }

@@ -5,6 +5,7 @@ ghost use Rattle.std.specs.Prelude.{◌<◌};
 
 use crate::accepted::{CALLS, FUNCTIONS as ACCEPTED, STATICS};
 use crate::modules::module_of;
+use crate::states::{CASES, first_other_state, takes_two_steps};
 use brc_check::{Checked, Exit, State, Step, check, entry_of, follow};
 use brc_lang::{Function, Instr, write_number, write_pieces};
 use std::alloc::Global;
@@ -268,22 +269,42 @@ fn between(alloc: Global, front: &[u8], lines: &[u8], back: &[u8]) -> Result<Vec
     Ok(text)
 }
 
-#[test]
-fn tables_have_the_states_of_a_walk(rt: HostRuntime) -> Result<(), Fail> {
-    let tables: [(&[u8], &[&[u8]], &[u8]); 3] = [
-        (b"module 1\nfunc f\n", ACCEPTED, b"end\n"),
-        (b"module 2\n", CALLS, b""),
-        (b"module 3\nstatic 5 6\nfunc f\n", STATICS, b"end\n"),
-    ];
-    for (front, texts, back) in tables {
-        for lines in texts {
-            let text = between(rt.alloc(), front, lines, back)?;
-            assert!(rt; has_states_of_a_walk(rt.alloc(), &text)?, "{lines:?}");
+/// Fails unless the tables of these lines between the front and the back have the states of a walk.
+fn have_states_of_walks(
+    alloc: Global,
+    front: &[u8],
+    texts: &[&[u8]],
+    back: &[u8],
+) -> Result<(), Fail> {
+    for lines in texts {
+        let text = between(alloc, front, lines, back)?;
+        if !has_states_of_a_walk(alloc, &text)? {
+            return Err(Fail::new(format_args!("{lines:?}")));
         }
     }
+    Ok(())
+}
+
+/// Whether the table of the random function has the states of a walk.
+fn has_random_states(alloc: Global, seed: u64) -> Result<bool, Fail> {
+    let text = text_of(alloc, seed)?;
+    has_states_of_a_walk(alloc, &text)
+}
+
+/// Paths have the states that they should have, and so have tables.
+#[test]
+fn tables_have_the_states_of_a_walk(rt: HostRuntime) -> Result<(), Fail> {
+    let alloc = rt.alloc();
+    assert!(rt; takes_two_steps(alloc)?);
+    for (lines, slots) in CASES {
+        let other = first_other_state(alloc, lines, slots)?;
+        assert_eq!(rt; other, None, "{lines:?}");
+    }
+    have_states_of_walks(alloc, b"module 1\nfunc f\n", ACCEPTED, b"end\n")?;
+    have_states_of_walks(alloc, b"module 2\n", CALLS, b"")?;
+    have_states_of_walks(alloc, b"module 3\nstatic 5 6\nfunc f\n", STATICS, b"end\n")?;
     for seed in 0..FUNCTIONS {
-        let text = text_of(rt.alloc(), seed)?;
-        assert!(rt; has_states_of_a_walk(rt.alloc(), &text)?, "{seed}");
+        assert!(rt; has_random_states(alloc, seed)?, "{seed}");
     }
     Ok(())
 }

@@ -74,16 +74,16 @@ const STEPS_OF_TWO: &[(u8, Choice, u32)] = &[
     (0, Choice::Stop, 1),
 ];
 
-#[test]
-fn schedules_are_read(rt: HostRuntime) -> Result<(), Fail> {
-    let alloc = rt.alloc();
-    let call: Calls<'_> = &[(b"a23456789_bcdefg", 1_000_000)];
-    assert!(rt; is_read_as(alloc, ONE, (1, 1024), call, &[]));
-    let calls: Calls<'_> = &[(b"f", 1), (b"f", 1)];
-    assert!(rt; is_read_as(alloc, TWO, (2, 4), calls, STEPS_OF_TWO));
-    assert_eq!(rt;
-        lengths(alloc, &largest(alloc, 10_000)?),
-        Some((32, 20_000))
-    );
-    Ok(())
+const CALL: Calls<'static> = &[(b"a23456789_bcdefg", 1_000_000)];
+
+const CALLS: Calls<'static> = &[(b"f", 1), (b"f", 1)];
+
+/// Whether schedules of one and of two workers are read, and how many calls and lines of steps the largest one has.
+pub fn read_schedules(alloc: Global) -> Result<([bool; 2], Option<(usize, usize)>), Fail> {
+    let are_read = [
+        is_read_as(alloc, ONE, (1, 1024), CALL, &[]),
+        is_read_as(alloc, TWO, (2, 4), CALLS, STEPS_OF_TWO),
+    ];
+    let text = largest(alloc, 10_000)?;
+    Ok((are_read, lengths(alloc, &text)))
 }

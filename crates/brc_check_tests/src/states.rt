@@ -18,7 +18,7 @@ fn state(var: Slot) -> State {
 }
 
 /// The number of the first point with another state of v1.
-fn first_other_state(
+pub fn first_other_state(
     alloc: Global,
     lines: &[u8],
     slots: &[Option<Slot>],
@@ -37,7 +37,7 @@ fn first_other_state(
 }
 
 /// Whether a path's first step makes a reference to the list, and its second one finds it left.
-fn takes_two_steps(alloc: Global) -> Result<bool, Fail> {
+pub fn takes_two_steps(alloc: Global) -> Result<bool, Fail> {
     let module = function_of(alloc, b"newref v1 v0\nfail\n")?;
     let code = module.functions.as_slice()[0].code.as_slice();
     let entry = entry_of(&[]);
@@ -57,7 +57,7 @@ const EMPTY: Option<Slot> = Some(Slot::Empty);
 const NUMBER: Option<Slot> = Some(Slot::Owned(Kind::Num));
 
 /// Lines, and the state of v1 at each point where a path comes first.
-const CASES: &[(&[u8], &[Option<Slot>])] = &[
+pub const CASES: &[(&[u8], &[Option<Slot>])] = &[
     (
         b"num v1 1 else @2\nret v1\nfail\ndrop v1\nfail\n",
         &[EMPTY, NUMBER, EMPTY, None, None],
@@ -70,13 +70,3 @@ const CASES: &[(&[u8], &[Option<Slot>])] = &[
     // The first instruction reports an error: no path goes on.
     (b"drop v1\nfail\n", &[EMPTY, None]),
 ];
-
-#[test]
-fn paths_have_states(rt: HostRuntime) -> Result<(), Fail> {
-    assert!(rt; takes_two_steps(rt.alloc())?);
-    for (lines, slots) in CASES {
-        let other = first_other_state(rt.alloc(), lines, slots)?;
-        assert_eq!(rt; other, None, "{lines:?}");
-    }
-    Ok(())
-}

@@ -2,8 +2,8 @@ ghost use Rattle.std.specs.Prelude.{◌≡◌, true, IfOk};
 ghost use Rattle.brc_model.specs.Safety.{IsCall};
 ghost use Rattle.brc_check_tests.specs.Callable.{HasCallableEnds};
 
+use crate::modules::module_of;
 use brc_check::{Checked, check};
-use brc_lang::read;
 use brc_world::{Call, Choice, Did, NoMemory, Tally, World};
 use std::alloc::Global;
 use std::test::*;
@@ -12,13 +12,21 @@ use std::test::*;
 pub fn accepted_text(alloc: Global, text: &[u8]) -> Result<Checked, Fail>
     ensures { IfOk result (λ checked. HasCallableEnds checked.module) }
 {
-    let Ok(module) = read(alloc, text) else {
-        return Err("the text is a module")?;
-    };
+    let module = module_of(alloc, text)?;
     match check(alloc, module) {
-        Ok(checked) if has_callable_ends(&checked) => Ok(checked),
-        Ok(_) => Err("the first and the last function have no parameters")?,
+        Ok(checked) => callable(checked),
         Err(_) => Err("the module is accepted")?,
+    }
+}
+
+/// Returns the module if its first and last functions have no parameters.
+fn callable(checked: Checked) -> Result<Checked, Fail>
+    ensures { IfOk result (λ it. HasCallableEnds it.module) }
+{
+    if has_callable_ends(&checked) {
+        Ok(checked)
+    } else {
+        Err("the first and the last function have no parameters")?
     }
 }
 
@@ -87,11 +95,20 @@ const ENOUGH: usize = 200;
 /// thread has taken its steps, and what one more step of it does.
 type Said = (usize, Option<Did>, bool, Option<Did>);
 
+/// A first step moves, and a thread that is gone stays so.
+pub const SAID: Said = (3, Some(Did::Moved), true, Some(Did::Gone));
+
 /// Returns what a world with two workers says.
-fn said(alloc: Global) -> Result<Said, Fail> {
+pub fn said(alloc: Global) -> Result<Said, Fail> {
     let checked = accepted_text(alloc, TAKE_AND_DROP)?;
-    let call = last_call(&checked);
-    let mut world = World::new(alloc, &checked, 2, 1024, &[call, call])?;
+    said_of(alloc, &checked)
+}
+
+fn said_of(alloc: Global, checked: &Checked) -> Result<Said, Fail>
+    requires { HasCallableEnds checked.now.module }
+{
+    let call = last_call(checked);
+    let mut world = World::new(alloc, checked, 2, 1024, &[call, call])?;
     said_by(&mut world)
 }
 
@@ -106,12 +123,4 @@ fn said_by(world: &mut World<'_>) -> Result<Said, Fail> {
     let gone = is_gone(world, 1);
     let last = step(world, 1, Choice::Ok)?;
     Ok((threads, first, gone, last))
-}
-
-/// A first step moves, and a thread that is gone stays so.
-#[test]
-fn a_step_says_what_it_did(rt: HostRuntime) -> Result<(), Fail> {
-    let said = said(rt.alloc())?;
-    assert_eq!(rt; said, (3, Some(Did::Moved), true, Some(Did::Gone)));
-    Ok(())
 }

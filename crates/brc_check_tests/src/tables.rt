@@ -3,8 +3,8 @@
 ghost use Rattle.brc_lang.specs.Grammar.{IsModule};
 
 use crate::modules::{function_of, module_of};
-use crate::table_rows::{Entry, LOOPS, OVERWRITTEN, TABLES, TAKE_AND_DROP};
-use brc_check::{CheckCode, Checked, Slot, State, Table, infer, verify};
+use crate::table_rows::{Entry, LOOPS, OVERWRITTEN, TABLES, TAKE_AND_DROP, TableCase};
+use brc_check::{CheckCode, Checked, Refused, Slot, State, Table, infer, verify};
 use brc_lang::{Kind, Module, Variable};
 use std::alloc::Global;
 use std::test::*;
@@ -66,6 +66,18 @@ fn first_difference(
 ) -> Result<Option<usize>, Fail> {
     let module = function_of(alloc, lines)?;
     let table = table_of(alloc, &module)?;
+    difference(module, table, kept, entries)
+}
+
+/// Does what `first_difference` does, of the module and its table.
+fn difference(
+    module: Module,
+    table: Table,
+    kept: usize,
+    entries: &[Entry],
+) -> Result<Option<usize>, Fail>
+    requires { IsModule «module» }
+{
     if table.kept(0) != kept || table.kept(1) != 0 {
         return Err("the table keeps the first point and each target")?;
     }
@@ -74,17 +86,6 @@ fn first_difference(
         Ok(checked) => Ok(inferred.or(other_entry(&checked, entries))),
         Err(_) => Err("the table is the true one")?,
     }
-}
-
-#[test]
-fn tables_are_true(rt: HostRuntime) -> Result<(), Fail> {
-    for tables in [TABLES, LOOPS] {
-        for (lines, kept, entries) in tables {
-            let difference = first_difference(rt.alloc(), lines, kept.len(), entries)?;
-            assert_eq!(rt; difference, None, "{lines:?}");
-        }
-    }
-    Ok(())
 }
 
 /// Whether there is a kept entry to overwrite, and the point at which the states then differ, if any.
@@ -97,13 +98,27 @@ fn answer_to_change(
     let module = function_of(alloc, lines)?;
     let mut table = table_of(alloc, &module)?;
     let is_there = table.change(point.0, point.1, state_of(entry));
-    let Some(refused) = verify(module, table).err() else {
-        return Ok((is_there, None));
+    Ok((is_there, refused_at(module, table)?))
+}
+
+/// Why the table is refused, if it is.
+fn refusal_of(module: Module, table: Table) -> Option<Refused>
+    requires { IsModule «module» }
+{
+    verify(module, table).err()
+}
+
+/// The point at which states differ, if the table is refused. A table is refused for its states alone.
+fn refused_at(module: Module, table: Table) -> Result<Option<usize>, Fail>
+    requires { IsModule «module» }
+{
+    let Some(refused) = refusal_of(module, table) else {
+        return Ok(None);
     };
     if refused.code != CheckCode::StatesDiffer {
         return Err("a table is refused for its states alone")?;
     }
-    Ok((is_there, Some(refused.at)))
+    Ok(Some(refused.at))
 }
 
 /// The number of the first change of this point that the checker doesn't notice. A change is noticed if the table is
@@ -124,44 +139,53 @@ fn first_unnoticed(
     Ok(None)
 }
 
-/// An entry is overwritten by none and by others. A point that isn't kept has nothing to change, nor has one that isn't
-/// there.
-#[test]
-fn changes_are_noticed(rt: HostRuntime) -> Result<(), Fail> {
-    let alloc = rt.alloc();
-    for (lines, kept, entries) in TABLES {
-        for (at, entry) in entries.iter().enumerate() {
-            let point = (0, at);
-            let answer = answer_to_change(alloc, lines, point, None)?;
-            if !kept.contains(&at) {
-                assert_eq!(rt; answer, (false, None), "{lines:?} {at}");
-            } else if let Some((one, two, locked)) = entry {
-                assert_eq!(rt; answer, (true, Some(at)), "{lines:?} {at}");
-                let entry = (*one, *two, *locked);
-                assert_eq!(rt;
-                    first_unnoticed(alloc, lines, at, entry)?,
-                    None,
-                    "{lines:?} {at}"
-                );
-            }
+/// Whether a change of the entry of this point is noticed if it is kept. A point that isn't kept has nothing to change.
+fn is_noticed(
+    alloc: Global,
+    lines: &[u8],
+    at: usize,
+    is_kept: bool,
+    entry: Entry,
+) -> Result<bool, Fail> {
+    let answer = answer_to_change(alloc, lines, (0, at), None)?;
+    match entry {
+        Some(entry) if is_kept => {
+            Ok(answer == (true, Some(at)) && first_unnoticed(alloc, lines, at, entry)?.is_none())
+        }
+        _ => Ok(is_kept || answer == (false, None)),
+    }
+}
+
+/// The first point whose change isn't noticed, or which has something to change though it isn't kept.
+fn first_change_unnoticed(alloc: Global, case: &TableCase<'_>) -> Result<Option<usize>, Fail> {
+    let (lines, kept, entries) = case;
+    for (at, entry) in entries.iter().enumerate() {
+        if !is_noticed(alloc, lines, at, kept.contains(&at), *entry)? {
+            return Ok(Some(at));
         }
     }
-    for point in [(0, 1), (0, 3), (1, 0)] {
-        let answer = answer_to_change(alloc, TAKE_AND_DROP, point, None)?;
-        assert_eq!(rt; answer, (false, None));
-    }
-    Ok(())
+    Ok(None)
 }
+
+/// Points that a table of `TAKE_AND_DROP` doesn't keep, or that aren't there: they have nothing to change.
+const NOT_KEPT: [(usize, usize); 3] = [(0, 1), (0, 3), (1, 0)];
 
 /// Whether the module of one text is refused, with the table of another's, since states differ at this point of its
 /// function `f`.
 fn is_refused_with(alloc: Global, text: &[u8], other: &[u8], at: usize) -> Result<bool, Fail> {
     let table = table_of(alloc, &module_of(alloc, other)?)?;
-    let Some(refused) = verify(module_of(alloc, text)?, table).err() else {
-        return Ok(false);
+    Ok(is_refused_at(module_of(alloc, text)?, table, at))
+}
+
+fn is_refused_at(module: Module, table: Table, at: usize) -> bool
+    requires { IsModule «module» }
+{
+    let Some(refused) = refusal_of(module, table) else {
+        return false;
     };
-    let is_named = refused.function.as_bytes() == b"f".as_slice();
-    Ok(is_named && refused.at == at && refused.code == CheckCode::StatesDiffer)
+    refused.function.as_bytes() == b"f".as_slice()
+        && refused.at == at
+        && refused.code == CheckCode::StatesDiffer
 }
 
 /// Whether the module of one text is accepted with the table of another's.
@@ -184,24 +208,60 @@ fn largest_module(alloc: Global) -> Result<Vec<u8>, Fail> {
     Ok(text)
 }
 
+/// Whether the largest module is accepted with its own table.
+fn is_largest_accepted(alloc: Global) -> Result<bool, Fail> {
+    let largest = largest_module(alloc)?;
+    accepted_with(alloc, &largest, &largest)
+}
+
+/// Two functions with the same targets, in whose tables only the state that falls through differs.
+const DROPS: &[u8] = b"module 1\nfunc f\nnum v1 1 else @2\ndrop v1\nfail\nend\n";
+
+const KEEPS: &[u8] = b"module 1\nfunc f\nnum v1 1 else @2\nnone v2\nfail\nend\n";
+
+const ONE: &[u8] = b"module 1\nfunc f\nfail\nend\n";
+
+const TWO: &[u8] = b"module 1\nfunc f\nfail\nend\nfunc g\nfail\nend\n";
+
+const THREE_POINTS: &[u8] = b"module 1\nfunc f\nnewref v1 v0\ndrop v1\nfail\nend\n";
+
+/// A function whose table has the same points as that of `ONE`, but another target.
+const OTHER_TARGET: &[u8] = b"module 1\nfunc f\ngoto @1\nfail\nend\n";
+
+/// Modules that are accepted with the table of another one. Where both have one kept point, the table's states are what
+/// its entry and the module's own instructions give.
+const ACCEPTED: [(&[u8], &[u8]); 3] = [(DROPS, DROPS), (THREE_POINTS, ONE), (ONE, ONE)];
+
+/// Modules that are refused with the table of another one, and where.
+const REFUSED: [(&[u8], &[u8], usize); 3] = [
+    (KEEPS, DROPS, 2),
+    (ONE, TWO, 0),
+    (OTHER_TARGET, ONE, 0),
+];
+
+/// An entry is overwritten by none and by others.
 #[test]
-fn tables_of_other_modules(rt: HostRuntime) -> Result<(), Fail> {
-    // Two functions with the same targets, in whose tables only the state that falls through differs.
-    let drops = b"module 1\nfunc f\nnum v1 1 else @2\ndrop v1\nfail\nend\n";
-    let keeps = b"module 1\nfunc f\nnum v1 1 else @2\nnone v2\nfail\nend\n";
-    assert!(rt; accepted_with(rt.alloc(), drops, drops)?);
-    assert!(rt; is_refused_with(rt.alloc(), keeps, drops, 2)?);
-    let one = b"module 1\nfunc f\nfail\nend\n";
-    let two = b"module 1\nfunc f\nfail\nend\nfunc g\nfail\nend\n";
-    let three_points = b"module 1\nfunc f\nnewref v1 v0\ndrop v1\nfail\nend\n";
-    assert!(rt; is_refused_with(rt.alloc(), one, two, 0)?);
-    // A table of the same points, but with another target.
-    let other_target = b"module 1\nfunc f\ngoto @1\nfail\nend\n";
-    assert!(rt; is_refused_with(rt.alloc(), other_target, one, 0)?);
-    // Where both have one kept point, the table's states are what its entry and the module's own instructions give.
-    assert!(rt; accepted_with(rt.alloc(), three_points, one)?);
-    let largest = largest_module(rt.alloc())?;
-    assert!(rt; accepted_with(rt.alloc(), &largest, &largest)?);
-    assert!(rt; accepted_with(rt.alloc(), one, one)?);
+fn tables_are_true(rt: HostRuntime) -> Result<(), Fail> {
+    let alloc = rt.alloc();
+    for tables in [TABLES, LOOPS] {
+        for (lines, kept, entries) in tables {
+            let difference = first_difference(alloc, lines, kept.len(), entries)?;
+            assert_eq!(rt; difference, None, "{lines:?}");
+        }
+    }
+    for case in TABLES {
+        assert_eq!(rt; first_change_unnoticed(alloc, case)?, None, "{:?}", case.0);
+    }
+    for point in NOT_KEPT {
+        let answer = answer_to_change(alloc, TAKE_AND_DROP, point, None)?;
+        assert_eq!(rt; answer, (false, None));
+    }
+    for (text, other) in ACCEPTED {
+        assert!(rt; accepted_with(alloc, text, other)?, "{text:?}");
+    }
+    for (text, other, at) in REFUSED {
+        assert!(rt; is_refused_with(alloc, text, other, at)?, "{text:?}");
+    }
+    assert!(rt; is_largest_accepted(alloc)?);
     Ok(())
 }

@@ -1,5 +1,7 @@
-//! Texts that are written: modules, as they were read and over writers that stop, numbers, and reports.
+//! Texts that are written: instructions, modules, as they were read and over writers that stop, numbers, and reports.
 
+use crate::instructions::{INSTRUCTIONS, is_case};
+use crate::schedules::read_schedules;
 use brc_lang::{
     FaultCode, Kind, Module, ReadFault, Sequence, read, write, write_bytes, write_number,
 };
@@ -60,27 +62,21 @@ fn is_written_as(alloc: Global, module: &Module, text: &[u8]) -> Result<bool, Fa
     Ok(out.as_slice() == text)
 }
 
-/// The answer of a writer that takes no more bytes.
-#[derive(Clone, Copy, Debug)]
-enum Stop {
-    TakesNone,
-    Interrupts,
-}
-
-/// Takes one byte a call, until none is left to take.
+/// Takes one byte a call, until none is left to take. Then it takes none, or is interrupted.
 #[derive(Drop)]
 struct Narrow {
     taken: Vec<u8>,
     left: usize,
-    stop: Stop,
+    interrupts: bool,
 }
 
 impl Write for Narrow {
     fn write(&mut self, buf: &[u8]) -> io::Result<usize> {
         if self.left == 0 || buf.is_empty() {
-            return match self.stop {
-                Stop::TakesNone => Ok(0),
-                Stop::Interrupts => Err(io::Error::from(ErrorKind::Interrupted)),
+            return if self.interrupts {
+                Err(io::Error::from(ErrorKind::Interrupted))
+            } else {
+                Ok(0)
             };
         }
         self.taken.push(buf[0])?;
@@ -95,18 +91,18 @@ impl Write for Narrow {
 
 /// Whether a writer that takes so many bytes gets the beginning of the smallest module, and no error only if it takes
 /// all.
-fn is_begun(alloc: Global, stop: Stop, left: usize) -> Result<bool, Fail> {
+fn is_begun(alloc: Global, interrupts: bool, left: usize) -> Result<bool, Fail> {
     match read(alloc, SMALLEST) {
-        Ok(module) => Ok(writes_beginning(alloc, &module, stop, left)),
+        Ok(module) => Ok(writes_beginning(alloc, &module, interrupts, left)),
         Err(_) => Ok(false),
     }
 }
 
-fn writes_beginning(alloc: Global, module: &Module, stop: Stop, left: usize) -> bool {
+fn writes_beginning(alloc: Global, module: &Module, interrupts: bool, left: usize) -> bool {
     let mut writer = Narrow {
         taken: Vec::new(alloc),
         left,
-        stop,
+        interrupts,
     };
     let is_whole = write(module, &mut writer).is_ok();
     is_whole == (left == SMALLEST.len())
@@ -228,30 +224,49 @@ fn is_largest_written_back(alloc: Global) -> Result<bool, Fail> {
     is_written_back(alloc, &text)
 }
 
-#[test]
-fn texts_are_written(rt: HostRuntime) -> Result<(), Fail> {
-    for text in TEXTS {
-        assert!(rt; is_written_back(rt.alloc(), text)?, "{text:?}");
-    }
-    assert!(rt; is_largest_written_back(rt.alloc())?);
-    assert!(rt; writes_two_mebibytes(rt.alloc())?);
-    assert_eq!(rt; pushed(rt.alloc(), 100_000)?, 100_000);
-    assert!(rt; is_last_line_printed(rt.alloc())?);
-    Ok(())
-}
-
-#[test]
-fn writers_get_numbers_and_reports(rt: HostRuntime) -> Result<(), Fail> {
-    for stop in [Stop::TakesNone, Stop::Interrupts] {
-        for left in 0..=SMALLEST.len() {
-            assert!(rt; is_begun(rt.alloc(), stop, left)?, "{stop:?} after {left}");
+/// The stops of a writer that takes only some of the smallest module's bytes, after which the text isn't its beginning.
+fn wrong_stops(alloc: Global, interrupts: bool) -> Result<usize, Fail> {
+    let mut wrong: usize = 0;
+    for left in 0..=SMALLEST.len() {
+        if !is_begun(alloc, interrupts, left)? {
+            wrong = wrong.saturating_add(1);
         }
     }
+    Ok(wrong)
+}
+
+/// Whether the largest module is written back, two mebibytes are written as they are, and a fault in the last line
+/// prints its number; and how many items of 100,000 are in a list to which they were appended.
+fn written(alloc: Global) -> Result<([bool; 3], usize), Fail> {
+    let are_written = [
+        is_largest_written_back(alloc)?,
+        writes_two_mebibytes(alloc)?,
+        is_last_line_printed(alloc)?,
+    ];
+    Ok((are_written, pushed(alloc, 100_000)?))
+}
+
+/// Instructions are read and written, and schedules are read.
+#[test]
+fn texts_are_read_and_written(rt: HostRuntime) -> Result<(), Fail> {
+    let alloc = rt.alloc();
+    for row in INSTRUCTIONS.lines() {
+        assert!(rt; is_case(alloc, row)?, "{row}");
+    }
+    for text in TEXTS {
+        assert!(rt; is_written_back(alloc, text)?, "{text:?}");
+    }
     for (number, digits) in NUMBERS {
-        assert!(rt; has_digits(rt.alloc(), *number, digits)?, "{number}");
+        assert!(rt; has_digits(alloc, *number, digits)?, "{number}");
     }
     for report in REPORTS {
-        assert!(rt; is_reported(rt.alloc(), report)?, "{:?}", report.0);
+        assert!(rt; is_reported(alloc, report)?, "{:?}", report.0);
     }
+    for interrupts in [false, true] {
+        assert_eq!(rt; wrong_stops(alloc, interrupts)?, 0, "{interrupts}");
+    }
+    assert_eq!(rt; written(alloc)?, ([true; 3], 100_000));
+    let read = ([true; 2], Some((32, 20_000)));
+    assert_eq!(rt; read_schedules(alloc)?, read);
     Ok(())
 }

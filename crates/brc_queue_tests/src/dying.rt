@@ -76,15 +76,9 @@ fn taken_out(heap: &Heap<FakeResource>, hand: &mut Hand<FakeResource>, row: u32)
     Some(item)
 }
 
-/// What a hand sees of a dying list: its kind and how many cells it has, and what is in its first cell before the item
-/// is taken out and afterwards.
-#[derive(Clone, Copy, Debug, PartialEq, Eq)]
-pub struct Seen {
-    pub list: Option<(Kind, u32)>,
-    pub before: Option<Option<u32>>,
-    pub taken: u32,
-    pub after: Option<Option<u32>>,
-}
+/// What a hand sees of a dying list: its kind and how many cells it has, what is in its first cell before the item is
+/// taken out and afterwards, and the item.
+pub type Seen = (Option<(Kind, u32)>, [Option<Option<u32>>; 2], u32);
 
 /// Lets a list with a number die, takes the number out of it, settles, and gives the number up. Returns what the hand
 /// has seen, or `None` if the heap has no room, or a close has failed.
@@ -113,10 +107,5 @@ pub fn taken_from_dying<R: Wait>(
     if gives_up(rt, heap, hand, host, taken) != 0 {
         return None;
     }
-    Some(Seen {
-        list,
-        before,
-        taken,
-        after,
-    })
+    Some((list, [before, after], taken))
 }

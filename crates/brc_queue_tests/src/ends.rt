@@ -7,7 +7,7 @@ ghost use Rattle.brc_fixtures.specs.Resting.{IsAlone, IsAtRest};
 
 use crate::chain::chain_of_lists;
 use crate::dying::{Seen, taken_from_dying};
-use crate::files::{Counts, PLANS, over_plan};
+use crate::files::{PLANS, over_plan};
 use crate::in_itself::puts_into_itself;
 use crate::second_word::closes;
 use brc_fixtures::{ended, hand_of, leaves, opened};
@@ -19,7 +19,7 @@ use std::sync::Wait;
 use std::test::*;
 
 /// What a worker does before it leaves.
-#[derive(Clone, Copy, Debug)]
+#[derive(Clone, Copy)]
 enum Scenario {
     Nothing,
     PutsAListIntoItself,
@@ -27,15 +27,9 @@ enum Scenario {
     EmptiesADyingList,
 }
 
-/// What the ended heap tells: the number of rows; of the objects of the root and of rows 2 and 3, whether they were
-/// born, and whether they are closed; what the first cells of rows 2 and 3 have; and how many objects are closed.
-#[derive(Clone, Copy, Debug, PartialEq, Eq)]
-struct Answers {
-    rows: u32,
-    objects: [[bool; 2]; 3],
-    cells: [Option<u32>; 2],
-    closed: u32,
-}
+/// What the ended heap tells: of the objects of the root and of rows 2 and 3, whether they were born, and whether they
+/// are closed; what the first cells of rows 2 and 3 have; how many rows there are, and how many objects are closed.
+type Answers = ([[bool; 2]; 3], [Option<u32>; 2], [u32; 2]);
 
 /// Reads what the ended heap tells, or returns `None` if it has no row 3.
 fn read(end: &Final<FakeResource>) -> Option<Answers> {
@@ -43,22 +37,24 @@ fn read(end: &Final<FakeResource>) -> Option<Answers> {
     if rows < 4 {
         return None;
     }
+    let objects = [
+        [end.born(1), end.closed(1)],
+        [end.born(2), end.closed(2)],
+        [end.born(3), end.closed(3)],
+    ];
+    let cells = [end.cell(2, 0), end.cell(3, 0)];
+    Some((objects, cells, [rows, closed_in(end)]))
+}
+
+/// Returns how many objects are closed.
+fn closed_in(end: &Final<FakeResource>) -> u32 {
     let mut closed: u32 = 0;
-    for row in 1..rows {
+    for row in 1..end.rows() {
         if end.closed(row) {
             closed = closed.saturating_add(1);
         }
     }
-    Some(Answers {
-        rows,
-        objects: [
-            [end.born(1), end.closed(1)],
-            [end.born(2), end.closed(2)],
-            [end.born(3), end.closed(3)],
-        ],
-        cells: [end.cell(2, 0), end.cell(3, 0)],
-        closed,
-    })
+    closed
 }
 
 /// Plays the scenario. Returns what it has seen of a dying list, if it has emptied one, or `None` if the heap has no
@@ -163,76 +159,64 @@ fn end_after<R: Wait>(
     Ok(ended_after(rt, heap, main, scenario))
 }
 
+const UNBORN: [bool; 2] = [false, false];
+
+const LEFT: [bool; 2] = [true, false];
+
+const DEAD: [bool; 2] = [true, true];
+
+/// What a worker sees of a dying list of one cell, with the number of row 2.
+const SEEN: Seen = (Some((Kind::List, 1)), [Some(Some(2)), Some(None)], 2);
+
+/// A scenario with its name, what it has seen of a dying list, and what the ended heap tells.
+const ENDS: [(&str, Scenario, Option<Seen>, Answers); 4] = [
+    (
+        "nothing",
+        Scenario::Nothing,
+        None,
+        ([DEAD, UNBORN, UNBORN], [None, None], [1002, 1]),
+    ),
+    (
+        "a list in itself",
+        Scenario::PutsAListIntoItself,
+        None,
+        ([DEAD, LEFT, UNBORN], [Some(2), None], [1002, 1]),
+    ),
+    (
+        "a chain",
+        Scenario::MakesAChain,
+        None,
+        ([DEAD, DEAD, DEAD], [None, None], [1002, 1001]),
+    ),
+    (
+        "a dying list",
+        Scenario::EmptiesADyingList,
+        Some(SEEN),
+        ([DEAD, DEAD, DEAD], [None, None], [1002, 3]),
+    ),
+];
+
 /// A heap ends with what is left; a file is closed once, whichever calls fail; and the second mark word is looked
 /// through.
 #[test]
 fn what_dies_is_closed(rt: HostRuntime) -> Result<(), Fail> {
-    let seen = Seen {
-        list: Some((Kind::List, 1)),
-        before: Some(Some(2)),
-        taken: 2,
-        after: Some(None),
-    };
-    let [unborn, left, dead] = [[false, false], [true, false], [true, true]];
-    let rows = [
-        (
-            Scenario::Nothing,
-            None,
-            [dead, unborn, unborn],
-            [None, None],
-            1,
-        ),
-        (
-            Scenario::PutsAListIntoItself,
-            None,
-            [dead, left, unborn],
-            [Some(2), None],
-            1,
-        ),
-        (
-            Scenario::MakesAChain,
-            None,
-            [dead, dead, dead],
-            [None, None],
-            1001,
-        ),
-        (
-            Scenario::EmptiesADyingList,
-            Some(seen),
-            [dead, dead, dead],
-            [None, None],
-            3,
-        ),
-    ];
-    for (scenario, seen, objects, cells, closed) in rows {
-        let want = Answers {
-            rows: 1002,
-            objects,
-            cells,
-            closed,
-        };
+    let alloc = rt.alloc();
+    for (name, scenario, seen, told) in ENDS {
         assert_eq!(rt;
-            end_after(&rt, rt.alloc(), scenario)?,
-            Some((seen, want)),
-            "{scenario:?}"
+            end_after(&rt, alloc, scenario)?,
+            Some((seen, told)),
+            "{name}"
         );
     }
-    for (plan, [failures, opened, closed, failed_closes]) in PLANS {
-        let want = Counts {
-            failures,
-            opened,
-            closed,
-            failed_closes,
-        };
-        assert_eq!(rt;
-            over_plan(&rt, rt.alloc(), plan)?,
-            Some(want),
-            "plan {plan:?}"
-        );
+    for (plan, counts) in PLANS {
+        assert_eq!(rt; over_plan(&rt, alloc, plan)?, Some(counts), "plan {plan:?}");
     }
     for leaving in [false, true] {
-        let closed = closes(&rt, rt.alloc(), leaving)?;
-        assert_eq!(rt; closed, Some([0, 1]), "leaving: {leaving}");
+        assert_eq!(rt;
+            closes(&rt, alloc, leaving)?,
+            Some([0, 1]),
+            "leaving: {leaving}"
+        );
     }
     Ok(())
 }

@@ -19,14 +19,9 @@ const PATH: u8 = 0;
 /// How many bytes are read.
 const BYTES: u16 = 5;
 
-/// What a plan leads to: the host's counts, and how many closes have failed as the chain was settled.
-#[derive(Clone, Copy, Debug, PartialEq, Eq)]
-pub struct Counts {
-    pub failures: u64,
-    pub opened: u64,
-    pub closed: u64,
-    pub failed_closes: u64,
-}
+/// What a plan leads to: how many calls of the host have failed, how many files it has opened and closed, and how many
+/// closes have failed as the chain was settled.
+pub type Counts = [u64; 4];
 
 /// Reads from the file that the hand has locked, and writes to it. It reads and writes whichever call fails.
 fn uses(heap: &Heap<FakeResource>, hand: &mut Hand<FakeResource>, host: &mut FakeHost<'_>, row: u32)
@@ -102,12 +97,7 @@ fn counted<R: Wait>(
 {
     let mut host = FakeHost::new(plan);
     let failed_closes = use_file(rt, heap, hand, &mut host)?;
-    Some(Counts {
-        failures: host.failures(),
-        opened: host.opened(),
-        closed: host.closed(),
-        failed_closes,
-    })
+    Some([host.failures(), host.opened(), host.closed(), failed_closes])
 }
 
 /// Lets a worker use a file of a host that fails by the plan, which names the calls by number: 0 opens the file, 1
@@ -118,8 +108,8 @@ pub fn over_plan<R: Wait>(rt: &R, alloc: Global, plan: &[u64]) -> Result<Option<
     Ok(counted(rt, &heap, &mut hand, plan))
 }
 
-/// Plans, and what each leads to: failures, files that were opened and closed, and failed closes.
-pub const PLANS: [(&[u64], [u64; 4]); 10] = [
+/// Plans, and what each leads to.
+pub const PLANS: [(&[u64], Counts); 10] = [
     (&[0], [1, 0, 0, 0]),
     (&[1], [1, 1, 1, 0]),
     (&[2], [1, 1, 1, 0]),

@@ -2,7 +2,8 @@
 //! The two workers are in threads of their own, and a signal holds each of them where the other one is to go on.
 
 ghost use Rattle.std.specs.Prelude.{◌≡◌, true, [], ◌∷◌, IfSome};
-ghost use Rattle.brc_model.specs.declared.duty.Duty.TheVariants.{SetMark};
+ghost use Rattle.brc_model.specs.declared.duty.Duty.TheVariants.{SetMark, MergeSwap};
+ghost use Rattle.brc_model.specs.declared.duty.Reason.TheVariants.{Handed};
 ghost use Rattle.brc_heap.specs.Marks.{look_left};
 ghost use Rattle.brc_model.specs.Duties.{resources_of};
 ghost use Rattle.brc_heap.specs.Calls.{IsBornWith, kind_word};
@@ -28,7 +29,7 @@ use std::thread::Threads;
 const MOST_TURNS: u32 = 100_000_000;
 
 /// What the owner does.
-#[derive(Clone, Copy, Debug)]
+#[derive(Clone, Copy)]
 pub enum Owner {
     /// It leaves between the mark and the look.
     LeavesLate,
@@ -101,42 +102,90 @@ fn shares(
 /// object and it has looked through its queue, or left.
 fn owns<R: Wait>(rt: &R, worker: Worker<'_>, between: &Signals, owner: Owner) -> Option<u64> {
     let Worker { heap, mut hand } = worker;
+    owns_by(rt, heap, &mut hand, between, owner)
+}
+
+/// Does the owner's part with its hand.
+fn owns_by<R: Wait>(
+    rt: &R,
+    heap: &Heap<FakeResource>,
+    hand: &mut Hand<FakeResource>,
+    between: &Signals,
+    owner: Owner,
+) -> Option<u64>
+    requires holds { HoldsRoot heap.now hand.old }
+{
     let mut host = FakeHost::new(&[]);
-    if !shares(heap, &mut hand, &mut host, owner) {
-        return None;
-    }
-    if !gives(rt, &between.poster) || !waits(rt, &between.owner) {
+    if !shares(heap, hand, &mut host, owner) || !lets_the_poster_go_on(rt, between) {
         return None;
     }
     match owner {
-        Owner::Stays => {
-            if !looks_through(rt, heap, &mut hand, &mut host) {
-                return None;
-            }
-            // It has taken the object's mark, and merged the object.
-            if hand.contention() != Contention::CLAIMED.plus(Contention::MERGED) {
-                return None;
-            }
-            let closed = host.closed();
-            if gives(rt, &between.poster) && leaves(rt, heap, &mut hand, &mut host) {
-                Some(closed)
-            } else {
-                None
-            }
-        }
+        Owner::Stays => looks_and_leaves(rt, heap, hand, &mut host, between),
         Owner::LeavesLate | Owner::Leaves | Owner::LeavesTheItem => {
-            if leaves(rt, heap, &mut hand, &mut host) && gives(rt, &between.poster) {
-                Some(host.closed())
-            } else {
-                None
-            }
+            leaves_at_once(rt, heap, hand, &mut host, between)
         }
     }
 }
 
-/// Lets the owner go on, and waits until it has. Returns whether it has.
-fn lets_the_owner_go_on<R: Wait>(rt: &R, between: &Signals) -> bool {
-    gives(rt, &between.owner) && waits(rt, &between.poster)
+/// Lets the poster go on, and waits until it has. Returns whether it has.
+fn lets_the_poster_go_on<R: Wait>(rt: &R, between: &Signals) -> bool {
+    gives(rt, &between.poster) && waits(rt, &between.owner)
+}
+
+/// Looks through the owner's queue, and leaves. Returns how many files it has closed before it leaves.
+fn looks_and_leaves<R: Wait>(
+    rt: &R,
+    heap: &Heap<FakeResource>,
+    hand: &mut Hand<FakeResource>,
+    host: &mut FakeHost<'_>,
+    between: &Signals,
+) -> Option<u64>
+    requires holds { HoldsRoot heap.now hand.old }
+{
+    if !looks_through(rt, heap, hand, host) {
+        return None;
+    }
+    // It has taken the object's mark, and merged the object.
+    if hand.contention() != Contention::CLAIMED.plus(Contention::MERGED) {
+        return None;
+    }
+    let closed = host.closed();
+    if gives(rt, &between.poster) && leaves(rt, heap, hand, host) {
+        Some(closed)
+    } else {
+        None
+    }
+}
+
+/// Leaves, and returns how many files the owner has closed.
+fn leaves_at_once<R: Wait>(
+    rt: &R,
+    heap: &Heap<FakeResource>,
+    hand: &mut Hand<FakeResource>,
+    host: &mut FakeHost<'_>,
+    between: &Signals,
+) -> Option<u64>
+    requires holds { HoldsRoot heap.now hand.old }
+{
+    if leaves(rt, heap, hand, host) && gives(rt, &between.poster) {
+        Some(host.closed())
+    } else {
+        None
+    }
+}
+
+/// Returns whether the owner is to go on before the mark, before the look, and after the look.
+fn moments_of(owner: Owner) -> [bool; 3] {
+    match owner {
+        Owner::Leaves | Owner::LeavesTheItem => [true, false, false],
+        Owner::LeavesLate => [false, true, false],
+        Owner::Stays => [false, false, true],
+    }
+}
+
+/// Lets the owner go on, if this is the moment, and waits until it has. Returns whether the poster can go on.
+fn lets_the_owner_go_on<R: Wait>(rt: &R, between: &Signals, is_moment: bool) -> bool {
+    !is_moment || (gives(rt, &between.owner) && waits(rt, &between.poster))
 }
 
 /// Sets the mark of the object and looks after it, before, after or while the owner leaves, or runs on.
@@ -150,15 +199,16 @@ fn marks_and_looks<R: Wait>(
     requires left { HasLeft heap.now hand.old (SetMark shared_row ∷ []) }
     ensures left { IfSome result (λ looked. HasLeft heap.now hand.new (look_left shared_row looked)) }
 {
-    if matches!(owner, Owner::Leaves | Owner::LeavesTheItem) && !lets_the_owner_go_on(rt, between) {
+    let [before_mark, before_look, after_look] = moments_of(owner);
+    if !lets_the_owner_go_on(rt, between, before_mark) {
         return None;
     }
     marks(heap, hand);
-    if matches!(owner, Owner::LeavesLate) && !lets_the_owner_go_on(rt, between) {
+    if !lets_the_owner_go_on(rt, between, before_look) {
         return None;
     }
     let looked = looks(heap, hand);
-    if matches!(owner, Owner::Stays) && !lets_the_owner_go_on(rt, between) {
+    if !lets_the_owner_go_on(rt, between, after_look) {
         return None;
     }
     Some(looked)
@@ -167,26 +217,54 @@ fn marks_and_looks<R: Wait>(
 /// Does the second worker's part: it takes the object out of the root and gives it up. Returns how its post went.
 fn posts<R: Wait>(rt: &R, worker: Worker<'_>, between: &Signals, owner: Owner) -> Option<Posted> {
     let Worker { heap, mut hand } = worker;
-    let mut host = FakeHost::new(&[]);
-    if !waits(rt, &between.poster) || !takes(heap, &mut hand) || !hands_over(heap, &mut hand) {
+    posts_by(rt, heap, &mut hand, between, owner)
+}
+
+/// Does the second worker's part with its hand.
+fn posts_by<R: Wait>(
+    rt: &R,
+    heap: &Heap<FakeResource>,
+    hand: &mut Hand<FakeResource>,
+    between: &Signals,
+    owner: Owner,
+) -> Option<Posted>
+    requires holds { HoldsRoot heap.now hand.old }
+{
+    if !waits(rt, &between.poster) || !takes(heap, hand) || !hands_over(heap, hand) {
         return None;
     }
-    match marks_and_looks(rt, heap, &mut hand, between, owner)? {
-        Looked::Left => {
-            if leaves(rt, heap, &mut hand, &mut host) {
-                Some((Looked::Left, None))
-            } else {
-                None
-            }
-        }
-        Looked::Claimed => {
-            let ended = merges_and_settles(rt, heap, &mut hand, &mut host)?;
-            if leaves(rt, heap, &mut hand, &mut host) {
-                Some((Looked::Claimed, Some(ended)))
-            } else {
-                None
-            }
-        }
+    match marks_and_looks(rt, heap, hand, between, owner)? {
+        Looked::Left => goes(rt, heap, hand, (Looked::Left, None)),
+        Looked::Claimed => merges_and_goes(rt, heap, hand),
+    }
+}
+
+/// Merges the object whose mark the poster has taken, and leaves. Returns how its post went.
+fn merges_and_goes<R: Wait>(
+    rt: &R,
+    heap: &Heap<FakeResource>,
+    hand: &mut Hand<FakeResource>,
+) -> Option<Posted>
+    requires left { HasLeft heap.now hand.old (MergeSwap shared_row Handed ∷ []) }
+{
+    let mut host = FakeHost::new(&[]);
+    let ended = merges_and_settles(rt, heap, hand, &mut host)?;
+    goes(rt, heap, hand, (Looked::Claimed, Some(ended)))
+}
+
+/// Lets the poster leave. Returns how its post went, if no close has failed.
+fn goes<R: Wait>(
+    rt: &R,
+    heap: &Heap<FakeResource>,
+    hand: &mut Hand<FakeResource>,
+    posted: Posted,
+) -> Option<Posted>
+    requires holds { HoldsRoot heap.now hand.old }
+{
+    if leaves(rt, heap, hand, &mut FakeHost::new(&[])) {
+        Some(posted)
+    } else {
+        None
     }
 }
 

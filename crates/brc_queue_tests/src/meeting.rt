@@ -84,15 +84,33 @@ fn exchanges<R: Wait>(rt: &R, worker: Worker<'_>, own: (u32, u32), other: (u32, 
     requires other_cell { other.0 < 8 }
 {
     let Worker { heap, mut hand } = worker;
-    if !bears(heap, &mut hand, own.1, Kind::Num, None) || !puts_at(heap, &mut hand, own.0, own.1) {
+    exchanges_by(rt, heap, &mut hand, own, other)
+}
+
+/// Does what `exchanges` does, with the worker's hand.
+fn exchanges_by<R: Wait>(
+    rt: &R,
+    heap: &Heap<FakeResource>,
+    hand: &mut Hand<FakeResource>,
+    own: (u32, u32),
+    other: (u32, u32),
+) -> bool
+    requires own { IsCounted small_layout own.1 }
+    requires apart { own.1 ≢ root_row }
+    requires cell { own.0 < 8 }
+    requires other { IsCounted small_layout other.1 }
+    requires other_cell { other.0 < 8 }
+    requires holds { HoldsRoot heap.now hand.old }
+{
+    if !bears(heap, hand, own.1, Kind::Num, None) || !puts_at(heap, hand, own.0, own.1) {
         return false;
     }
-    if !takes_at(heap, &mut hand, other.0, other.1) {
+    if !takes_at(heap, hand, other.0, other.1) {
         return false;
     }
     let mut host = FakeHost::new(&[]);
-    releases(rt, heap, &mut hand, other.1);
-    settles(rt, heap, &mut hand, &mut host) == 0 && leaves(rt, heap, &mut hand, &mut host)
+    releases(rt, heap, hand, other.1);
+    settles(rt, heap, hand, &mut host) == 0 && leaves(rt, heap, hand, &mut host)
 }
 
 /// Lets two workers exchange their numbers in threads of their own. Returns whether both have left.

@@ -55,24 +55,37 @@ fn posted<R: Threads + Wait + Sync>(
     Ok((found, all_closed(heap, main)))
 }
 
+/// What the owner does, how many files it has closed, and how the post went.
+const POSTS: [(&str, Owner, u64, Posted); 4] = [
+    ("leaves late", Owner::LeavesLate, 0, (Looked::Left, None)),
+    (
+        "leaves",
+        Owner::Leaves,
+        0,
+        (
+            Looked::Claimed,
+            Some((MergeStep::Kept, SharedRelease::Dying)),
+        ),
+    ),
+    (
+        "leaves the item",
+        Owner::LeavesTheItem,
+        0,
+        (
+            Looked::Claimed,
+            Some((MergeStep::Kept, SharedRelease::Kept)),
+        ),
+    ),
+    ("stays", Owner::Stays, 1, (Looked::Left, None)),
+];
+
 /// Objects that are posted die.
 #[test]
 fn held_post(rt: HostRuntime) -> Result<(), Fail> {
-    let dying = Some((MergeStep::Kept, SharedRelease::Dying));
-    let kept = Some((MergeStep::Kept, SharedRelease::Kept));
-    let rows = [
-        (Owner::LeavesLate, 0, (Looked::Left, None)),
-        (Owner::Leaves, 0, (Looked::Claimed, dying)),
-        (Owner::LeavesTheItem, 0, (Looked::Claimed, kept)),
-        (Owner::Stays, 1, (Looked::Left, None)),
-    ];
-    for (owner, files, want) in rows {
+    for (name, owner, files, want) in POSTS {
         let found = posted(&rt, rt.alloc(), owner)?;
-        assert_eq!(rt;
-            found,
-            ((Some(files), Some(want), true), Some(true)),
-            "the owner: {owner:?}"
-        );
+        let wanted = ((Some(files), Some(want), true), Some(true));
+        assert_eq!(rt; found, wanted, "the owner {name}");
     }
     Ok(())
 }

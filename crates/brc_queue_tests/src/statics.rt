@@ -164,17 +164,9 @@ fn run<R: Threads + Wait + Sync>(
 }
 
 /// What the ended heap says: how many objects it has but for none, how many of them are immortal, and how many are
-/// closed; the items of the first list, and those of the second one, which has one cell; and what the fields of the
-/// first list's items have.
-#[derive(Clone, Copy, Debug, PartialEq, Eq)]
-struct Seen {
-    objects: u32,
-    immortal: u32,
-    closed: u32,
-    first: [Option<u32>; 2],
-    second: [Option<u32>; 2],
-    fields: [Option<u32>; 2],
-}
+/// closed; the items of the first list, those of the second one, which has one cell, and what the fields of the first
+/// list's items have.
+type Seen = ([u32; 3], [[Option<u32>; 2]; 3]);
 
 /// Returns the resource of the object in the row, if there is one.
 fn resource_of(end: &Final<u32>, row: Option<u32>) -> Option<u32> {
@@ -186,34 +178,28 @@ fn resource_of(end: &Final<u32>, row: Option<u32>) -> Option<u32> {
     }
 }
 
+/// Returns how many objects the ended heap has but for none, how many of them are immortal, and how many are closed.
+fn counts(end: &Final<u32>) -> [u32; 3] {
+    let mut objects: u32 = 0;
+    let mut immortal: u32 = 0;
+    let mut closed: u32 = 0;
+    for row in ROOT..end.rows() {
+        objects = objects.saturating_add(u32::from(end.born(row)));
+        immortal = immortal.saturating_add(u32::from(end.is_immortal(row)));
+        closed = closed.saturating_add(u32::from(end.closed(row)));
+    }
+    [objects, immortal, closed]
+}
+
 /// Reads what the ended heap says, or returns `None` if it hasn't these rows.
 fn read(end: &Final<u32>) -> Option<Seen> {
     if end.rows() != ROWS {
         return None;
     }
-    let mut objects: u32 = 0;
-    let mut immortal: u32 = 0;
-    let mut closed: u32 = 0;
-    for row in ROOT..ROWS {
-        if end.born(row) {
-            objects = objects.saturating_add(1);
-        }
-        if end.is_immortal(row) {
-            immortal = immortal.saturating_add(1);
-        }
-        if end.closed(row) {
-            closed = closed.saturating_add(1);
-        }
-    }
     let first = [end.cell(LIST, 0), end.cell(LIST, 1)];
-    Some(Seen {
-        objects,
-        immortal,
-        closed,
-        first,
-        second: [end.cell(OTHER, 0), end.cell(OTHER, 64)],
-        fields: [resource_of(end, first[0]), resource_of(end, first[1])],
-    })
+    let second = [end.cell(OTHER, 0), end.cell(OTHER, 64)];
+    let fields = [resource_of(end, first[0]), resource_of(end, first[1])];
+    Some((counts(end), [first, second, fields]))
 }
 
 /// Ends the heap. Returns what it says, or `None` if a thread hasn't left.
@@ -238,23 +224,44 @@ fn opened(alloc: Global) -> Result<(Heap<u32>, Hand<u32>), Fail>
     Ok(Heap::new(alloc, 2, 4, &with_lists)?)
 }
 
+/// Lets both threads put their files into the list, and then main leave.
+fn both_put<R: Threads + Wait + Sync>(
+    rt: &R,
+    heap: &Heap<u32>,
+    main: &mut Hand<u32>,
+) -> Result<(), Fail>
+    requires lists { heap.now.layout ≡ static_layout }
+    requires main { main.old.view.thread ≡ 0 }
+    requires holds { Holds heap.now main.old None }
+    ensures table { OnOk result (IsOf heap.now main.new) }
+    ensures main { OnOk result (main.new.view.thread ≡ 0) }
+{
+    let one = starts(heap, main, 1)?;
+    let two = starts(heap, main, 2)?;
+    run(rt, one, two)?;
+    leave(rt, heap, main, &mut NumberedFiles::new());
+    Ok(())
+}
+
+/// Plays this over a heap of its own. Returns what the ended heap says, or `None` if a thread hasn't left.
+fn changed<R: Threads + Wait + Sync>(rt: &R, alloc: Global) -> Result<Option<Seen>, Fail> {
+    let (heap, mut main) = opened(alloc)?;
+    both_put(rt, &heap, &mut main)?;
+    Ok(ended(heap, main))
+}
+
 #[test]
 fn threads_change_a_static_list(rt: HostRuntime) -> Result<(), Fail> {
-    let (heap, mut main) = opened(rt.alloc())?;
-    let one = starts(&heap, &mut main, 1)?;
-    let two = starts(&heap, &mut main, 2)?;
-    run(&rt, one, two)?;
-    leave(&rt, &heap, &mut main, &mut NumberedFiles::new());
     // The root, the two lists, their three numbers, and the threads' files. The root and the two numbers that the
     // threads took are closed.
-    let want = Seen {
-        objects: 8,
-        immortal: 2,
-        closed: 3,
-        first: [Some(2), Some(6)],
-        second: [Some(14), None],
-        fields: [Some(FILES[0]), Some(FILES[1])],
-    };
-    assert_eq!(rt; ended(heap, main), Some(want));
+    let want = (
+        [8, 2, 3],
+        [
+            [Some(2), Some(6)],
+            [Some(14), None],
+            [Some(FILES[0]), Some(FILES[1])],
+        ],
+    );
+    assert_eq!(rt; changed(&rt, rt.alloc())?, Some(want));
     Ok(())
 }

@@ -32,7 +32,7 @@ struct Asked<'a> {
 
 /// How many calls of `open`, `connect`, `read` and `write` asked for what they should, within a call of the worker,
 /// and how many others there were.
-#[derive(Clone, Copy, Debug, PartialEq, Eq, Drop)]
+#[derive(Drop)]
 struct Notes {
     right: u64,
     others: u64,
@@ -108,8 +108,14 @@ impl Host for NotingHost<'_> {
     }
 }
 
-/// Lets a worker call the last function of the text's module twice. Returns what the host has noted.
-fn noted<R: Wait>(rt: &R, alloc: Global, text: &[u8], asked: Asked<'_>) -> Result<Notes, Fail> {
+/// Lets a worker call the last function of the text's module twice. Returns how many calls of the host asked for what
+/// they should, and how many others there were.
+fn noted<R: Wait>(
+    rt: &R,
+    alloc: Global,
+    text: &[u8],
+    asked: Asked<'_>,
+) -> Result<(u64, u64), Fail> {
     let checked = accepted(alloc, text)?;
     noted_of(rt, alloc, &checked, asked)
 }
@@ -120,14 +126,14 @@ fn noted_of<R: Wait>(
     alloc: Global,
     checked: &Checked,
     asked: Asked<'_>,
-) -> Result<Notes, Fail> {
+) -> Result<(u64, u64), Fail> {
     let function = last_function(checked)?;
     let (heap, mut main) = opened(alloc, checked, 1, MOST_ROWS)?;
     let mut hand = worker_hand(&heap, &mut main, WORKER)?;
     Ok(notes_of(rt, &heap, checked, function, &mut hand, asked))
 }
 
-/// Lets the worker make its calls. Returns what the host has noted.
+/// Lets the worker make its calls. Returns what `noted` does.
 fn notes_of<R: Wait>(
     rt: &R,
     heap: &Heap<FakeResource>,
@@ -135,7 +141,7 @@ fn notes_of<R: Wait>(
     function: usize,
     hand: &mut Hand<FakeResource>,
     asked: Asked<'_>,
-) -> Notes
+) -> (u64, u64)
     requires function { function < length checked.now.module.functions }
     requires parameters { (function_at checked.now.module.functions function).parameters ≡ [] }
     requires heap { IsHeapOf checked.now.module heap.now }
@@ -162,7 +168,7 @@ fn notes_of<R: Wait>(
         &mut host,
         &gate,
     );
-    host.notes
+    (host.notes.right, host.notes.others)
 }
 
 /// Reads from a file, and writes to a peer how many bytes that were. A `FakeHost` reads as many as it is asked for.
@@ -180,35 +186,40 @@ const WRITE_MOST: &[u8] =
     b"module 1\nfunc f\nopen v1 15 w else @7\nnum v2 4294967295 else @6\nlock v1\nwrite v1 v2 else @4\n\
     unlock v1\ndrop v2\ndrop v1\nfail\nend\n";
 
-/// Returns what the host is asked for by the modules that write a number to a file.
-fn written(bytes: &[u8]) -> Asked<'_> {
-    Asked {
-        path: 15,
-        mode: Mode::WRITE,
-        peer: 0,
-        most: 0,
-        bytes,
-    }
-}
+/// The host is asked to write a number to a file.
+const WRITTEN: Asked<'static> = Asked {
+    path: 15,
+    mode: Mode::WRITE,
+    peer: 0,
+    most: 0,
+    bytes: b"",
+};
 
-/// The gate by which the host knows that it is within a call notes, for its part, what is out of order.
-#[test]
-fn the_host_is_asked_for_what_the_instructions_say(rt: HostRuntime) -> Result<(), Fail> {
-    let told = Asked {
+/// The host is asked to read from a file, and to write to a peer.
+fn told() -> Asked<'static> {
+    Asked {
         path: 3,
         mode: Mode::READ.union(Mode::WRITE).union(Mode::CREATE),
         peer: 5,
         most: 4096,
         bytes: b"4096\n",
-    };
-    for (name, text, asked, right) in [
-        ("read and tell", READ_AND_TELL, told, 8),
-        ("write 0", WRITE_LEAST, written(b"0\n"), 4),
-        ("write 4294967295", WRITE_MOST, written(b"4294967295\n"), 4),
-    ] {
-        let notes = noted(&rt, rt.alloc(), text, asked)?;
-        let want = Notes { right, others: 0 };
-        assert_eq!(rt; notes, want, "{name}");
+    }
+}
+
+/// Modules that write a number to a file, and what they write.
+const WRITES: &[(&[u8], &[u8])] = &[(WRITE_LEAST, b"0\n"), (WRITE_MOST, b"4294967295\n")];
+
+/// The gate by which the host knows that it is within a call notes, for its part, what is out of order.
+#[test]
+fn the_host_is_asked_for_what_the_instructions_say(rt: HostRuntime) -> Result<(), Fail> {
+    let alloc = rt.alloc();
+    assert_eq!(rt; noted(&rt, alloc, READ_AND_TELL, told())?, (8, 0));
+    for (text, bytes) in WRITES {
+        let asked = Asked {
+            bytes: *bytes,
+            ..WRITTEN
+        };
+        assert_eq!(rt; noted(&rt, alloc, text, asked)?, (4, 0), "{bytes:?}");
     }
     for (name, calls, heard) in ORDERS {
         assert_eq!(rt; heard_after(calls), *heard, "{name}");

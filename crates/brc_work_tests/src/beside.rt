@@ -117,15 +117,42 @@ pub fn beside<R: Threads + Wait + Sync>(
     steps: u64,
 ) -> Result<(bool, [u64; 3]), Fail> {
     let checked = accepted(alloc, text)?;
-    if !is_callable(&checked, 0) || !is_callable(&checked, 1) {
+    beside_of(rt, alloc, &checked, steps)
+}
+
+/// Does what `beside` does, of a module that is accepted.
+fn beside_of<R: Threads + Wait + Sync>(
+    rt: &R,
+    alloc: Global,
+    checked: &Checked,
+    steps: u64,
+) -> Result<(bool, [u64; 3]), Fail> {
+    if !is_callable(checked, 0) || !is_callable(checked, 1) {
         return Err("two functions have no parameters")?;
     }
-    let (heap, mut main) = opened(alloc, &checked, 2, MOST_ROWS)?;
-    let Some(done) = all_leave(rt, &heap, &mut main, &checked, steps) else {
-        return Err("a hand can't be given out")?;
-    };
-    match objects_left(heap, main) {
-        Some(objects) => Ok((done, objects)),
-        None => Err("a thread isn't gone")?,
+    let (heap, main) = opened(alloc, checked, 2, MOST_ROWS)?;
+    match beside_in(rt, heap, main, checked, steps) {
+        Some(ends) => Ok(ends),
+        None => Err("a hand can't be given out, or a thread isn't gone")?,
     }
+}
+
+/// Does what `beside` does, with the heap.
+fn beside_in<R: Threads + Wait + Sync>(
+    rt: &R,
+    heap: Heap<FakeResource>,
+    mut main: Hand<FakeResource>,
+    checked: &Checked,
+    steps: u64,
+) -> Option<(bool, [u64; 3])>
+    requires functions { 1 < length checked.now.module.functions }
+    requires first { (function_at checked.now.module.functions 0).parameters ≡ [] }
+    requires second { (function_at checked.now.module.functions 1).parameters ≡ [] }
+    requires heap { IsHeapOf checked.now.module heap }
+    requires main { HoldsRoot heap main }
+    requires thread { main.view.thread ≡ 0 }
+{
+    let done = all_leave(rt, &heap, &mut main, checked, steps)?;
+    let objects = objects_left(heap, main)?;
+    Some((done, objects))
 }

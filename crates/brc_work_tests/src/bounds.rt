@@ -4,7 +4,7 @@
 use crate::beside::beside;
 use crate::faults::{COPY, FILE_IN_CALLS};
 use crate::hearing::Hearing;
-use crate::runs::{MOST_ROWS, run_apart, run_in_thread, run_over};
+use crate::runs::{MOST_ROWS, Outcome, run_apart, run_in_thread, run_over};
 use crate::worked::{
     FOUR_PASSES, HAND_BACK, IN_ITSELF, KEEP, NOTHING, OWN_TURNS, SET_OUT_OF_RANGE, THREE_OPEN,
 };
@@ -12,6 +12,7 @@ use brc_check::Checked;
 use brc_fixtures::accepted;
 use brc_host::FakeHost;
 use std::alloc::Global;
+use std::process::Abort;
 use std::sync::Wait;
 use std::test::*;
 use std::thread::Threads;
@@ -184,54 +185,94 @@ fn both_stop<R: Threads + Wait + Sync>(
     Ok((one.is_done() || other.is_done(), objects))
 }
 
+/// Lets two workers call the first function, the second one, or one each, and begin at most `steps` instructions.
+/// Returns of each whether one has made all its calls, and the objects that were created, closed and are alive.
+fn all_stopped<R: Threads + Wait + Sync>(
+    rt: &R,
+    alloc: Global,
+    steps: u64,
+) -> Result<[(bool, [u64; 3]); 3], Fail> {
+    Ok([
+        two_stopped(rt, alloc, 0, steps)?,
+        two_stopped(rt, alloc, 1, steps)?,
+        beside(rt, alloc, TWO_FUNCTIONS, steps)?,
+    ])
+}
+
+/// Returns what two workers that call the first function, the second one, or one each lead to at this bound.
+fn stops_of(steps: u64) -> [(bool, [u64; 3]); 3] {
+    let calls = steps.div_ceil(OWN_STEPS);
+    let own = calls.saturating_mul(2).saturating_add(1);
+    let beside = calls.saturating_add(1);
+    [
+        (false, [own, own, 0]),
+        (false, [1, 1, 0]),
+        (false, [beside, beside, 0]),
+    ]
+}
+
+/// Returns how many objects the case has at this bound: those that were created, closed and are alive.
+fn objects_at(wants: &[[u64; 3]], steps: u64) -> [u64; 3] {
+    match wants.get(steps as usize).or(wants.last()) {
+        Some(want) => *want,
+        None => [0; 3],
+    }
+}
+
+/// Asserts what the case leads to at this bound, in a thread of its own too. No call of the host fails, and the host
+/// has closed what it has opened.
+fn expect_stop<R: Threads + Wait + Sync + Abort>(
+    rt: &R,
+    alloc: Global,
+    case: &Case<'_>,
+    steps: u64,
+) -> Result<(), Fail> {
+    let (name, text, instructions, wants) = case;
+    let ran = run_over(rt, alloc, text, MOST_ROWS, 1, steps, &[])?;
+    let apart = run_in_thread(rt, alloc, text, MOST_ROWS, 1, steps, &[])?;
+    let [created, closed, alive] = objects_at(wants, steps);
+    let wanted = Outcome {
+        counts: [created, closed, alive, 0, 0],
+        closed: ran.opened,
+        done: steps >= *instructions,
+        ..ran
+    };
+    assert_eq!(rt;
+        (ran, apart),
+        (wanted, wanted),
+        "{name}, {steps} steps, and in a thread of its own"
+    );
+    Ok(())
+}
+
+/// Returns whether the worker of a run has made all its calls, and what its gate has heard.
+fn heard_of<R: Wait>(
+    rt: &R,
+    alloc: Global,
+    bounded: &Bounded<'_>,
+) -> Result<(bool, Option<u64>), Fail> {
+    let ran = run_over(rt, alloc, bounded.1, MOST_ROWS, bounded.2, bounded.3, &[])?;
+    Ok((ran.done, ran.heard))
+}
+
 /// A stopped worker has given up what it owned; a run is done unless its bound is met; and of two workers both stop,
 /// whether they call one function or one each, as their four calls begin more instructions than any of the bounds.
 #[test]
 fn bounds_stop_workers(rt: HostRuntime) -> Result<(), Fail> {
-    for (name, text, instructions, wants) in CASES {
-        for steps in 0..=MOST_STEPS {
-            let ran = run_over(&rt, rt.alloc(), text, MOST_ROWS, 1, steps, &[])?;
-            let apart = run_in_thread(&rt, rt.alloc(), text, MOST_ROWS, 1, steps, &[])?;
-            assert_eq!(rt; apart, ran, "{name}, {steps} steps, in a thread of its own");
-            let want = wants.get(steps as usize).or(wants.last());
-            let [created, closed, alive, host_faults, close_faults] = ran.counts;
-            assert_eq!(rt;
-                Some(&[created, closed, alive]),
-                want,
-                "{name}, {steps} steps"
-            );
-            assert_eq!(rt;
-                (host_faults, close_faults),
-                (0, 0),
-                "{name}, {steps} steps"
-            );
-            assert_eq!(rt; ran.opened, ran.closed, "closes of {name}, {steps} steps");
-            assert_eq!(rt; ran.done, steps >= *instructions, "{name}, {steps} steps");
-        }
-    }
-    for (name, text, times, steps, done, heard) in BOUNDED {
-        let ran = run_over(&rt, rt.alloc(), text, MOST_ROWS, *times, *steps, &[])?;
-        assert_eq!(rt; (ran.done, ran.heard), (*done, Some(*heard)), "{name}");
-    }
+    let alloc = rt.alloc();
     for steps in 0..=MOST_STEPS {
-        let numbers = 2 * steps.div_ceil(OWN_STEPS);
-        for (function, created) in [(0, 1 + numbers), (1, 1)] {
-            let (done, objects) = two_stopped(&rt, rt.alloc(), function, steps)?;
-            assert!(rt; !done, "function {function}, {steps} steps");
-            assert_eq!(rt;
-                objects,
-                [created, created, 0],
-                "function {function}, {steps} steps"
-            );
+        for case in CASES {
+            expect_stop(&rt, alloc, case, steps)?;
         }
-        let created = 1 + steps.div_ceil(OWN_STEPS);
-        let (done, objects) = beside(&rt, rt.alloc(), TWO_FUNCTIONS, steps)?;
-        assert!(rt; !done, "own beside other, {steps} steps");
         assert_eq!(rt;
-            objects,
-            [created, created, 0],
-            "own beside other, {steps} steps"
+            all_stopped(&rt, alloc, steps)?,
+            stops_of(steps),
+            "{steps} steps"
         );
+    }
+    for bounded in BOUNDED {
+        let heard = heard_of(&rt, alloc, bounded)?;
+        assert_eq!(rt; heard, (bounded.4, Some(bounded.5)), "{}", bounded.0);
     }
     Ok(())
 }

@@ -1,12 +1,13 @@
 //! Runs over a host that fails: its faults are counted, and each file or connection that it has opened is closed once.
 
 use crate::hearing::Hearing;
-use crate::runs::{Counts, MOST_ROWS, run_apart, run_in_thread, run_over};
+use crate::runs::{Counts, MOST_ROWS, Outcome, run_apart, run_in_thread, run_over};
 use brc_check::Checked;
 use brc_fixtures::accepted;
 use brc_host::{FakeHost, Host};
 use brc_work::Totals;
 use std::alloc::Global;
+use std::process::Abort;
 use std::sync::Wait;
 use std::test::*;
 use std::thread::Threads;
@@ -141,26 +142,41 @@ fn left_by(totals: Totals, host: &FakeHost<'_>) -> Left {
     )
 }
 
-/// Everything is closed, whichever two calls of a copy fail. Of two workers, the first one's open fails, and of the
-/// second, which makes the whole copy, both closes.
+/// Asserts that everything is closed if these two calls of a copy fail, in a thread of its own too.
+fn expect_closed<R: Threads + Wait + Sync + Abort>(
+    rt: &R,
+    alloc: Global,
+    plan: [u64; 2],
+) -> Result<(), Fail> {
+    let ran = run_over(rt, alloc, COPY, MOST_ROWS, 1, u64::MAX, &plan)?;
+    let apart = run_in_thread(rt, alloc, COPY, MOST_ROWS, 1, u64::MAX, &plan)?;
+    let [created, _, _, host_faults, close_faults] = ran.counts;
+    let wanted = Outcome {
+        counts: [created, created, 0, host_faults, close_faults],
+        closed: ran.opened,
+        ..ran
+    };
+    assert_eq!(rt;
+        (ran, apart),
+        (wanted, wanted),
+        "calls {plan:?}, and in a thread of its own"
+    );
+    Ok(())
+}
+
+/// What is left if of two workers the first one's open fails, and of the second, which makes the whole copy, both
+/// closes.
+const LEFT: ([Left; 2], [u64; 3], u64) = ([(0, 1, 0, 0, 0), (3, 0, 2, 2, 2)], [4, 4, 0], 0);
+
+/// Everything is closed, whichever two calls of a copy fail.
 #[test]
 fn faults_of_hosts_are_counted(rt: HostRuntime) -> Result<(), Fail> {
+    let alloc = rt.alloc();
     for second in 1..7u64 {
         for first in 0..second {
-            let plan = [first, second];
-            let ran = run_over(&rt, rt.alloc(), COPY, MOST_ROWS, 1, u64::MAX, &plan)?;
-            let apart = run_in_thread(&rt, rt.alloc(), COPY, MOST_ROWS, 1, u64::MAX, &plan)?;
-            assert_eq!(rt; apart, ran, "calls {first} and {second} in a thread");
-            let [created, closed, alive, _, _] = ran.counts;
-            assert_eq!(rt;
-                (closed, alive, ran.closed),
-                (created, 0, ran.opened),
-                "calls {first} and {second}"
-            );
+            expect_closed(&rt, alloc, [first, second])?;
         }
     }
-    let (left, objects, last) = two_copies(&rt, rt.alloc(), [&[0], &[4, 5]])?;
-    assert_eq!(rt; left, [(0, 1, 0, 0, 0), (3, 0, 2, 2, 2)]);
-    assert_eq!(rt; (objects, last), ([4, 4, 0], 0));
+    assert_eq!(rt; two_copies(&rt, alloc, [&[0], &[4, 5]])?, LEFT);
     Ok(())
 }

@@ -174,9 +174,27 @@ fn two_runs_of<R: Wait>(
     let function = last_function(checked)?;
     let (heap, mut main) = opened(alloc, checked, 1, MOST_ROWS)?;
     let mut hand = worker_hand(&heap, &mut main, WORKER)?;
-    let first = run_of(rt, &heap, checked, function, times, steps, &mut hand);
-    let second = run_of(rt, &heap, checked, function, 1, u64::MAX, &mut hand);
-    Ok([first, second])
+    Ok(both_runs(rt, &heap, checked, function, times, steps, &mut hand))
+}
+
+/// Does what `two_runs` does, with a hand of the heap.
+fn both_runs<R: Wait>(
+    rt: &R,
+    heap: &Heap<FakeResource>,
+    checked: &Checked,
+    function: usize,
+    times: u32,
+    steps: u64,
+    hand: &mut Hand<FakeResource>,
+) -> [Run; 2]
+    requires function { function < length checked.now.module.functions }
+    requires parameters { (function_at checked.now.module.functions function).parameters ≡ [] }
+    requires heap { IsHeapOf checked.now.module heap.now }
+    requires holds { HoldsRoot heap.now hand.old }
+{
+    let first = run_of(rt, heap, checked, function, times, steps, hand);
+    let second = run_of(rt, heap, checked, function, 1, u64::MAX, hand);
+    [first, second]
 }
 
 /// Lets the worker make the calls of one run.

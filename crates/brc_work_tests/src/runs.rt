@@ -359,6 +359,7 @@ pub fn expect<R: Threads + Wait + Sync + Abort>(
 ) -> Result<(), Fail> {
     let (rows, times, plan) = run;
     let ran = run_over(rt, alloc, text, rows, times, u64::MAX, plan)?;
+    let apart = run_in_thread(rt, alloc, text, rows, times, u64::MAX, plan)?;
     let wanted = Outcome {
         counts: want,
         closed: ran.opened,
@@ -367,8 +368,10 @@ pub fn expect<R: Threads + Wait + Sync + Abort>(
         done: true,
         ..ran
     };
-    assert_eq!(rt; ran, wanted, "{name}");
-    let apart = run_in_thread(rt, alloc, text, rows, times, u64::MAX, plan)?;
-    assert_eq!(rt; apart, ran, "{name} in a thread of its own");
+    assert_eq!(rt;
+        (ran, apart),
+        (wanted, wanted),
+        "{name}, and in a thread of its own"
+    );
     Ok(())
 }
