@@ -1,0 +1,10 @@
+pub mod After
+pub mod Asking
+pub mod Cells
+pub mod Faults
+pub mod Giving
+pub mod Questions
+pub mod Registers
+pub mod Signs
+pub mod Stores
+pub mod Values

@@ -1,11 +1,27 @@
+ghost use Rattle.std.specs.Prelude.{◌≡◌, true, false, not, filter, IfOk, OnOk};
+ghost use Rattle.brc_c_store.specs.Values.{same_fact};
+ghost use Rattle.brc_c_store.specs.Registers.{no_registers};
+ghost use Rattle.brc_c_store.specs.Stores.{contents_of, free_register};
+ghost use Rattle.brc_c_store.specs.Cells.{object_of_this};
+ghost use Rattle.brc_c_store.specs.Giving.{with_items_ended};
+ghost use Rattle.brc_c_store.specs.Questions.{outcome_of, Goes};
+ghost use Rattle.brc_c_store.specs.After.{is_yes, is_way_of_call, is_way, with_unknown, copied, with_one_more};
+ghost use Rattle.brc_c_store.specs.After.{lent_from_here, stowed, assumed, new_object, borrowed_object, item_base};
+ghost use Rattle.brc_c_store.specs.After.{item_of, or_too_many, with_result, part_of, part_of_borrowed, same_as};
+ghost use Rattle.brc_c_store.specs.After.{called, base_of_lender, lent, taken_object, taken, given_away};
+ghost use Rattle.brc_c_store.specs.After.{given_to_container};
+ghost use Rattle.brc_c_store.specs.After.{kept_by_container, all_handed_back, with_lock_given_back, locked};
+ghost use Rattle.brc_c_store.specs.After.{without_section, unlocked, with_detached, without_fact, changed, along};
+ghost use Rattle.brc_c_store.specs.After.{after_of};
+
 use crate::event::{Calling, Choice, Event, Gives, Source};
 use crate::keeping::{forget_cell, free_cells, put, read};
 use crate::object::{Base, Object};
 use crate::questions::{ask_fact, ask_null, ask_sign, ask_singleton, become_singleton};
-use crate::register::RegisterSet;
+use crate::register::{Register, RegisterSet};
 use crate::rules::Rules;
-use crate::store::{Section, Store};
-use crate::value::{Local, ObjectId, Value};
+use crate::store::{KnownFact, Section, Store};
+use crate::value::{Fact, Local, ObjectId, Value};
 use std::alloc::AllocError;
 
 /// What follows an event.
@@ -19,99 +35,162 @@ pub enum Next {
 }
 
 /// Returns the store after an event, if a path goes this way on. The event is one that breaks no rule in the store.
-pub fn after(
-    rules: Rules,
-    event: Event,
-    choice: Choice,
-    store: &Store,
-) -> Result<Next, AllocError> {
+pub fn after(rules: Rules, event: Event, choice: Choice, store: &Store) -> Result<Next, AllocError>
+    ensures { IfOk result (λ next. outcome_of next ≡ after_of rules event choice (contents_of store.now)) }
+{
     if !is_way(event, choice) {
         return Ok(Next::Never);
     }
-    let mut next = store.clone()?;
+    along(rules, event, choice, copy_of(store)?)
+}
+
+fn copy_of(store: &Store) -> Result<Store, AllocError>
+    ensures { IfOk result (λ copy. contents_of copy ≡ contents_of store.now) }
+{
+    store.clone()
+}
+
+/// Returns what follows an event along one of its ways.
+fn along(rules: Rules, event: Event, choice: Choice, next: Store) -> Result<Next, AllocError>
+    ensures { IfOk result (λ after. outcome_of after ≡ along rules event choice (contents_of next)) }
+{
     match event {
-        Event::Pass => {}
-        Event::Copy { to, from } => copy(&mut next, to, from)?,
-        Event::Null(local) => return Ok(ask_null(next, local, choice == Choice::Yes)),
-        Event::Sign { of, test } => return ask_sign(next, of, test, choice == Choice::Yes),
-        Event::Choice(fact) => return ask_fact(next, fact, choice == Choice::Yes),
+        Event::Null(local) => Ok(ask_null(next, local, choice == Choice::Yes)),
+        Event::Sign { of, test } => ask_sign(next, of, test, choice == Choice::Yes),
+        Event::Choice(fact) => ask_fact(next, fact, choice == Choice::Yes),
         Event::Is { local, singleton } => {
-            return Ok(ask_singleton(next, local, singleton, choice == Choice::Yes));
+            Ok(ask_singleton(next, local, singleton, choice == Choice::Yes))
         }
-        Event::Become { local, singleton } => return Ok(become_singleton(next, local, singleton)),
-        Event::Forget(fact) => next.facts.retain(|known| known.fact != fact),
+        Event::Become { local, singleton } => Ok(become_singleton(next, local, singleton)),
+        Event::Take(local) => Ok(take(next, local)),
+        Event::Call { gives, into, .. } => call(next, gives, into, choice),
+        Event::Put { cell, from } => put(next, cell, from),
+        _ => changed(rules, event, next),
+    }
+}
+
+/// Returns the store after an event that has one way.
+fn changed(rules: Rules, event: Event, next: Store) -> Result<Next, AllocError>
+    ensures { IfOk result (λ after. outcome_of after ≡ Goes (changed rules event (contents_of next))) }
+{
+    let mut next = next;
+    change(rules, event, &mut next)?;
+    Ok(Next::Store(next))
+}
+
+/// Changes a store as an event does that has one way.
+fn change(rules: Rules, event: Event, next: &mut Store) -> Result<(), AllocError>
+    ensures { OnOk result (contents_of next.new ≡ changed rules event (contents_of next.old)) }
+{
+    match event {
+        Event::Copy { to, from } => copy(next, to, from)?,
+        Event::Forget(fact) => forget(next, fact),
         Event::Use(local) => next.refine(local),
-        Event::Take(local) => return Ok(take(next, local)),
-        Event::Release(local) | Event::Give(local) => give(&mut next, local),
-        Event::GiveTo { local, container } => {
-            give(&mut next, local);
-            if let Some(id) = next.object_of(local) {
-                next.give_to(id, container);
-            }
-        }
-        Event::Keep { local, container } => {
-            let keeper = next.object_of(container);
-            if let Some(id) = next.object_of(local) {
-                next.keep(id, keeper);
-            }
-        }
-        Event::Stow(local) => {
-            assume(&mut next, local);
-            stow(&mut next, local);
-        }
-        Event::HandOver(local) => stow(&mut next, local),
-        Event::Assume(local) => assume(&mut next, local),
+        Event::Release(local) | Event::Give(local) => give(next, local),
+        Event::GiveTo { local, container } => give_to(next, local, container),
+        Event::Keep { local, container } => keep(next, local, container),
+        Event::Stow(local) => stow_away(next, local),
+        Event::HandOver(local) => stow(next, local),
+        Event::Assume(local) => assume(next, local),
         Event::EndItems => next.end_items(),
-        Event::Call { gives, into, .. } => return call(next, gives, into, choice),
         Event::Lend {
             to,
             lender,
             is_optional,
-        } => lend(&mut next, to, lender, is_optional)?,
-        Event::Read { cell, to } => read(&mut next, cell, to)?,
-        Event::Put { cell, from } => return put(next, cell, from),
-        Event::HandBack { runs_code } => {
-            if runs_code {
-                next.forget_cells();
-                next.end_fields();
-            } else {
-                next.hand_back();
-            }
-        }
-        Event::ForgetCell(cell) => forget_cell(&mut next, cell)?,
+        } => lend(next, to, lender, is_optional)?,
+        Event::Read { cell, to } => read(next, cell, to)?,
+        Event::HandBack { runs_code } => hand_back(next, runs_code),
+        Event::ForgetCell(cell) => forget_cell(next, cell)?,
         Event::DropCells(field) => next.drop_cells(field),
-        Event::FreeCells(local) => free_cells(&mut next, local),
-        Event::Lock { first, second } => lock(rules, &mut next, first, second)?,
-        Event::Unlock => unlock(rules, &mut next),
-        Event::Detach => detach(&mut next),
-        Event::Attach => next.is_detached = false,
-        Event::UseOrNull(_)
-        | Event::Lose(_)
-        | Event::Return(_)
-        | Event::ReturnPlain
-        | Event::Halt
-        | Event::End => {}
+        Event::FreeCells(local) => free_cells(next, local),
+        Event::Lock { first, second } => lock(rules, next, first, second)?,
+        Event::Unlock => unlock(rules, next),
+        Event::Detach => detach(next),
+        Event::Attach => attach(next),
+        _ => {}
     }
-    Ok(Next::Store(next))
+    Ok(())
+}
+
+/// What was found for a condition holds no more.
+fn forget(next: &mut Store, fact: Fact)
+    ensures { contents_of next.new ≡ without_fact (contents_of next.old) fact }
+{
+    remove_fact(&mut next.facts, fact);
+}
+
+fn remove_fact(facts: &mut Vec<KnownFact>, fact: Fact)
+    ensures { facts.new.items ≡ filter (λ known. not (same_fact known.fact fact)) facts.old.items }
+{
+    facts.retain(|known| known.fact != fact);
+}
+
+/// A reference is given up to a container, which has it then.
+fn give_to(next: &mut Store, local: Local, container: Local)
+    ensures { contents_of next.new ≡ given_to_container (contents_of next.old) local container }
+{
+    give(next, local);
+    if let Some(id) = next.object_of(local) {
+        next.give_to(id, container);
+    }
+}
+
+/// A container makes a reference of its own.
+fn keep(next: &mut Store, local: Local, container: Local)
+    ensures { contents_of next.new ≡ kept_by_container (contents_of next.old) local container }
+{
+    let keeper = next.object_of(container);
+    if let Some(id) = next.object_of(local) {
+        next.keep(id, keeper);
+    }
+}
+
+/// The reference is kept where nothing is followed.
+fn stow_away(next: &mut Store, local: Local)
+    ensures { contents_of next.new ≡ stowed (assumed (contents_of next.old) local) local }
+{
+    assume(next, local);
+    stow(next, local);
+}
+
+fn hand_back(next: &mut Store, runs_code: bool)
+    ensures { contents_of next.new ≡ all_handed_back (contents_of next.old) runs_code }
+{
+    if runs_code {
+        next.forget_cells();
+        next.end_fields();
+    } else {
+        next.hand_back();
+    }
 }
 
 /// Returns whether an event has this way after it.
-fn is_way(event: Event, choice: Choice) -> bool {
+fn is_way(event: Event, choice: Choice) -> bool
+    ensures { result ≡ is_way event choice }
+{
     match event {
         Event::Null(_) | Event::Sign { .. } | Event::Choice(_) | Event::Is { .. } => {
             choice != Choice::Missing
         }
-        Event::Call { calling, .. } => match calling {
-            Calling::Succeeds => choice == Choice::Yes,
-            Calling::MayFail => choice != Choice::Missing,
-            Calling::MayMiss => true,
-        },
+        Event::Call { calling, .. } => is_way_of_call(calling, choice),
         Event::Return(_) | Event::ReturnPlain | Event::Halt | Event::End => false,
         _ => choice == Choice::Yes,
     }
 }
 
-fn copy(next: &mut Store, to: Local, from: Source) -> Result<(), AllocError> {
+fn is_way_of_call(calling: Calling, choice: Choice) -> bool
+    ensures { result ≡ is_way_of_call calling choice }
+{
+    match calling {
+        Calling::Succeeds => choice == Choice::Yes,
+        Calling::MayFail => choice != Choice::Missing,
+        Calling::MayMiss => true,
+    }
+}
+
+fn copy(next: &mut Store, to: Local, from: Source) -> Result<(), AllocError>
+    ensures { OnOk result (contents_of next.new ≡ copied (contents_of next.old) to from) }
+{
     match from {
         Source::Nothing => next.set(to, Value::Unset),
         Source::Null => next.set(to, Value::Null),
@@ -127,31 +206,57 @@ fn copy(next: &mut Store, to: Local, from: Source) -> Result<(), AllocError> {
                 ..Object::LENT
             },
         ),
-        Source::Unknown => {
-            let id = next.add_object(Object {
-                is_assumed: true,
-                ..Object::LENT
-            })?;
-            next.set(to, Value::Maybe(id))
-        }
+        Source::Unknown => set_unknown(next, to),
     }
 }
 
-fn take(next: Store, local: Local) -> Next {
+/// Gives a name an object of which nothing is known, or NULL.
+fn set_unknown(next: &mut Store, to: Local) -> Result<(), AllocError>
+    ensures { OnOk result (contents_of next.new ≡ with_unknown (contents_of next.old) to) }
+{
+    let id = next.add_object(Object {
+        is_assumed: true,
+        ..Object::LENT
+    })?;
+    next.set(to, Value::Maybe(id))
+}
+
+fn take(next: Store, local: Local) -> Next
+    ensures { outcome_of result ≡ or_too_many (taken (contents_of next) local) }
+{
     let mut next = next;
     next.refine(local);
-    if let Some(id) = next.object_of(local) {
-        let Some(register) = next.free() else {
-            return Next::TooMany;
-        };
-        let mut object = next.object(id);
-        object.registers = object.registers.with(register);
-        next.set_object(id, object);
+    match next.object_of(local) {
+        Some(id) => take_object(next, id),
+        None => Next::Store(next),
     }
-    Next::Store(next)
 }
 
-fn give(next: &mut Store, local: Local) {
+fn take_object(next: Store, id: ObjectId) -> Next
+    ensures { outcome_of result ≡ or_too_many (taken_object (contents_of next) (Some id)) }
+{
+    let mut next = next;
+    match next.free() {
+        Some(register) => {
+            add_register(&mut next, id, register);
+            Next::Store(next)
+        }
+        None => Next::TooMany,
+    }
+}
+
+/// A register gets a reference to the object.
+fn add_register(next: &mut Store, id: ObjectId, register: Register)
+    ensures { contents_of next.new ≡ with_one_more (contents_of next.old) id register }
+{
+    let mut object = next.object(id);
+    object.registers = object.registers.with(register);
+    next.set_object(id, object);
+}
+
+fn give(next: &mut Store, local: Local)
+    ensures { contents_of next.new ≡ given_away (contents_of next.old) local }
+{
     next.refine(local);
     if let Some(id) = next.object_of(local) {
         let mut object = next.object(id);
@@ -162,21 +267,32 @@ fn give(next: &mut Store, local: Local) {
 }
 
 /// The reference is given up, and the object is lent from there on.
-fn stow(next: &mut Store, local: Local) {
+fn stow(next: &mut Store, local: Local)
+    ensures { contents_of next.new ≡ stowed (contents_of next.old) local }
+{
     if let Some(id) = next.object_of(local) {
-        let mut object = next.object(id);
-        object.is_fresh = false;
-        if let Some(last) = object.registers.last() {
-            object.registers = object.registers.without(last);
-            if !object.is_alive() {
-                object.base = Base::Call;
-            }
-        }
-        next.set_object(id, object);
+        let object = next.object(id);
+        next.set_object(id, lent_from_here(object));
     }
 }
 
-fn assume(next: &mut Store, local: Local) {
+fn lent_from_here(object: Object) -> Object
+    ensures { result ≡ lent_from_here object }
+{
+    let mut object = object;
+    object.is_fresh = false;
+    if let Some(last) = object.registers.last() {
+        object.registers = object.registers.without(last);
+        if !object.is_alive() {
+            object.base = Base::Call;
+        }
+    }
+    object
+}
+
+fn assume(next: &mut Store, local: Local)
+    ensures { contents_of next.new ≡ assumed (contents_of next.old) local }
+{
     if let Some(id) = next.object_of(local) {
         let mut object = next.object(id);
         object.is_assumed = true;
@@ -184,19 +300,23 @@ fn assume(next: &mut Store, local: Local) {
     }
 }
 
-fn call(
-    next: Store,
-    gives: Gives,
-    into: Option<Local>,
-    choice: Choice,
-) -> Result<Next, AllocError> {
-    let mut next = next;
+fn call(next: Store, gives: Gives, into: Option<Local>, choice: Choice) -> Result<Next, AllocError>
+    ensures { IfOk result (λ after. outcome_of after ≡ called (contents_of next) gives into choice) }
+{
     let Some(into) = into else {
         return Ok(Next::Store(next));
     };
     if choice != Choice::Yes {
         return Ok(Next::Store(next));
     }
+    get(next, into, gives)
+}
+
+/// A call has succeeded: a name gets what it gives.
+fn get(next: Store, into: Local, gives: Gives) -> Result<Next, AllocError>
+    ensures { IfOk result (λ after. outcome_of after ≡ or_too_many (with_result (contents_of next) into gives)) }
+{
+    let mut next = next;
     match gives {
         Gives::Nothing => {}
         Gives::New {
@@ -206,60 +326,83 @@ fn call(
             let Some(register) = next.free() else {
                 return Ok(Next::TooMany);
             };
-            let object = Object {
-                registers: RegisterSet::EMPTY.with(register),
-                is_fresh,
-                is_assumed,
-                ..Object::GONE
-            };
-            next.set_new(into, object)?;
+            next.set_new(into, new_object(is_fresh, is_assumed, register))?;
         }
         Gives::Item(container) => {
             let Some(base) = item_of(&next, container) else {
                 return Ok(Next::TooMany);
             };
-            next.set_new(
-                into,
-                Object {
-                    base,
-                    ..Object::GONE
-                },
-            )?;
+            next.set_new(into, borrowed_object(base))?;
         }
         Gives::Part(lender) => {
             let base = part_of(&next, lender);
-            next.set_new(
-                into,
-                Object {
-                    base,
-                    ..Object::GONE
-                },
-            )?;
+            next.set_new(into, borrowed_object(base))?;
         }
         Gives::Lent => next.set_new(into, Object::LENT)?,
-        Gives::Same(local) => same(&mut next, into, local)?,
+        Gives::Same(local) => {
+            let value = next.value(local);
+            same(&mut next, into, value)?;
+        }
     }
     Ok(Next::Store(next))
 }
 
-/// Returns what lends an item of a container, or `None` if no register is left for the item.
-fn item_of(next: &Store, container: Local) -> Option<Base> {
-    if let Some(id) = next.object_of(container) {
-        if next.is_private(next.object(id)) {
-            return Some(Base::Part(id));
-        }
+fn new_object(is_fresh: bool, is_assumed: bool, register: Register) -> Object
+    ensures { result ≡ new_object is_fresh is_assumed register }
+{
+    Object {
+        registers: RegisterSet::EMPTY.with(register),
+        is_fresh,
+        is_assumed,
+        ..Object::GONE
     }
-    Some(Base::Item(next.free()?))
+}
+
+fn borrowed_object(base: Base) -> Object
+    ensures { result ≡ borrowed_object base }
+{
+    Object {
+        base,
+        ..Object::GONE
+    }
+}
+
+/// Returns what lends an item of a container, or `None` if no register is left for the item.
+fn item_of(next: &Store, container: Local) -> Option<Base>
+    ensures { result ≡ item_of (contents_of next.now) container }
+{
+    match next.object_of(container) {
+        Some(id) if next.is_private(next.object(id)) => Some(Base::Part(id)),
+        _ => item_base(next.free()),
+    }
+}
+
+fn item_base(register: Option<Register>) -> Option<Base>
+    ensures { result ≡ item_base register }
+{
+    Some(Base::Item(register?))
 }
 
 /// Returns what lends a part of an object.
-fn part_of(next: &Store, lender: Local) -> Base {
+fn part_of(next: &Store, lender: Local) -> Base
+    ensures { result ≡ part_of (contents_of next.now) lender }
+{
     let Some(id) = next.object_of(lender) else {
         return Base::Call;
     };
     let object = next.object(id);
-    match object.base {
-        _ if !object.registers.is_empty() => Base::Part(id),
+    if object.registers.is_empty() {
+        part_of_borrowed(id, object.base)
+    } else {
+        Base::Part(id)
+    }
+}
+
+/// Returns what lends a part of an object that the function doesn't own.
+fn part_of_borrowed(id: ObjectId, base: Base) -> Base
+    ensures { result ≡ part_of_borrowed id base }
+{
+    match base {
         Base::Part(_) => Base::Part(id),
         Base::Item(register) => Base::Item(register),
         Base::Call | Base::Gone | Base::Field => Base::Call,
@@ -271,26 +414,34 @@ fn lend(
     to: Local,
     lender: Option<Local>,
     is_optional: bool,
-) -> Result<(), AllocError> {
-    let base = match lender {
-        Some(lender) => part_of(next, lender),
-        None => Base::Call,
-    };
-    let id = next.add_object(Object {
-        base,
-        ..Object::GONE
-    })?;
-    if is_optional && next.value(to) == Value::Null {
+) -> Result<(), AllocError>
+    ensures { OnOk result (contents_of next.new ≡ lent (contents_of next.old) to lender is_optional) }
+{
+    let may_stay = is_optional && next.value(to) == Value::Null;
+    let object = borrowed_object(base_of_lender(next, lender));
+    let id = next.add_object(object)?;
+    if may_stay {
         next.set(to, Value::Maybe(id))
     } else {
         next.set(to, Value::Object(id))
     }
 }
 
+fn base_of_lender(next: &Store, lender: Option<Local>) -> Base
+    ensures { result ≡ base_of_lender (contents_of next.now) lender }
+{
+    match lender {
+        Some(lender) => part_of(next, lender),
+        None => Base::Call,
+    }
+}
+
 /// What a function gives is its argument. What it gives for NULL isn't known.
-fn same(next: &mut Store, into: Local, local: Local) -> Result<(), AllocError> {
-    match next.value(local) {
-        Value::Null => copy(next, into, Source::Unknown),
+fn same(next: &mut Store, into: Local, value: Value) -> Result<(), AllocError>
+    ensures { OnOk result (contents_of next.new ≡ same_as (contents_of next.old) into value) }
+{
+    match value {
+        Value::Null => set_unknown(next, into),
         value => next.set(into, value),
     }
 }
@@ -300,34 +451,62 @@ fn lock(
     next: &mut Store,
     first: Option<Local>,
     second: Option<Local>,
-) -> Result<(), AllocError> {
+) -> Result<(), AllocError>
+    ensures { OnOk result (contents_of next.new ≡ locked rules (contents_of next.old) first second) }
+{
     if rules == Rules::GlobalLock {
         return Ok(());
-    }
-    // The text has one lock: it is given back and taken again.
-    if !next.sections.is_empty() {
-        next.end_items();
     }
     let section = Section {
         first: object_of(next, first),
         second: object_of(next, second),
     };
+    give_lock_back(next);
     next.sections.push(section)?;
     Ok(())
 }
 
-fn object_of(next: &Store, local: Option<Local>) -> Option<ObjectId> {
-    next.object_of(local?)
-}
-
-fn unlock(rules: Rules, next: &mut Store) {
-    if rules == Rules::FreeThreaded {
-        let _ = next.sections.pop();
+/// The text has one lock: if a section is open, it is given back and taken again.
+fn give_lock_back(next: &mut Store)
+    ensures { contents_of next.new ≡ with_lock_given_back (contents_of next.old) }
+{
+    if !next.sections.is_empty() {
         next.end_items();
     }
 }
 
-fn detach(next: &mut Store) {
+fn object_of(next: &Store, local: Option<Local>) -> Option<ObjectId>
+    ensures { result ≡ object_of_this (contents_of next.now) local }
+{
+    next.object_of(local?)
+}
+
+fn unlock(rules: Rules, next: &mut Store)
+    ensures { contents_of next.new ≡ unlocked rules (contents_of next.old) }
+{
+    if rules == Rules::FreeThreaded {
+        end_section(next);
+        next.end_items();
+    }
+}
+
+/// The innermost section ends.
+fn end_section(next: &mut Store)
+    ensures { contents_of next.new ≡ without_section (contents_of next.old) }
+{
+    let rest = next.sections.len().saturating_sub(1);
+    next.sections.truncate(rest);
+}
+
+fn detach(next: &mut Store)
+    ensures { contents_of next.new ≡ with_detached (with_items_ended (contents_of next.old)) true }
+{
     next.end_items();
     next.is_detached = true;
+}
+
+fn attach(next: &mut Store)
+    ensures { contents_of next.new ≡ with_detached (contents_of next.old) false }
+{
+    next.is_detached = false;
 }

@@ -1,3 +1,7 @@
+ghost use Rattle.std.specs.Prelude.{◌≡◌};
+ghost use Rattle.brc_c_store.specs.Stores.{with_item};
+ghost use Rattle.brc_c_store.specs.Values.{is_item, is_last, is_alive};
+
 use crate::register::{Register, RegisterSet};
 use crate::value::{ObjectId, Singleton};
 
@@ -14,6 +18,24 @@ pub enum Base {
     Part(ObjectId),
     /// That of a field, or of a variable that is there after the call, too.
     Field,
+}
+
+impl Base {
+    pub(crate) fn is_item(self) -> bool
+        ensures { result ≡ is_item self }
+    {
+        matches!(self, Base::Item(_))
+    }
+
+    /// Returns the registers with that of an item.
+    pub(crate) fn added_to(self, registers: RegisterSet) -> RegisterSet
+        ensures { result ≡ with_item registers self }
+    {
+        match self {
+            Base::Item(register) => registers.with(register),
+            _ => registers,
+        }
+    }
 }
 
 /// An object that a function knows.
@@ -52,12 +74,16 @@ impl Object {
     };
 
     /// Returns whether the object dies if one more reference is given up.
-    pub(crate) fn is_last(self) -> bool {
+    pub(crate) fn is_last(self) -> bool
+        ensures { result ≡ is_last self }
+    {
         self.registers.count() == 1 && self.base == Base::Gone && self.kept_by.is_none()
     }
 
     /// Returns whether the function may use the object.
-    pub fn is_alive(self) -> bool {
+    pub fn is_alive(self) -> bool
+        ensures { result ≡ is_alive self }
+    {
         !self.registers.is_empty() || self.base != Base::Gone
     }
 }

@@ -1,3 +1,7 @@
+ghost use Rattle.std.specs.Prelude.{◌≡◌};
+ghost use Rattle.brc_c_store.specs.Signs.{sign_of, exactly, has_no_sign, signs_left, signs_that, mirrored, sought};
+ghost use Rattle.brc_c_store.specs.Signs.{is_equal, is_open};
+
 /// Which signs a number may have. Minus one is a sign of its own, since functions of C say by it that they fail.
 #[derive(Clone, Copy, Debug, PartialEq, Eq, Hash)]
 pub struct Signs {
@@ -60,7 +64,9 @@ impl Signs {
     };
 
     /// Returns the sign of a number.
-    pub fn of(number: i64) -> Signs {
+    pub fn of(number: i64) -> Signs
+        ensures { result ≡ sign_of number }
+    {
         Signs {
             minus_one: number == -1,
             below: number < -1,
@@ -71,7 +77,9 @@ impl Signs {
     }
 
     /// Returns the sign of a number, and the number.
-    pub fn exactly(number: i64) -> Signs {
+    pub fn exactly(number: i64) -> Signs
+        ensures { result ≡ exactly number }
+    {
         let only = match number {
             -1 | 0 => None,
             _ => Some(number),
@@ -82,12 +90,16 @@ impl Signs {
         }
     }
 
-    pub fn is_empty(self) -> bool {
+    pub fn is_empty(self) -> bool
+        ensures { result ≡ has_no_sign self }
+    {
         !self.minus_one && !self.below && !self.zero && !self.above
     }
 
     /// Returns those of these signs of which some number passes the test, or fails it if `wanted` is false.
-    pub fn that(self, test: Test, wanted: bool) -> Signs {
+    pub fn that(self, test: Test, wanted: bool) -> Signs
+        ensures { result ≡ signs_left self test wanted }
+    {
         if let Some(number) = self.only {
             return if test.is_open(number, number, wanted) {
                 self
@@ -103,7 +115,9 @@ impl Signs {
         }
     }
 
-    fn signs_that(self, test: Test, wanted: bool) -> Signs {
+    fn signs_that(self, test: Test, wanted: bool) -> Signs
+        ensures { result ≡ signs_that self test wanted }
+    {
         Signs {
             minus_one: self.minus_one && test.is_open(-1, -1, wanted),
             below: self.below && test.is_open(i64::MIN, -2, wanted),
@@ -126,7 +140,9 @@ pub enum Comparison {
 
 impl Comparison {
     /// Returns the comparison that holds for the sides exchanged.
-    pub fn mirrored(self) -> Comparison {
+    pub fn mirrored(self) -> Comparison
+        ensures { result ≡ mirrored self }
+    {
         match self {
             Comparison::Less => Comparison::Greater,
             Comparison::LessEqual => Comparison::GreaterEqual,
@@ -146,7 +162,9 @@ pub struct Test {
 
 impl Test {
     /// Returns whether only the constant passes the test, or fails it if `wanted` is false.
-    fn is_equality(self, wanted: bool) -> bool {
+    fn is_equality(self, wanted: bool) -> bool
+        ensures { result ≡ is_equal (sought self.comparison wanted) }
+    {
         match self.comparison {
             Comparison::Equal => wanted,
             Comparison::NotEqual => !wanted,
@@ -155,7 +173,9 @@ impl Test {
     }
 
     /// Returns whether some number from `least` to `most` passes the test, or fails it if `wanted` is false.
-    fn is_open(self, least: i64, most: i64, wanted: bool) -> bool {
+    fn is_open(self, least: i64, most: i64, wanted: bool) -> bool
+        ensures { result ≡ is_open self wanted least most }
+    {
         let constant = self.constant;
         match (self.comparison, wanted) {
             (Comparison::Equal, true) | (Comparison::NotEqual, false) => {

@@ -1,3 +1,6 @@
+ghost use Rattle.std.specs.Prelude.{◌≡◌};
+ghost use Rattle.brc_c_store.specs.Values.{object_in};
+
 use crate::signs::Signs;
 
 /// A name of a function that its text assigns: a parameter, a variable, or an intermediate value.
@@ -33,7 +36,9 @@ pub enum Value {
 
 impl Value {
     /// Returns the object that it is, or may be.
-    pub fn object(self) -> Option<ObjectId> {
+    pub fn object(self) -> Option<ObjectId>
+        ensures { result ≡ object_in self }
+    {
         match self {
             Value::Object(id) | Value::Maybe(id) => Some(id),
             Value::Unset | Value::Null | Value::Number(_) => None,

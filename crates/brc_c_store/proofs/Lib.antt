@@ -1,0 +1,4 @@
+pub mod CellsInTurn
+pub mod NamesSet
+pub mod Ranges
+pub mod RegistersFrom

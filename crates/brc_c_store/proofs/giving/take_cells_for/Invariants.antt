@@ -1,0 +1,8 @@
+use Rattle.std.proofs.Common.{◌≡◌, ◌++◌, map, take, drop}
+use Rattle.brc_c_store.specs.Giving.{touched_for}
+use Rattle.brc_c_store.proofs.giving.take_cells_for.Given as goal
+
+abbrev pub invariant-loop-touched : goal.invariant-loop-touched
+invariant-loop-touched l =
+    l.cells ≡ map (touched_for l.found l.id) (take l.touched-index l.initial.cells)
+    ++ drop l.touched-index l.initial.cells

@@ -1,0 +1,13 @@
+use Rattle.std.proofs.Common.{not, List, ap, rules, tests}
+use Rattle.std.proofs.lemmas.Fn.{filter_same}
+use Rattle.brc_c_store.specs.declared.cell.Touched.{Touched}
+use Rattle.brc_c_store.specs.Stores.{Contents, contents_of}
+use Rattle.brc_c_store.specs.Values.{same_field}
+use Rattle.brc_c_store.proofs.store.Store.drop_cells.Goals as goal
+
+pub returns : goal.returns
+returns c =
+    let kept =
+    filter_same _ (λ t. not (same_field t.field c.args.field)) _ (λ x b q k. search (rules, tests)) _ _
+    c.retain.ensures.filtered in
+    ap (λ (ts : List Touched). record (contents_of c.args.self.now) { cells = ts }) kept
