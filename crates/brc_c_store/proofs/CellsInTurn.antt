@@ -1,6 +1,6 @@
 -- Cells, and places, that are gone through in turn.
-use Rattle.std.proofs.Common.{◌≡◌, ℕ, zero, suc, ◌+◌, ◌<◌, ◌≤◌, Bool, true, false, List, [], ◌∷◌, length, drop, fold}
-use Rattle.std.proofs.Common.{slice_get, cond, Option, None, Some, refl, sym, ap, ◌∙◌, add-one, arith}
+use Rattle.std.proofs.Common.{◌≡◌, ℕ, zero, suc, ◌+◌, ◌<◌, ◌≤◌, true, false, List, [], ◌∷◌, drop, fold}
+use Rattle.std.proofs.Common.{slice_get, cond, Option, None, Some, refl, sym, ap, ◌∙◌, add-one}
 use Rattle.std.proofs.lemmas.List.{drop-drop}
 use Rattle.std.specs.List.{range_with_len}
 use Rattle.brc_c_store.specs.declared.value.ObjectId.{ObjectId}

@@ -1,6 +1,6 @@
 -- The registers from a number on, over which loops go.
-use Rattle.std.proofs.Common.{◌≡◌, ℕ, suc, ◌+◌, ◌-◌, ◌<◌, ◌≤◌, Bool, true, false, cond, List, [], ◌∷◌, Option, None, Some}
-use Rattle.std.proofs.Common.{map, find, filter, count_by, fold, refl, ap, ◌∙◌, arith}
+use Rattle.std.proofs.Common.{◌≡◌, ℕ, suc, ◌+◌, ◌-◌, ◌<◌, ◌≤◌, Bool, true, false, cond, List, [], ◌∷◌}
+use Rattle.std.proofs.Common.{Option, None, Some, map, find, filter, count_by, fold, refl, ap, ◌∙◌, arith}
 use Rattle.std.specs.List.{range_with_len, last_or}
 use Rattle.brc_c_store.specs.declared.register.Register.{Register}
 use Rattle.brc_c_store.specs.declared.register.RegisterSet.{RegisterSet}

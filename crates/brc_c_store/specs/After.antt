@@ -1,14 +1,13 @@
 -- The store after an event.
-use Rattle.std.specs.Prelude.{ℕ, ◌-◌, Bool, true, false, not, ◌&&◌, ◌==◌, if◌then◌else◌, List, [], ◌∷◌, ◌++◌, length}
-use Rattle.std.specs.Prelude.{take, Option, None, Some, slice_get, slice_set, filter, option_map, remove}
+use Rattle.std.specs.Prelude.{ℕ, ◌-◌, Bool, true, false, not, ◌&&◌, ◌==◌, if◌then◌else◌, [], ◌∷◌, ◌++◌, length}
+use Rattle.std.specs.Prelude.{take, Option, None, Some, slice_get, filter, option_map, remove}
 use Rattle.brc_c_store.specs.declared.value.Local.{Local}
 use Rattle.brc_c_store.specs.declared.value.ObjectId.{ObjectId}
-use Rattle.brc_c_store.specs.declared.value.Singleton.{Singleton}
 use Rattle.brc_c_store.specs.declared.value.Fact.{Fact}
 use Rattle.brc_c_store.specs.declared.value.Value.{Value}
 use Rattle.brc_c_store.specs.declared.value.Value.TheVariants.{Unset, Null, Object as Known, Maybe, Number}
 use Rattle.brc_c_store.specs.declared.object.Base.{Base}
-use Rattle.brc_c_store.specs.declared.object.Base.TheVariants.{Gone, Call, Item, Part, Field}
+use Rattle.brc_c_store.specs.declared.object.Base.TheVariants.{Call, Item, Part}
 use Rattle.brc_c_store.specs.declared.object.Object.{Object}
 use Rattle.brc_c_store.specs.declared.register.Register.{Register}
 use Rattle.brc_c_store.specs.declared.cell.Cell.{Cell}
@@ -19,7 +18,7 @@ use Rattle.brc_c_store.specs.declared.event.Event.TheVariants as events
 use Rattle.brc_c_store.specs.declared.event.Calling.{Calling}
 use Rattle.brc_c_store.specs.declared.event.Calling.TheVariants.{Succeeds, MayFail, MayMiss}
 use Rattle.brc_c_store.specs.declared.event.Choice.{Choice}
-use Rattle.brc_c_store.specs.declared.event.Choice.TheVariants.{Yes, No, Missing}
+use Rattle.brc_c_store.specs.declared.event.Choice.TheVariants.{Yes, Missing}
 use Rattle.brc_c_store.specs.declared.event.Gives.{Gives}
 use Rattle.brc_c_store.specs.declared.event.Gives.TheVariants as gives
 use Rattle.brc_c_store.specs.declared.event.Source.{Source}

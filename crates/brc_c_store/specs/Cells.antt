@@ -1,14 +1,13 @@
 -- Cells: what is read of them, stored there and handed back, and what is left in them.
-use Rattle.std.specs.Prelude.{ℕ, ◌+◌, Bool, true, false, not, ◌&&◌, ◌||◌, nat_lt, if◌then◌else◌, List, [], ◌∷◌}
-use Rattle.std.specs.Prelude.{length, Option, None, Some, is_some, is_none, slice_get, slice_set, find, filter}
+use Rattle.std.specs.Prelude.{ℕ, ◌+◌, Bool, true, false, not, ◌&&◌, ◌||◌, nat_lt, if◌then◌else◌, []}
+use Rattle.std.specs.Prelude.{length, Option, None, Some, is_some, slice_get, slice_set, find, filter}
 use Rattle.std.specs.Prelude.{fold, take, drop, position, count_by, option_and_then}
 use Rattle.std.specs.List.{list_any, range_with_len}
 use Rattle.brc_lang.specs.declared.check_code.CheckCode.{CheckCode}
 use Rattle.brc_lang.specs.declared.check_code.CheckCode.TheVariants.{EmptyUsed, NotOwned}
 use Rattle.brc_c_store.specs.declared.value.Local.{Local}
 use Rattle.brc_c_store.specs.declared.value.ObjectId.{ObjectId}
-use Rattle.brc_c_store.specs.declared.value.Value.{Value}
-use Rattle.brc_c_store.specs.declared.value.Value.TheVariants.{Unset, Null, Maybe}
+use Rattle.brc_c_store.specs.declared.value.Value.TheVariants.{Unset, Maybe}
 use Rattle.brc_c_store.specs.declared.object.Base.TheVariants.{Gone, Field}
 use Rattle.brc_c_store.specs.declared.object.Object.{Object}
 use Rattle.brc_c_store.specs.declared.cell.Cell.{Cell}
@@ -18,7 +17,7 @@ use Rattle.brc_c_store.specs.declared.rules.Rules.{Rules}
 use Rattle.brc_c_store.specs.Registers.{size_of}
 use Rattle.brc_c_store.specs.Values.{same_field, same_holder, is_object, object_in, has_object, is_unset, gone_object}
 use Rattle.brc_c_store.specs.Values.{is_owned, has_one, is_gone, is_field, is_private, without_one, is_global}
-use Rattle.brc_c_store.specs.Stores.{Contents, object_of, object_at, with_object, with_added, next_object, is_named}
+use Rattle.brc_c_store.specs.Stores.{Contents, object_of, object_at, with_object, next_object, is_named}
 use Rattle.brc_c_store.specs.Stores.{wants}
 use Rattle.brc_c_store.specs.Asking.{is_in_section}
 

@@ -1,5 +1,5 @@
 -- The rule that an event breaks in a store.
-use Rattle.std.specs.Prelude.{ℕ, Bool, true, false, not, ◌&&◌, ◌||◌, ◌==◌, if◌then◌else◌, length, Option, None, Some}
+use Rattle.std.specs.Prelude.{Bool, false, not, ◌&&◌, ◌||◌, ◌==◌, if◌then◌else◌, length, Option, None, Some}
 use Rattle.std.specs.Prelude.{option_and_then}
 use Rattle.std.specs.List.{list_any, range_with_len}
 use Rattle.brc_lang.specs.declared.check_code.CheckCode.{CheckCode}

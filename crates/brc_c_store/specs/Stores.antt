@@ -1,5 +1,5 @@
 -- Stores: what they have, lookups, and updates.
-use Rattle.std.specs.Prelude.{ℕ, Bool, false, not, ◌&&◌, ◌||◌, ◌==◌, nat_lt, if◌then◌else◌, List, [], ◌∷◌, ◌++◌, length}
+use Rattle.std.specs.Prelude.{Bool, false, not, ◌&&◌, ◌||◌, ◌==◌, nat_lt, if◌then◌else◌, List, [], ◌∷◌, ◌++◌, length}
 use Rattle.std.specs.Prelude.{Option, None, Some, slice_get, slice_set, find, fold, unwrap_or, option_map}
 use Rattle.std.specs.List.{list_any}
 use Rattle.brc_c_store.specs.declared.value.Local.{Local}

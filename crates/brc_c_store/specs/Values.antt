@@ -1,5 +1,5 @@
 -- Values and objects.
-use Rattle.std.specs.Prelude.{ℕ, Bool, true, false, not, ◌&&◌, ◌||◌, ◌==◌, Option, None, Some, is_none, is_some}
+use Rattle.std.specs.Prelude.{Bool, true, false, not, ◌&&◌, ◌||◌, ◌==◌, Option, None, Some, is_none, is_some}
 use Rattle.std.specs.Prelude.{if◌then◌else◌}
 use Rattle.brc_c_store.specs.declared.value.Local.{Local}
 use Rattle.brc_c_store.specs.declared.value.ObjectId.{ObjectId}
@@ -68,11 +68,6 @@ is_unset _ = false
 abbrev pub is_null : Value → Bool
 is_null Null = true
 is_null _ = false
-
--- the value where what may be NULL is this object, or is NULL
-abbrev pub taken_for : Value → ObjectId → Value → Value
-taken_for found id (Maybe other) = if same_object other id then found else Maybe other
-taken_for found id value = value
 
 -- ---- objects
 

@@ -1,7 +1,7 @@
 use Rattle.std.proofs.Common.{not, List, ap, rules, tests}
 use Rattle.std.proofs.lemmas.Fn.{filter_same}
 use Rattle.brc_c_store.specs.declared.cell.Touched.{Touched}
-use Rattle.brc_c_store.specs.Stores.{Contents, contents_of}
+use Rattle.brc_c_store.specs.Stores.{contents_of}
 use Rattle.brc_c_store.specs.Values.{same_field}
 use Rattle.brc_c_store.proofs.store.Store.drop_cells.Goals as goal
 

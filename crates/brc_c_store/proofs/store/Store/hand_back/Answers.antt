@@ -1,6 +1,6 @@
 use Rattle.std.proofs.Common.{refl, ap, slice_get, ◌∙◌}
 use Rattle.brc_c_store.specs.Stores.{Contents, contents_of}
-use Rattle.brc_c_store.specs.Cells.{handed_back_at, handed_back}
+use Rattle.brc_c_store.specs.Cells.{handed_back_at}
 use Rattle.brc_c_store.proofs.CellsInTurn.{cell_next, cells_of_handed_back_at}
 use Rattle.brc_c_store.proofs.store.Store.hand_back.Goals as goal
 

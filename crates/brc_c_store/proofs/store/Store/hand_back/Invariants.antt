@@ -1,4 +1,4 @@
-use Rattle.std.proofs.Common.{◌≡◌, drop, fold, Some}
+use Rattle.std.proofs.Common.{◌≡◌, drop, fold}
 use Rattle.brc_c_store.specs.Stores.{contents_of}
 use Rattle.brc_c_store.specs.Cells.{handed_back}
 use Rattle.brc_c_store.proofs.store.Store.hand_back.Given as goal
