@@ -5,9 +5,11 @@ use Rattle.std.specs.Borrow.{Bor}
 use Rattle.brc_lang.specs.Written.{AppendsBeginning}
 use Rattle.brc_report.specs.declared.paint.Paint.{Paint}
 use Rattle.brc_command.specs.declared.asked.Asked.{Asked}
+use Rattle.brc_command.specs.declared.asked.Run.{Run}
 use Rattle.brc_command.specs.declared.step_fault.StepFault.TheVariants.{NoMemory}
 use Rattle.brc_command.specs.declared.files.Format.{Format}
-use Rattle.brc_command.specs.Commands.{HasReport, IsReason, ProgramLeaves, IsDone, IsStopped}
+use Rattle.brc_command.specs.Commands.{HasReport, HasRunReport, IsReason, ProgramLeaves, IsDone, IsStopped}
+use Rattle.brc_command.specs.Meetings.{IsCounted}
 use Rattle.brc_command.specs.Files.{AreWritten, IsOutcome, are_several}
 use Rattle.brc_command.specs.Lines.{fault_text}
 use Rattle.brc_command.specs.declared.unchecked.Unchecked.{Unchecked}
@@ -24,6 +26,17 @@ pub record IsStoppedAsking (gives : List ℕ → List ℕ → Type 0) (lacks : L
     (old new err_old err_new : Option (List ℕ)) (status : ℕ) : Type 0 where
   pub asked : Asked
   pub stopped : IsStopped (IsReason gives lacks asked) (ProgramLeaves gives paint asked) old new err_old err_new status
+
+-- the word asks for how often the threads of a run have met
+abbrev pub asks_for_counts : List ℕ → Bool
+asks_for_counts word = bytes_eq word (codes "--counts")
+
+-- the command line asks for a run's report and for these numbers, by one of its words, and `act` writes both
+pub record IsDoneCounting (counts : Bool) (gives : List ℕ → List ℕ → Type 0)
+    (old new err_old err_new : Option (List ℕ)) : Type 0 where
+  pub word : counts ≡ true
+  pub asked : Run
+  pub done : IsCounted (HasRunReport gives asked) old new err_old err_new
 
 -- the command line asks for the check of files, and each of them has its outcome
 pub record ChecksFiles (gives : List ℕ → List ℕ → Type 0) (lacks : List ℕ → Type 0)
@@ -62,10 +75,11 @@ abbrev pub IsRefused : Option (List ℕ) → Option (List ℕ) → ℕ → Type 
 IsRefused err_old err_new status = (status ≡ 2) ⊎ ((status ≡ 3)
     × AppendsBeginning err_old err_new (fault_text NoMemory))
 
-abbrev pub Ends : Bool → Bool → (List ℕ → List ℕ → Type 0) → (List ℕ → Type 0) → Paint → Option (List ℕ)
+abbrev pub Ends : Bool → Bool → Bool → (List ℕ → List ℕ → Type 0) → (List ℕ → Type 0) → Paint → Option (List ℕ)
     → Option (List ℕ) → Option (List ℕ) → Option (List ℕ) → ℕ → Type 0
-Ends asks asks_c gives lacks paint old new err_old err_new status =
-    IsDoneAsking gives paint old new err_old err_new ⊎ ChecksFiles gives lacks old new err_old err_new status
+Ends counts asks asks_c gives lacks paint old new err_old err_new status =
+    IsDoneAsking gives paint old new err_old err_new ⊎ IsDoneCounting counts gives old new err_old err_new
+    ⊎ ChecksFiles gives lacks old new err_old err_new status
     ⊎ EndsAskingUnchecked asks gives lacks old new err_old err_new status ⊎ EndsAskingForC asks_c
 
 abbrev pub Stops : Bool → Bool → (List ℕ → List ℕ → Type 0) → (List ℕ → Type 0) → Paint → Option (List ℕ)

@@ -9,7 +9,7 @@ use Rattle.brc_command.specs.declared.asked.Run.{Run}
 use Rattle.brc_command.specs.declared.asked.TheConstants.{NO_BOUND}
 use Rattle.brc_command.specs.declared.files.Format.TheVariants.{Text, All, Json}
 use Rattle.brc_arguments.specs.declared.request.Request.{Request}
-use Rattle.brc_arguments.specs.declared.request.Request.TheVariants.{One, Files}
+use Rattle.brc_arguments.specs.declared.request.Request.TheVariants.{One, Counted, Files}
 
 abbrev pub word_of : ArgMatches → List ℕ → Option (List ℕ)
 word_of m name = first_value (found_of m) name
@@ -41,8 +41,10 @@ pub record IsRunOf (m : ArgMatches) (run : Run) : Type 0 where
   pub paths : map (λ p. p.now) run.paths.now ≡ words_of m (codes "path")
   pub peers : map (λ p. p.now) run.peers.now ≡ words_of m (codes "peer")
 
-abbrev pub AsksToRun : ArgMatches → Asked → Type 0
-AsksToRun m (ToRun run) = IsRunOf m run
+-- the run is the command line's, and its meetings are counted if the flag says so
+abbrev pub AsksToRun : ArgMatches → Request → Type 0
+AsksToRun m (One (ToRun run)) = IsRunOf m run × (one_text (found_of m) (codes "counts") ≡ Some (codes "true") → ⊥)
+AsksToRun m (Counted run) = IsRunOf m run × (one_text (found_of m) (codes "counts") ≡ None → ⊥)
 AsksToRun m _ = ⊥
 
 abbrev pub AsksToStep : ArgMatches → Asked → Type 0

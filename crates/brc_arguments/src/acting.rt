@@ -1,7 +1,8 @@
 ghost use Rattle.std.specs.Prelude.{◌≡◌, ◌≢◌, ◌≤◌};
 ghost use Rattle.std.specs.List.{list_any};
 ghost use Rattle.brc_report.specs.declared.paint.Paint.TheVariants.{Plain};
-ghost use Rattle.brc_arguments.specs.Acts.{Ends, Stops, IsRefused, asks_for_c, asks_for_run, of_command};
+ghost use Rattle.brc_arguments.specs.Acts.{Ends, Stops, IsRefused};
+ghost use Rattle.brc_arguments.specs.Acts.{asks_for_c, asks_for_counts, asks_for_run, of_command};
 ghost use Rattle.clap.specs.Words.{kind_of};
 ghost use Rattle.clap.specs.declared.error.kind.ErrorKind.TheVariants.{OutOfMemory};
 
@@ -11,8 +12,8 @@ use crate::not_asked::NotAsked;
 use crate::request::Request;
 use brc_c_command::judge_c;
 use brc_command::{
-    Load, NoTerminal, Save, StepFault, Stop, Terminal, check_files, execute_on, execute_unchecked,
-    write_stop,
+    Load, NoTerminal, Save, StepFault, Stop, Terminal, check_files, execute_counted, execute_on,
+    execute_unchecked, write_stop,
 };
 use brc_lang::write_bytes;
 use brc_run::System;
@@ -29,8 +30,8 @@ const USAGE: u8 = 2;
 ///
 /// The status is 2 for a wrong command line or a call for help, 3 if memory is refused, and otherwise that of
 /// `execute`, `check_files` or `judge_c`. If it isn't 0, standard error has the reason, unless the object of a file or
-/// the lines about C files give it. An error of standard error is ignored. Nobody watches: no text is coloured,
-/// whatever `--color` says, and no progress is shown.
+/// the lines about C files give it. After a run with `--counts` it has how often the threads have met. An error of
+/// standard error is ignored. Nobody watches: no text is coloured, whatever `--color` says, and no progress is shown.
 pub fn act<R: System, S: AsStr, L: Load + Save, W: Write, E: Write>(
     rt: &R,
     alloc: Global,
@@ -40,7 +41,8 @@ pub fn act<R: System, S: AsStr, L: Load + Save, W: Write, E: Write>(
     err: &mut E,
 ) -> u8
     ensures known { result ≤ 3 }
-    ensures done { result ≡ 0 → Ends (list_any (λ word. asks_for_run (S.text word)) words.now)
+    ensures done { result ≡ 0 → Ends (list_any (λ word. asks_for_counts (S.text word)) words.now)
+        (list_any (λ word. asks_for_run (S.text word)) words.now)
         (of_command (λ name. asks_for_c (S.text name)) words.now)
         (L.may_give load.old) (L.may_lack load.old) Plain (W.contents out.old) (W.contents out.new)
         (E.contents err.old) (E.contents err.new) result }
@@ -64,7 +66,8 @@ pub fn act_on<R: System, S: AsStr, L: Load + Save, T: Terminal, W: Write, E: Wri
     err: &mut E,
 ) -> u8
     ensures known { result ≤ 3 }
-    ensures done { result ≡ 0 → Ends (list_any (λ word. asks_for_run (S.text word)) words.now)
+    ensures done { result ≡ 0 → Ends (list_any (λ word. asks_for_counts (S.text word)) words.now)
+        (list_any (λ word. asks_for_run (S.text word)) words.now)
         (of_command (λ name. asks_for_c (S.text name)) words.now)
         (L.may_give load.old) (L.may_lack load.old) (T.paint_of terminal.old)
         (W.contents out.old) (W.contents out.new) (E.contents err.old) (E.contents err.new) result }
@@ -79,7 +82,11 @@ pub fn act_on<R: System, S: AsStr, L: Load + Save, T: Terminal, W: Write, E: Wri
             Some(Request::Files(files, format)) => check_files(
                 alloc, files, format, load, out, err,
             ),
-            // Clap takes no other word for the two options.
+            // Clap takes no other word for the option.
+            Some(Request::Counted(asked)) if any_asks_for_counts(words) => {
+                execute_counted(rt, alloc, &asked, load, terminal, out, err)
+            }
+            // Nor for these two.
             Some(Request::Unchecked(asked)) if any_asks_for_run(words) => {
                 execute_unchecked(alloc, &asked, load, terminal, out, err)
             }
@@ -124,6 +131,22 @@ fn refuse<E: Write>(error: &Error, err: &mut E) -> u8
         let _ = write!(err, "{error}");
         USAGE
     }
+}
+
+/// Returns whether one of the words asks for how often the threads of a run have met.
+fn any_asks_for_counts<S: AsStr>(words: &[S]) -> bool
+    ensures { result ≡ list_any (λ word. asks_for_counts (S.text word)) words.now }
+{
+    words
+        .iter()
+        .any(|word| asks_for_counts(word.as_str().as_bytes()))
+}
+
+fn asks_for_counts(word: &[u8]) -> bool
+    ensures { result ≡ asks_for_counts word.now }
+{
+    let counts: &[u8] = b"--counts";
+    word == counts
 }
 
 /// Returns whether one of the words asks for a run of a module that need not be accepted.

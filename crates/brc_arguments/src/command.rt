@@ -1,5 +1,5 @@
 ghost use Rattle.std.specs.Prelude.{◌≡◌, ◌↔◌, IfSome, IsTrue, map};
-ghost use Rattle.brc_arguments.specs.Options.{AsksForJson, AsksToCheck, AsksToRun, AsksToStep, words_of};
+ghost use Rattle.brc_arguments.specs.Options.{AsksForJson, AsksToCheck, AsksToRun, AsksToStep, IsRunOf, words_of};
 
 use crate::c_files::{c_command, c_of};
 use crate::color::{ColorChoice, color_argument, color_in};
@@ -172,6 +172,14 @@ fn run_command<'a>(alloc: Global) -> Result<Command<'a>, AllocError> {
                     "A peer, as 127.0.0.1:8080, up to 16 of them, numbered from 0; a name is a host fault",
                 ),
         )?
+        .arg(
+            Arg::new(alloc, "counts")
+                .long("counts")
+                .action(ArgAction::SetTrue)
+                .help(
+                    "Also writes how often objects were queued, merged and claimed, and exchanges lost",
+                ),
+        )?
         .arg(color_argument(alloc))
 }
 
@@ -286,7 +294,7 @@ fn asked_in<'m>(matches: &'m ArgMatches<'_>) -> Option<Request<'m>> {
     match matches.subcommand_matches("step") {
         Some(step) if step.get_flag("unchecked") => unchecked_step_of(step),
         Some(step) => Some(Request::One(step_of(step)?)),
-        None => Some(Request::One(run_of(matches.subcommand_matches("run")?)?)),
+        None => run_in(matches.subcommand_matches("run")?),
     }
 }
 
@@ -439,8 +447,18 @@ fn names_in<'m>(matches: &'m ArgMatches<'_>, argument: &str) -> &'m [&'m str]
     matches.get_strs(argument).unwrap_or(&[])
 }
 
-fn run_of<'m>(run: &'m ArgMatches<'_>) -> Option<Asked<'m>>
-    ensures { IfSome result (λ asked. AsksToRun run.now asked) }
+fn run_in<'m>(run: &'m ArgMatches<'_>) -> Option<Request<'m>>
+    ensures { IfSome result (λ request. AsksToRun run.now request) }
+{
+    let asked = run_of(run)?;
+    if run.get_flag("counts") {
+        return Some(Request::Counted(asked));
+    }
+    Some(Request::One(Asked::Run(asked)))
+}
+
+fn run_of<'m>(run: &'m ArgMatches<'_>) -> Option<Run<'m>>
+    ensures { IfSome result (λ asked. IsRunOf run.now asked) }
 {
     let threads = run.get_one("threads")?;
     let rows = run.get_one("rows")?;
@@ -458,7 +476,7 @@ fn run_of<'m>(run: &'m ArgMatches<'_>) -> Option<Asked<'m>>
     if paths.len() > MOST_NAMES || peers.len() > MOST_NAMES {
         return None;
     }
-    Some(Asked::Run(Run {
+    Some(Run {
         file: run.get_str("FILE")?,
         function: run.get_str("call")?,
         threads,
@@ -467,5 +485,5 @@ fn run_of<'m>(run: &'m ArgMatches<'_>) -> Option<Asked<'m>>
         steps,
         paths,
         peers,
-    }))
+    })
 }

@@ -7,6 +7,7 @@ pub mod Files
 pub mod Findings
 pub mod Lines
 pub mod Loading
+pub mod Meetings
 pub mod Objects
 pub mod ScheduleExplanations
 pub mod Texts

@@ -38,6 +38,7 @@ use brc_model::Call;
 use brc_pages::Topic;
 use brc_report::{Paint, write_tally};
 use brc_run::{Plan, System, run_on_system};
+use brc_table::Contention;
 use std::alloc::Global;
 use std::io::Write;
 
@@ -112,7 +113,7 @@ pub fn carry_out<'a, R: System, L: Load + Save, T: Terminal, X: Explain, W: Writ
 {
     let paint = terminal.paint();
     match asked {
-        Asked::Run(asked) => run_file(rt, alloc, asked, load, terminal, out),
+        Asked::Run(asked) => run_uncounted(rt, alloc, asked, load, terminal, out),
         Asked::Check { file } => check_file(alloc, file, load, out),
         Asked::Step {
             file,
@@ -141,7 +142,8 @@ pub fn carry_out<'a, R: System, L: Load + Save, T: Terminal, X: Explain, W: Writ
     }
 }
 
-fn run_file<'a, R: System, L: Load, T: Terminal, W: Write>(
+/// Runs, and drops how often the threads have met.
+fn run_uncounted<'a, R: System, L: Load, T: Terminal, W: Write>(
     rt: &R,
     alloc: Global,
     asked: &Run<'a>,
@@ -149,6 +151,28 @@ fn run_file<'a, R: System, L: Load, T: Terminal, W: Write>(
     terminal: &mut T,
     out: &mut W,
 ) -> Result<(), Stop<'a>>
+    ensures reported { OnOk result (Reports (HasRunReport (L.may_give load.old) asked.now) (W.contents out.old)
+        (W.contents out.new)) }
+    ensures stopped { IfErr result (IsRunReason (L.may_give load.old) (L.may_lack load.old) asked.now) }
+    ensures unwritten { IfErr result (λ e. e ≢ Fault Output → W.contents out.new ≡ W.contents out.old) }
+    ensures begun { IsErrOf result (Fault Output) → BeginsReport (HasRunReport (L.may_give load.old) asked.now)
+        (W.contents out.old) (W.contents out.new) }
+{
+    match run_file(rt, alloc, asked, load, terminal, out) {
+        Ok(_) => Ok(()),
+        Err(stop) => Err(stop),
+    }
+}
+
+/// Runs, and writes the report. Returns how often the threads have met.
+pub(crate) fn run_file<'a, R: System, L: Load, T: Terminal, W: Write>(
+    rt: &R,
+    alloc: Global,
+    asked: &Run<'a>,
+    load: &mut L,
+    terminal: &mut T,
+    out: &mut W,
+) -> Result<Contention, Stop<'a>>
     ensures reported { OnOk result (Reports (HasRunReport (L.may_give load.old) asked.now) (W.contents out.old)
         (W.contents out.new)) }
     ensures stopped { IfErr result (IsRunReason (L.may_give load.old) (L.may_lack load.old) asked.now) }
@@ -179,9 +203,9 @@ fn run_file<'a, R: System, L: Load, T: Terminal, W: Write>(
         &*terminal,
     );
     terminal.clear();
-    let tally = ran?;
-    match write_tally(&tally, out) {
-        Ok(()) => Ok(()),
+    let counted = ran?;
+    match write_tally(&counted.tally, out) {
+        Ok(()) => Ok(counted.contention),
         Err(_) => Err(Stop::Fault(StepFault::Output)),
     }
 }

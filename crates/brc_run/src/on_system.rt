@@ -6,12 +6,12 @@ ghost use Rattle.std.specs.String.{string_bytes};
 ghost use Rattle.brc_os.specs.HostStates.{AnswersForSystem, new_host};
 ghost use Rattle.brc_run.specs.Runs.{IsTallyOfRun, CountsMain};
 
+use crate::counted::Counted;
 use crate::error::RunFault;
 use crate::plan::Plan;
 use crate::running::run;
 use brc_check::Checked;
 use brc_os::{Devices, OsHost};
-use brc_report::Tally;
 use brc_work::Gate;
 use std::alloc::{AllocError, Global};
 use std::sync::Wait;
@@ -32,11 +32,12 @@ pub fn run_on_system<R: System, G: Gate + Sync>(
     paths: &[&str],
     peers: &[&str],
     gate: &G,
-) -> Result<Tally, RunFault>
+) -> Result<Counted, RunFault>
     requires function { plan.call.function < length checked.now.module.functions }
     requires parameters { (function_at checked.now.module.functions plan.call.function).parameters ≡ [] }
-    ensures { IfOk result (IsTallyOfRun (map (λ path. path.now) paths.now) (map (λ peer. peer.now) peers.now)
-        checked.now.module plan.threads plan.rows plan.call plan.steps) }
+    ensures { IfOk result (λ counted. IsTallyOfRun (map (λ path. path.now) paths.now)
+        (map (λ peer. peer.now) peers.now) checked.now.module plan.threads plan.rows plan.call plan.steps
+        counted.tally) }
 {
     let paths = strings_of(alloc, paths)?;
     let peers = strings_of(alloc, peers)?;
@@ -62,13 +63,13 @@ fn run_alike<'r, R: System, G: Gate + Sync>(
     hosts: &mut [OsHost<'r, R>],
     main_host: &mut OsHost<'r, R>,
     gate: &G,
-) -> Result<Tally, RunFault>
+) -> Result<Counted, RunFault>
     requires function { plan.call.function < length checked.now.module.functions }
     requires parameters { (function_at checked.now.module.functions plan.call.function).parameters ≡ [] }
     requires one_each { length hosts.old ≡ plan.threads }
     requires alike { All (λ host. host ≡ main_host.old) hosts.old }
-    ensures { IfOk result (CountsMain AnswersForSystem (λ host. host.counts) checked.now.module plan.threads plan.rows
-        plan.call plan.steps hosts.old main_host.old main_host.new) }
+    ensures { IfOk result (λ counted. CountsMain AnswersForSystem (λ host. host.counts) checked.now.module plan.threads
+        plan.rows plan.call plan.steps hosts.old main_host.old main_host.new counted.tally) }
 {
     run(rt, alloc, checked, plan, hosts, main_host, gate)
 }

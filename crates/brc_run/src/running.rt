@@ -7,6 +7,7 @@ ghost use Rattle.brc_table.specs.Hands.{IsOf};
 ghost use Rattle.brc_table.specs.Views.{HasJoined};
 ghost use Rattle.brc_run.specs.Runs.{CountsMain, MainHasLeft, totals_in};
 
+use crate::counted::Counted;
 use crate::ending::{finished, left};
 use crate::error::RunFault;
 use crate::plan::Plan;
@@ -15,15 +16,14 @@ use brc_check::Checked;
 use brc_effect::layout_of;
 use brc_heap::{Hand, Heap};
 use brc_host::Host;
-use brc_report::Tally;
 use brc_work::{Gate, Ran, Totals, fan_out, join_hands};
 use std::alloc::{AllocError, Global};
 use std::sync::Wait;
 use std::thread::Threads;
 
 /// Runs a function of the accepted module: as many workers as the plan says call it, each in a thread of its own and
-/// over a host of its own, and main leaves once they are gone. Returns the tally, which counts alike whether a worker
-/// has made its calls or was stopped by the plan's bound.
+/// over a host of its own, and main leaves once they are gone. Returns what was counted, alike whether a worker has made
+/// its calls or was stopped by the plan's bound.
 ///
 /// The gate hears of each call that begins, and of its end unless the worker stops in it.
 ///
@@ -40,12 +40,12 @@ pub fn run<R: Threads + Wait + Sync, T: Send + Drop, H: Host<Res = T> + Send, G:
     hosts: &mut [H],
     main_host: &mut H,
     gate: &G,
-) -> Result<Tally, RunFault>
+) -> Result<Counted, RunFault>
     requires function { plan.call.function < length checked.now.module.functions }
     requires parameters { (function_at checked.now.module.functions plan.call.function).parameters ≡ [] }
     requires one_each { length hosts.old ≡ plan.threads }
-    ensures tally { IfOk result (CountsMain H.answers H.counts checked.now.module plan.threads plan.rows plan.call
-        plan.steps hosts.old main_host.old main_host.new) }
+    ensures tally { IfOk result (λ counted. CountsMain H.answers H.counts checked.now.module plan.threads plan.rows
+        plan.call plan.steps hosts.old main_host.old main_host.new counted.tally) }
     ensures no_thread { IfErr result (λ fault. fault ≡ RunFault.NoThread
         → MainHasLeft H.answers H.counts checked.now.module plan.threads plan.rows main_host.old main_host.new) }
 {
@@ -68,11 +68,13 @@ pub fn run<R: Threads + Wait + Sync, T: Send + Drop, H: Host<Res = T> + Send, G:
         Ok(gone) => joined(alloc, &heap, &mut main, gone),
         Err(refused) => Err(refused.into()),
     };
+    let contention = main.contention();
     let end = finished(rt, heap, main);
     let totals = counted?;
     let threads = u32::from(plan.threads);
     let layout = layout_of(checked.module(), plan.threads, plan.rows);
-    Ok(tally_of(alloc, &end, layout, threads, totals.as_slice(), failed)?)
+    let tally = tally_of(alloc, &end, layout, threads, totals.as_slice(), failed)?;
+    Ok(Counted { tally, contention })
 }
 
 /// Joins the hands of workers that are gone. Returns what each worker has counted.

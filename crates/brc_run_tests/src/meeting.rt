@@ -1,6 +1,6 @@
 //! Workers that wait for each other: they do run at the same time.
 
-use crate::runs::{Counts, MOST_ROWS, report_of};
+use crate::runs::{Counts, MOST_ROWS, counted_of};
 use brc_run::System;
 use brc_work::Gate;
 use crossbeam_queue::ArrayQueue;
@@ -41,8 +41,13 @@ impl<R: Wait> Gate for Meeting<'_, R> {
 }
 
 /// Lets this number of workers meet: each one's first call begins once all of them are there before theirs. Returns the
-/// report's numbers, and whether a worker has missed another one.
-fn meet<R: AllocGlobal + System>(rt: &R, threads: u8) -> Option<(Counts, bool)> {
+/// report's numbers; how often an object was queued, merged and claimed; and whether more exchanges were lost than
+/// these, or a worker has missed another one.
+fn meet<R: AllocGlobal + System>(
+    rt: &R,
+    threads: u8,
+    most_lost: u64,
+) -> Option<(Counts, [u64; 3], bool)> {
     let gate = Meeting {
         rt,
         wanted: usize::from(threads),
@@ -50,16 +55,26 @@ fn meet<R: AllocGlobal + System>(rt: &R, threads: u8) -> Option<(Counts, bool)> 
         missed: ArrayQueue::new(rt.alloc(), 32).ok()?,
     };
     let run = (threads, MOST_ROWS, 1, u64::MAX);
-    let counts = report_of(rt, rt.alloc(), NOTHING, run, &[], &[], &gate)?;
-    Some((counts, gate.missed.pop(rt).is_some()))
+    let (counts, meetings) = counted_of(rt, rt.alloc(), NOTHING, run, &[], &[], &gate)?;
+    let [queued, merged, claimed, lost] = meetings;
+    let missed = lost > most_lost || gate.missed.pop(rt).is_some();
+    Some((counts, [queued, merged, claimed], missed))
 }
 
+// The first worker that leaves queues the root, and main takes it out of its queue and merges it. Each worker exchanges
+// the root's shared word once, and loses an exchange at most once to each one that comes before it.
 #[test]
 fn two_calls_meet(rt: HostRuntime) {
-    assert_eq!(rt; meet(&rt, 2), Some(([2, 0, 1, 1, 0, 0, 0], false)));
+    assert_eq!(rt;
+        meet(&rt, 2, 1),
+        Some(([2, 0, 1, 1, 0, 0, 0], [1, 1, 1], false))
+    );
 }
 
 #[test]
 fn four_meet(rt: HostRuntime) {
-    assert_eq!(rt; meet(&rt, 4), Some(([4, 0, 1, 1, 0, 0, 0], false)));
+    assert_eq!(rt;
+        meet(&rt, 4, 6),
+        Some(([4, 0, 1, 1, 0, 0, 0], [1, 1, 1], false))
+    );
 }

@@ -9,6 +9,7 @@ use brc_host::FakeHost;
 use brc_model::Call;
 use brc_report::Tally;
 use brc_run::{Plan, System, run, run_on_system};
+use brc_table::Contention;
 use brc_work::Gate;
 use std::alloc::Global;
 use std::sync::Wait;
@@ -39,6 +40,9 @@ pub const COPY: &[u8] =
 /// A report: the workers, the threads that run, the objects that were created, closed and are alive, and the faults of
 /// the host's calls and of its closes.
 pub type Counts = [u64; 7];
+
+/// How often a run's threads have queued, merged and claimed an object, and lost an exchange.
+pub type Meetings = [u64; 4];
 
 /// The workers, their rows, their calls, and the most instructions that each begins.
 pub type Run = (u8, u16, u32, u64);
@@ -73,6 +77,16 @@ pub fn counts_of(tally: &Tally) -> Counts {
     ]
 }
 
+/// Returns the numbers of the threads' meetings.
+fn meetings_of(contention: &Contention) -> Meetings {
+    [
+        contention.queued,
+        contention.merged,
+        contention.claimed,
+        contention.lost,
+    ]
+}
+
 /// Returns the plan of a run that calls the module's last function, or `None` if a number is out of range.
 fn plan_of(checked: &Checked, run: Run) -> Option<Plan>
     ensures function { IfSome result (λ plan. plan.call.function < length checked.now.module.functions) }
@@ -102,6 +116,20 @@ pub fn report_of<R: System, G: Gate + Sync>(
     peers: &[&str],
     gate: &G,
 ) -> Option<Counts> {
+    let (counts, _) = counted_of(rt, alloc, text, run, paths, peers, gate)?;
+    Some(counts)
+}
+
+/// Runs the text's module over the system. Returns the report's numbers, and how often the threads have met.
+pub fn counted_of<R: System, G: Gate + Sync>(
+    rt: &R,
+    alloc: Global,
+    text: &[u8],
+    run: Run,
+    paths: &[&str],
+    peers: &[&str],
+    gate: &G,
+) -> Option<(Counts, Meetings)> {
     let checked = accepted(alloc, text).ok()?;
     counts_on(rt, alloc, &checked, run, paths, peers, gate)
 }
@@ -114,10 +142,10 @@ fn counts_on<R: System, G: Gate + Sync>(
     paths: &[&str],
     peers: &[&str],
     gate: &G,
-) -> Option<Counts> {
+) -> Option<(Counts, Meetings)> {
     let plan = plan_of(checked, run)?;
     match run_on_system(rt, alloc, checked, plan, paths, peers, gate) {
-        Ok(tally) => Some(counts_of(&tally)),
+        Ok(counted) => Some((counts_of(&counted.tally), meetings_of(&counted.contention))),
         Err(_) => None,
     }
 }
@@ -154,7 +182,7 @@ fn counts_over<'p, R: Threads + Wait + Sync, G: Gate + Sync>(
         rows: MOST_ROWS,
     };
     match run(rt, alloc, checked, plan, hosts, main_host, gate) {
-        Ok(tally) => Some(counts_of(&tally)),
+        Ok(counted) => Some(counts_of(&counted.tally)),
         Err(_) => None,
     }
 }

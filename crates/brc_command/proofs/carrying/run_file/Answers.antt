@@ -10,11 +10,11 @@ use Rattle.brc_command.proofs.carrying.run_file.Goals as goal
 pub returns-in-Ok-write_tally-clause-reported : goal.returns-in-Ok-write_tally-clause-reported
 returns-in-Ok-write_tally-clause-reported g c =
     let loaded = c.in-Ok.ensures.accepted in (
-      tally_text c.in_ok-tally.tally,
+      tally_text c.in_ok-counted.counted.tally,
       record {
         module_text = loaded.0;
         m = c.in-Ok.checked.module;
-        tally = c.in_ok-tally.tally;
+        tally = c.in_ok-counted.counted.tally;
         given = loaded.1;
         accepted = loaded.2;
         ran = record {
@@ -22,9 +22,9 @@ returns-in-Ok-write_tally-clause-reported g c =
           ran = subst (λ (call : Call). IsTallyOfRun (map (λ path. path.now) c.args.asked.now.paths.now)
               (map (λ peer. peer.now) c.args.asked.now.peers.now) c.in-Ok.checked.module c.args.asked.now.threads
               c.args.asked.now.rows call
-              c.args.asked.now.steps c.in_ok-tally.tally) (c.in-Some.ensures.found
+              c.args.asked.now.steps c.in_ok-counted.counted.tally) (c.in-Some.ensures.found
               ∙ ap (λ (m : Module). calls_named m c.args.asked.now.function.now c.args.asked.now.times)
-              c.module.ensures.value) c.in_ok-tally.ensures;
+              c.module.ensures.value) c.in_ok-counted.ensures;
         };
         reported = search rules;
       },
@@ -34,11 +34,11 @@ returns-in-Ok-write_tally-clause-reported g c =
 pub returns-clause-begun : goal.returns-clause-begun
 returns-clause-begun g c = λ is.
     let loaded = c.in-Ok.ensures.accepted in (
-      tally_text c.in_ok-tally.tally,
+      tally_text c.in_ok-counted.counted.tally,
       record {
         module_text = loaded.0;
         m = c.in-Ok.checked.module;
-        tally = c.in_ok-tally.tally;
+        tally = c.in_ok-counted.counted.tally;
         given = loaded.1;
         accepted = loaded.2;
         ran = record {
@@ -46,9 +46,9 @@ returns-clause-begun g c = λ is.
           ran = subst (λ (call : Call). IsTallyOfRun (map (λ path. path.now) c.args.asked.now.paths.now)
               (map (λ peer. peer.now) c.args.asked.now.peers.now) c.in-Ok.checked.module c.args.asked.now.threads
               c.args.asked.now.rows call
-              c.args.asked.now.steps c.in_ok-tally.tally) (c.in-Some.ensures.found
+              c.args.asked.now.steps c.in_ok-counted.counted.tally) (c.in-Some.ensures.found
               ∙ ap (λ (m : Module). calls_named m c.args.asked.now.function.now c.args.asked.now.times)
-              c.module.ensures.value) c.in_ok-tally.ensures;
+              c.module.ensures.value) c.in_ok-counted.ensures;
         };
         reported = search rules;
       },

@@ -28,11 +28,11 @@ returns g c =
     let given : All (λ host. host ≡ new_host (names c.args.paths.now) (names c.args.peers.now)) hosts =
     subst (All (λ host. host ≡ new_host (names c.args.paths.now) (names c.args.peers.now)))
     (sym c.as_mut_slice.ensures.value) fresh in
-    IfOk-weaker c.run_alike.result _ _ (λ tally counts. (
+    IfOk-weaker c.run_alike.result _ _ (λ counted counts. (
       hosts,
       c.run_alike.new.main_host,
       ap length c.as_mut_slice.ensures.value ∙ c.in_ok-hosts.ensures.one_each,
       given,
       subst (λ (host : HostState). CountsMain AnswersForSystem (λ (h : HostState). h.counts) m plan.threads plan.rows
-          plan.call plan.steps hosts host c.run_alike.new.main_host tally) asked counts,
+          plan.call plan.steps hosts host c.run_alike.new.main_host counted.tally) asked counts,
     )) c.run_alike.ensures

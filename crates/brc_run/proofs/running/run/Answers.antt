@@ -46,9 +46,9 @@ returns-clause-tally g c = elim c.match-ran.branch [
       HasJoined w.joined-counted.new.main.view (record { thread = hand.view.thread; used = hand.view.actor.used }))) ok
       w.joined-counted.ensures.each in
       let tally
-      : c.in_ok-tally_of.field-0
+      : c.in_ok-tally.tally
       ≡ tally_at_end end c.args.plan.threads (totals_in (vec_items gone)) (raised (close_faults counted.0) 0) =
-      search (rules, c.in_ok-tally_of.ensures, items, counted.4) in
+      search (rules, c.in_ok-tally.ensures, items, counted.4) in
       record {
         closes = counted.0;
         first = counted.1;
