@@ -45,7 +45,7 @@ pub fn touch_of(
     ensures refused { IfErr result (λ refused. let rows = length memory.now.local in
         rows ≤ 2 ^ 20 → IsIndexed duty.now → IsNumbered rows duty.now → used_by thread.now.used duty.now < 2 ^ 32
         → Suits own (is_running thread.now.status) rows duty.now
-            (word_in memory.now (address_of blocks own thread.now.head duty.now)) → ⊥) }
+        (word_in memory.now (address_of blocks own thread.now.head duty.now)) → ⊥) }
 {
     let rows = memory.rows();
     if rows > MOST_ROWS {
