@@ -1,7 +1,6 @@
 //! A run over the real host leaves its file.
 
 use crate::cases::{UNREAD, acts};
-use brc_run::System;
 use std::test::Fail;
 use std::{env, fs, process};
 
@@ -12,28 +11,30 @@ const NUMBER_REPORT: &[u8] =
 // Opens the second path for writing, makes the file where it is absent, and closes it.
 const MAKES: &[u8] = b"module 1\nfunc f\nopen v1 1 wc else @2\ndrop v1\nfail\nend\n";
 
-/// Returns the path of a file that no other process has, among the temporary ones.
-fn path_of(rt: &HostRuntime) -> Result<String, Fail> {
-    let name = format!(in rt.alloc(); "brc-act-{}", process::id(rt.process()))?;
-    let folder = env::temp_dir(rt)?;
-    Ok(folder.join(rt.alloc(), name.as_str())?.into_string())
-}
-
-/// Returns whether a run that opens the path reports one number and nothing else.
-fn runs<R: System + AllocGlobal>(rt: &R, path: &str) -> bool {
-    let words = [
-        "brc", "run", "m.brc", "--call", "f", "--path", "/", "--path", path,
-    ];
-    let (out, err, status) = acts(rt, words.as_slice(), Ok(MAKES), UNREAD);
-    out.as_slice() == NUMBER_REPORT && err.is_empty() && status == 0
-}
-
 // The report is that of a run which has reached the file by its number, and has left it there, empty.
 #[test]
 fn a_run_leaves_its_file(rt: HostRuntime) -> Result<(), Fail> {
-    let path = path_of(&rt)?;
-    assert!(rt; runs(&rt, path.as_str()));
-    assert_eq!(rt; fs::read(&rt, path.as_str())?.len(), 0);
+    let name = format!(in rt.alloc(); "brc-act-{}", process::id(rt.process()))?;
+    let path = env::temp_dir(&rt)?
+        .join(rt.alloc(), name.as_str())?
+        .into_string();
+    let words = [
+        "brc",
+        "run",
+        "m.brc",
+        "--call",
+        "f",
+        "--path",
+        "/",
+        "--path",
+        path.as_str(),
+    ];
+    let (out, err, status) = acts(&rt, words.as_slice(), Ok(MAKES), UNREAD);
+    assert_eq!(rt;
+        (out.as_slice(), err.is_empty(), status),
+        (NUMBER_REPORT, true, 0)
+    );
+    assert_eq!(rt; fs::read(&rt, path.as_str())?.as_slice(), b"".as_slice());
     fs::remove_file(&rt, path.as_str())?;
     Ok(())
 }

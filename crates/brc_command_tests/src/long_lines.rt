@@ -58,43 +58,23 @@ fn fault_of(alloc: Global, text: &[u8]) -> Option<(u64, FaultCode)> {
     }
 }
 
-/// Returns whether the same is kept of the text, however it is cut into pieces.
-fn is_kept_so(alloc: Global, text: &[u8], whole: &[u8]) -> Result<bool, AllocError> {
-    for length in PIECES {
-        if kept_of(alloc, text, *length)?.as_slice() != whole {
-            return Ok(false);
-        }
-    }
-    Ok(true)
-}
-
-/// Returns whether the text has a fault, and what is kept of it has the same one.
-fn has_fault_of(alloc: Global, text: &[u8], whole: &[u8]) -> bool {
-    let fault = fault_of(alloc, text);
-    fault.is_some() && fault_of(alloc, whole) == fault
-}
-
-/// Returns whether a text in which the byte is there this many times loses bytes, and not its fault.
-fn keeps_its_fault(
-    alloc: Global,
-    line: &(&[u8], u8, &[u8]),
-    times: usize,
-) -> Result<bool, AllocError> {
-    let text = text_of(alloc, line, times)?;
-    let whole = kept_of(alloc, text.as_slice(), text.len())?;
-    Ok(
-        is_kept_so(alloc, text.as_slice(), whole.as_slice())?
-            && whole.len() <= MOST_KEPT
-            && has_fault_of(alloc, text.as_slice(), whole.as_slice()),
-    )
-}
-
 #[test]
 fn long_lines_keep_their_faults(rt: HostRuntime) -> Result<(), Fail> {
+    let alloc = rt.alloc();
     for line in LINES {
         for times in TIMES {
-            assert!(rt;
-                keeps_its_fault(rt.alloc(), line, *times)?,
+            let text = text_of(alloc, line, *times)?;
+            let fault = fault_of(alloc, text.as_slice());
+            assert!(rt; fault.is_some());
+            let whole = kept_of(alloc, text.as_slice(), text.len())?;
+            assert!(rt; whole.len() <= MOST_KEPT);
+            for length in PIECES {
+                let kept = kept_of(alloc, text.as_slice(), *length)?;
+                assert!(rt; kept == whole, "{line:?} {times} by {length}");
+            }
+            assert_eq!(rt;
+                fault_of(alloc, whole.as_slice()),
+                fault,
                 "{line:?} {times}"
             );
         }

@@ -107,46 +107,50 @@ fn narrowly<R: System + AllocGlobal>(
     (out.taken, err, status)
 }
 
-/// Requests over the smallest module, and what they write.
-const WRITTEN: [(Asked<'static>, &[u8]); 3] = [
-    (CHECK, b"accepted 1 functions 1 instructions\n"),
-    (STEP, RUNNING),
-    (Asked::Version, b"brc 0.1.0\n"),
+// The modules, and their lines and statuses.
+const EXPLAINED: &[(&[u8], (&[u8], u8))] = &[
+    (FIRST, (b"", 0)),
+    (LEAKING, (b"refused f @1 C5\n", 1)),
+    (MISSPELT, (b"unreadable line 3 L2\n", 2)),
 ];
 
-/// A request, the module or schedule, and its line and status.
-type Explained = (Asked<'static>, &'static [u8], (&'static [u8], u8));
-
-const EXPLAIN: Asked<'static> = Asked::Explain {
-    file: "m.brc",
-    function: None,
-};
-
-const EXPLAIN_SCHEDULE: Asked<'static> = Asked::ExplainSchedule { file: "m.brc" };
-
-const PAGE: Asked<'static> = Asked::Page {
-    topic: Topic::Check(CheckCode::LeftOwned),
-};
-
-/// Requests that write as much as they do on a writer that takes all.
-const EXPLAINED: [Explained; 6] = [
-    (EXPLAIN, FIRST, (b"", 0)),
-    (EXPLAIN, LEAKING, (b"refused f @1 C5\n", 1)),
-    (EXPLAIN, MISSPELT, (b"unreadable line 3 L2\n", 2)),
-    (EXPLAIN_SCHEDULE, SCHEDULE, (b"", 0)),
-    (
-        EXPLAIN_SCHEDULE,
-        b"schedule 2\n",
-        (b"unreadable schedule line 1 L1\n", 2),
-    ),
-    (PAGE, b"", (b"", 0)),
+// The schedules, and their lines and statuses.
+const SCHEDULES: &[(&[u8], (&[u8], u8))] = &[
+    (SCHEDULE, (b"", 0)),
+    (b"schedule 2\n", (b"unreadable schedule line 1 L1\n", 2)),
 ];
 
-/// A request that writes as much as it does on a writer that takes all stops.
-fn assert_explanation_stops<R: System + Abort + AllocGlobal>(rt: &R, explained: &Explained) {
-    let (asked, text, own) = explained;
-    let (whole, _, _) = outputs(rt, asked, Ok(*text), UNREAD);
-    assert_stops(rt, asked, text, whole.as_slice(), *own);
+#[test]
+fn stops_at_an_output_error(rt: HostRuntime) {
+    let accepted = b"accepted 1 functions 1 instructions\n";
+    assert_stops(
+        &rt,
+        &to_run("f", 1, 1024, 1),
+        SMALLEST,
+        ONE_REPORT,
+        (b"", 0),
+    );
+    assert_stops(&rt, &CHECK, SMALLEST, accepted, (b"", 0));
+    assert_stops(&rt, &STEP, SMALLEST, RUNNING, (b"", 0));
+    assert_stops(&rt, &Asked::Version, SMALLEST, b"brc 0.1.0\n", (b"", 0));
+    let explain = Asked::Explain {
+        file: "m.brc",
+        function: None,
+    };
+    for (module, own) in EXPLAINED {
+        let (text, _, _) = outputs(&rt, &explain, Ok(*module), UNREAD);
+        assert_stops(&rt, &explain, module, text.as_slice(), *own);
+    }
+    let explain = Asked::ExplainSchedule { file: "m.brc" };
+    for (schedule, own) in SCHEDULES {
+        let (text, _, _) = outputs(&rt, &explain, Ok(*schedule), UNREAD);
+        assert_stops(&rt, &explain, schedule, text.as_slice(), *own);
+    }
+    let page = Asked::Page {
+        topic: Topic::Check(CheckCode::LeftOwned),
+    };
+    let (text, _, _) = outputs(&rt, &page, UNREAD, UNREAD);
+    assert_stops(&rt, &page, b"", text.as_slice(), (b"", 0));
 }
 
 const WRONG_END: &[u8] =
@@ -175,55 +179,39 @@ fn asked_of(searches: bool, trace: bool) -> Unchecked<'static> {
 
 // Whether a run of the leaking module is searched for, or a schedule is traced, and which; how the line on standard
 // error begins, and the status.
-type Wrong = ((bool, bool), &'static [u8], &'static [u8], u8);
-
-const WRONG: &[Wrong] = &[
+const WRONG: &[((bool, bool), &[u8], &[u8], u8)] = &[
     ((true, false), b"", b"refused f @1 C5\n", 1),
     ((false, true), WRONG_END, b"wrong end: ", 1),
     ((false, false), WRONG_END, b"wrong end: ", 1),
     ((false, false), SCHEDULE, b"cannot write\n", 2),
 ];
 
-/// Returns the status of a request about the leaking module on a writer that takes this number of bytes, how many more
-/// it would take, and what is on standard error.
-fn unchecked_narrowly(
-    alloc: Global,
-    asked: &Unchecked<'_>,
-    schedule: &[u8],
-    left: usize,
-) -> (u8, usize, Vec<u8>) {
-    let mut out = Narrow {
-        taken: Vec::new(alloc),
-        left,
-        interrupts: false,
-    };
-    let mut err: Vec<u8> = Vec::new(alloc);
-    let mut files = Shelf {
-        module: Ok(LEAKING),
-        schedule: Ok(schedule),
-    };
-    let status = execute_unchecked(
-        alloc,
-        asked,
-        &mut files,
-        &mut NoTerminal,
-        &mut out,
-        &mut err,
-    );
-    (status, out.left, err)
-}
-
-/// What is wrong is named before an output error.
-fn assert_names<R: Abort + AllocGlobal>(rt: &R, wrong: &Wrong) {
-    let ((searches, trace), schedule, line, status) = wrong;
-    let asked = asked_of(*searches, *trace);
-    for left in [0, 1, 80] {
-        let (found, more, err) = unchecked_narrowly(rt.alloc(), &asked, schedule, left);
-        assert_eq!(rt;
-            (found, more, err.as_slice().starts_with(line)),
-            (*status, 0, true),
-            "{asked:?} after {left}"
-        );
+#[test]
+fn names_what_is_wrong_before_an_output_error(rt: HostRuntime) {
+    for ((searches, trace), schedule, line, status) in WRONG {
+        let asked = asked_of(*searches, *trace);
+        for left in [0, 1, 80] {
+            let mut out = Narrow {
+                taken: Vec::new(rt.alloc()),
+                left,
+                interrupts: false,
+            };
+            let mut err: Vec<u8> = Vec::new(rt.alloc());
+            let mut files = Shelf {
+                module: Ok(LEAKING),
+                schedule: Ok(*schedule),
+            };
+            let found = execute_unchecked(
+                rt.alloc(),
+                &asked,
+                &mut files,
+                &mut NoTerminal,
+                &mut out,
+                &mut err,
+            );
+            assert_eq!(rt; (found, out.left), (*status, 0), "{asked:?} after {left}");
+            assert!(rt; err.as_slice().starts_with(line), "{asked:?} after {left}");
+        }
     }
 }
 
@@ -287,22 +275,24 @@ fn checked_narrowly(
     (out.taken, err, status)
 }
 
-/// A check goes on after an output error.
-fn assert_goes_on<R: Abort + AllocGlobal>(rt: &R, check: &Check<'_>) {
-    let (files, format, text, whole, cut) = check;
-    for most in 0..=text.len() {
-        let (out, err, status) = checked_narrowly(rt.alloc(), files, *format, most);
-        let (lines, want) = if most == text.len() { whole } else { cut };
-        assert_eq!(rt;
-            (out.as_slice(), err.as_slice(), status),
-            (&text[..most], *lines, *want),
-            "{files:?} after {most}"
-        );
+#[test]
+fn goes_on_after_an_output_error(rt: HostRuntime) {
+    for (files, format, text, whole, cut) in CHECKS {
+        for most in 0..=text.len() {
+            let (out, err, status) = checked_narrowly(rt.alloc(), files, *format, most);
+            let (lines, want) = if most == text.len() { whole } else { cut };
+            assert_eq!(rt;
+                (out.as_slice(), err.as_slice(), status),
+                (&text[..most], *lines, *want),
+                "{files:?} after {most}"
+            );
+        }
     }
 }
 
-/// Returns the status of a request, and how many bytes standard error takes, if it takes nothing.
-fn without_standard_error<R: System + AllocGlobal>(rt: &R) -> (u8, usize) {
+// If standard error takes nothing, the status still gives the reason.
+#[test]
+fn keeps_the_status_without_standard_error(rt: HostRuntime) {
     let mut out: Vec<u8> = Vec::new(rt.alloc());
     let mut err = Narrow {
         taken: Vec::new(rt.alloc()),
@@ -314,26 +304,7 @@ fn without_standard_error<R: System + AllocGlobal>(rt: &R) -> (u8, usize) {
         schedule: UNREAD,
     };
     let asked = to_run("g", 1, 1024, 1);
-    let status = execute(rt, rt.alloc(), &asked, &mut load, &mut out, &mut err);
-    (status, err.taken.len())
-}
-
-#[test]
-fn commands_stop_at_an_output_error(rt: HostRuntime) {
-    let run = to_run("f", 1, 1024, 1);
-    assert_stops(&rt, &run, SMALLEST, ONE_REPORT, (b"", 0));
-    for (asked, text) in &WRITTEN {
-        assert_stops(&rt, asked, SMALLEST, text, (b"", 0));
-    }
-    for explained in &EXPLAINED {
-        assert_explanation_stops(&rt, explained);
-    }
-    for wrong in WRONG {
-        assert_names(&rt, wrong);
-    }
-    for check in CHECKS {
-        assert_goes_on(&rt, check);
-    }
-    // If standard error takes nothing, the status still gives the reason.
-    assert_eq!(rt; without_standard_error(&rt), (2, 0));
+    let status = execute(&rt, rt.alloc(), &asked, &mut load, &mut out, &mut err);
+    assert_eq!(rt; status, 2);
+    assert!(rt; err.taken.is_empty());
 }

@@ -6,7 +6,6 @@ use crate::cases::{FIRST, LEAKING, MISSPELT, SMALLEST, acts};
 use brc_arguments::act;
 use brc_command::{Load, LoadError, Save, SaveError};
 use brc_run::System;
-use std::process::Abort;
 
 /// A text, and whether zeros without end are behind it.
 type Tape<'t> = (&'t [u8], bool);
@@ -84,8 +83,9 @@ const ZEROS: Tape<'static> = (b"", true);
 
 const FIFTH_SAID: &[u8] = b"unreadable line 5 L2\n";
 
-// Files of 16 bytes a piece.
-const AT_FAULT: &[AtFault] = &[
+// A command line, the module and the schedule, and how many pieces of 16 bytes are asked for; the line on standard
+// error.
+const AT_FAULT: &[(&[&str], (Tape<'static>, Tape<'static>, usize), &[u8])] = &[
     (
         &["brc", "check", "m.brc"],
         (ZEROS, ZEROS, 1),
@@ -136,51 +136,33 @@ const TEXTS: &[(&[u8], &[u8])] = &[
     (b"modul", PLAN),
 ];
 
-/// A command line, the module and the schedule, and how many pieces are asked for; the line on standard error.
-type AtFault = (
-    &'static [&'static str],
-    (Tape<'static>, Tape<'static>, usize),
-    &'static [u8],
-);
-
-/// A file is read no further than its first line at fault.
-fn assert_stops<R: System + Abort + AllocGlobal>(rt: &R, row: &AtFault) {
-    let (words, (module, schedule, count), line) = row;
-    let ((_, err, status), asked) = acts_on_pieces(rt, words, *module, *schedule, 16);
-    assert_eq!(rt;
-        (err.as_slice(), status, asked),
-        (*line, 2, *count),
-        "{words:?}"
-    );
-}
-
-const STEP: &[&str] = &["brc", "step", "m.brc", "s.txt"];
-
-/// Cut into pieces of this length, the files are read as the whole.
-fn assert_reads_pieces<R: System + Abort + AllocGlobal>(
-    rt: &R,
-    module: &[u8],
-    schedule: &[u8],
-    length: usize,
-) {
-    let (out, err, status) = acts(rt, STEP, Ok(module), Ok(schedule));
-    let tapes = ((module, false), (schedule, false));
-    let ((found, line, ended), _) = acts_on_pieces(rt, STEP, tapes.0, tapes.1, length);
-    assert_eq!(rt;
-        (found.as_slice(), line.as_slice(), ended),
-        (out.as_slice(), err.as_slice(), status),
-        "{module:?} {schedule:?} by {length}"
-    );
-}
-
 #[test]
 fn reads_files_in_pieces(rt: HostRuntime) {
-    for row in AT_FAULT {
-        assert_stops(&rt, row);
+    for (words, (module, schedule, count), line) in AT_FAULT {
+        let (told, asked) = acts_on_pieces(&rt, words, *module, *schedule, 16);
+        let (_, err, status) = told;
+        assert_eq!(rt;
+            (err.as_slice(), status, asked),
+            (*line, 2, *count),
+            "{words:?}"
+        );
     }
+    let words = ["brc", "step", "m.brc", "s.txt"];
     for (module, schedule) in TEXTS {
+        let (out, err, status) = acts(&rt, words.as_slice(), Ok(*module), Ok(*schedule));
         for length in 1..60 {
-            assert_reads_pieces(&rt, module, schedule, length);
+            let ((found, line, ended), _) = acts_on_pieces(
+                &rt,
+                words.as_slice(),
+                (*module, false),
+                (*schedule, false),
+                length,
+            );
+            assert_eq!(rt;
+                (found.as_slice(), line.as_slice(), ended),
+                (out.as_slice(), err.as_slice(), status),
+                "{module:?} {schedule:?} by {length}"
+            );
         }
     }
 }

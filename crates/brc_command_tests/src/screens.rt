@@ -68,118 +68,59 @@ impl Eprint for Desk {
     }
 }
 
-/// What happens at a screen, or what was seen of it by then.
-enum Event {
-    /// This many milliseconds have passed.
-    At(u64),
-    Judged(u64),
-    Made(u64),
-    Visited(u64),
-    /// So many calls of a run have ended.
-    Calls(u64),
-    Clear,
-    /// How many numbers it has shown, and how often it was only wiped.
-    Seen(u64, u64),
-    /// It says that this many seconds have passed.
-    Passed(u64),
+// Two seconds pass before the first number, and half a second before the next one.
+#[test]
+fn shows_numbers_of_long_commands(rt: HostRuntime) {
+    let desk = Desk::new(rt.alloc());
+    let mut screen = Screen::new(&desk, false, true);
+    desk.set(1999);
+    screen.judged(1);
+    screen.made(65_536);
+    screen.visited(256);
+    screen.clear();
+    assert_eq!(rt; desk.seen(), (0, 0));
+    desk.set(2000);
+    screen.judged(2);
+    screen.judged(3);
+    assert_eq!(rt; desk.seen(), (1, 0));
+    desk.set(2499);
+    screen.judged(4);
+    assert_eq!(rt; desk.seen(), (1, 0));
+    desk.set(2500);
+    screen.judged(5);
+    assert_eq!(rt; (desk.seen(), screen.passed()), ((2, 0), 2));
+    screen.clear();
+    assert_eq!(rt; desk.seen(), (2, 1));
+    screen.clear();
+    assert_eq!(rt; desk.seen(), (2, 1));
 }
 
-/// Lets it happen, and returns whether it was seen, if it is something seen.
-fn happens(desk: &Desk, screen: &mut Screen<'_, Desk>, event: &Event) -> bool {
-    match event {
-        Event::At(millis) => desk.set(*millis),
-        Event::Judged(functions) => screen.judged(*functions),
-        Event::Made(steps) => screen.made(*steps),
-        Event::Visited(states) => screen.visited(*states),
-        Event::Calls(calls) => make_calls(screen, *calls),
-        Event::Clear => screen.clear(),
-        Event::Seen(numbers, wipes) => return desk.seen() == (*numbers, *wipes),
-        Event::Passed(seconds) => return screen.passed() == *seconds,
-    }
-    true
-}
-
-fn make_calls(screen: &Screen<'_, Desk>, calls: u64) {
-    for _call in 0..calls {
+// A run shows its calls, each 64th of them.
+#[test]
+fn shows_calls(rt: HostRuntime) {
+    let desk = Desk::new(rt.alloc());
+    let mut screen = Screen::new(&desk, true, true);
+    desk.set(5000);
+    for _call in 0..63 {
         screen.after(0, 0);
     }
+    assert_eq!(rt; desk.seen(), (0, 0));
+    screen.after(0, 0);
+    assert_eq!(rt; desk.seen(), (1, 0));
+    screen.clear();
+    assert_eq!(rt; desk.seen(), (1, 1));
 }
-
-/// Returns the number of the first event that wasn't seen at a screen with these colours, watched or not.
-fn first_unseen(alloc: Global, colors: bool, watched: bool, events: &[Event]) -> Option<usize> {
-    let desk = Desk::new(alloc);
-    let mut screen = Screen::new(&desk, colors, watched);
-    for (number, event) in events.iter().enumerate() {
-        if !happens(&desk, &mut screen, event) {
-            return Some(number);
-        }
-    }
-    None
-}
-
-/// Whether the screen has colours, whether it is watched, and what happens at it.
-const SCREENS: &[(bool, bool, &[Event])] = &[
-    // Two seconds pass before the first number, and half a second before the next one.
-    (
-        false,
-        true,
-        &[
-            Event::At(1999),
-            Event::Judged(1),
-            Event::Made(65_536),
-            Event::Visited(256),
-            Event::Clear,
-            Event::Seen(0, 0),
-            Event::At(2000),
-            Event::Judged(2),
-            Event::Judged(3),
-            Event::Seen(1, 0),
-            Event::At(2499),
-            Event::Judged(4),
-            Event::Seen(1, 0),
-            Event::At(2500),
-            Event::Judged(5),
-            Event::Seen(2, 0),
-            Event::Passed(2),
-            Event::Clear,
-            Event::Seen(2, 1),
-            Event::Clear,
-            Event::Seen(2, 1),
-        ],
-    ),
-    // A run shows its calls, each 64th of them.
-    (
-        true,
-        true,
-        &[
-            Event::At(5000),
-            Event::Calls(63),
-            Event::Seen(0, 0),
-            Event::Calls(1),
-            Event::Seen(1, 0),
-            Event::Clear,
-            Event::Seen(1, 1),
-        ],
-    ),
-    // Nothing is shown without a terminal.
-    (
-        true,
-        false,
-        &[
-            Event::At(60_000),
-            Event::Judged(1),
-            Event::Made(65_536),
-            Event::Calls(64),
-            Event::Clear,
-            Event::Seen(0, 0),
-        ],
-    ),
-];
 
 #[test]
-fn screens_show_numbers_of_long_commands(rt: HostRuntime) {
-    for (colors, watched, events) in SCREENS {
-        let unseen = first_unseen(rt.alloc(), *colors, *watched, events);
-        assert_eq!(rt; unseen, None, "colours: {colors}, watched: {watched}");
+fn shows_nothing_without_a_terminal(rt: HostRuntime) {
+    let desk = Desk::new(rt.alloc());
+    let mut screen = Screen::new(&desk, true, false);
+    desk.set(60_000);
+    screen.judged(1);
+    screen.made(65_536);
+    for _call in 0..64 {
+        screen.after(0, 0);
     }
+    screen.clear();
+    assert_eq!(rt; desk.seen(), (0, 0));
 }

@@ -61,68 +61,38 @@ impl Terminal for Notes {
     }
 }
 
-impl Notes {
-    /// Returns a terminal that was given nothing yet.
-    fn new() -> Notes {
-        Notes {
-            times: 0,
-            last: 0,
-            falls: false,
-            clears: 0,
-            judged: 0,
-            begun: AtomicU64::new(0),
-            ended: AtomicU64::new(0),
-        }
-    }
-
-    /// Returns how often it was given the steps, those that it was given last, whether they fell, and how often its
-    /// line was wiped.
-    fn steps(&self) -> (u64, u64, bool, u64) {
-        (self.times, self.last, self.falls, self.clears)
-    }
-
-    /// Returns how many calls have begun, and how many have ended.
-    fn calls(&self) -> (u64, u64) {
-        let begun = self.begun.load(Ordering::SeqCst);
-        (begun, self.ended.load(Ordering::SeqCst))
-    }
-}
-
-/// Carries the request out before the terminal, and returns the bytes on standard output.
-fn shown<R: System + AllocGlobal>(
+// What a terminal that was given nothing yet was told, and the bytes on standard output.
+fn told<R: System + AllocGlobal>(
     rt: &R,
     asked: &Asked<'_>,
     module: &[u8],
     schedule: &[u8],
-    notes: &mut Notes,
-) -> Vec<u8> {
+) -> (Notes, Vec<u8>) {
+    let mut notes = Notes {
+        times: 0,
+        last: 0,
+        falls: false,
+        clears: 0,
+        judged: 0,
+        begun: AtomicU64::new(0),
+        ended: AtomicU64::new(0),
+    };
     let mut out: Vec<u8> = Vec::new(rt.alloc());
     let mut err: Vec<u8> = Vec::new(rt.alloc());
     let mut load = Shelf {
         module: Ok(module),
         schedule: Ok(schedule),
     };
-    execute_on(rt, rt.alloc(), asked, &mut load, notes, &mut out, &mut err);
-    out
-}
-
-/// Carries a command line out before the terminal, and returns the status, whether the bytes on standard output begin
-/// so, and how many there are on standard error.
-fn acted<R: System + AllocGlobal>(
-    rt: &R,
-    words: &[&str],
-    module: &[u8],
-    begin: &[u8],
-    notes: &mut Notes,
-) -> (u8, bool, usize) {
-    let mut out: Vec<u8> = Vec::new(rt.alloc());
-    let mut err: Vec<u8> = Vec::new(rt.alloc());
-    let mut load = Shelf {
-        module: Ok(module),
-        schedule: UNREAD,
-    };
-    let status = act_on(rt, rt.alloc(), words, &mut load, notes, &mut out, &mut err);
-    (status, out.as_slice().starts_with(begin), err.len())
+    execute_on(
+        rt,
+        rt.alloc(),
+        asked,
+        &mut load,
+        &mut notes,
+        &mut out,
+        &mut err,
+    );
+    (notes, out)
 }
 
 // The schedules of one worker, how often the terminal is given the steps, and the steps that it is given last.
@@ -141,78 +111,94 @@ const SCHEDULES: &[(&[u8], (u64, u64))] = &[
     ),
 ];
 
-/// Returns what a terminal is told of the steps of a schedule, and whether the report is the one without a terminal.
-fn of_schedule<R: System + AllocGlobal>(rt: &R, schedule: &[u8]) -> ((u64, u64, bool, u64), bool) {
-    let mut notes = Notes::new();
-    let out = shown(rt, &STEP, FIRST, schedule, &mut notes);
-    let (plain, _, _) = outputs(rt, &STEP, Ok(FIRST), Ok(schedule));
-    (notes.steps(), out.as_slice() == plain.as_slice())
-}
-
-/// What a terminal is told of calls: how many have begun, and how many have ended.
-type Calls = (u64, u64);
-
-/// Returns what a terminal is told of the calls of a run on threads, and how often it is given steps and wiped; what it
-/// is told once one call more was made by a command line, how often it was wiped by then, and how that command ended.
-fn of_runs<R: System + AllocGlobal>(
-    rt: &R,
-) -> ((Calls, u64, u64), (Calls, u64), (u8, bool, usize)) {
-    let mut notes = Notes::new();
-    shown(rt, &to_run("f", 4, 4, 200), FIRST, b"", &mut notes);
-    let first = (notes.calls(), notes.times, notes.clears);
+// A terminal is given the steps of a schedule in rising order, and hears each call of a run on threads, as its gate.
+// Its line is wiped once a command, and it changes no report.
+#[test]
+fn tells_how_far_schedules_and_runs_are(rt: HostRuntime) {
+    for (schedule, (times, last)) in SCHEDULES {
+        let (notes, out) = told(&rt, &STEP, FIRST, schedule);
+        assert_eq!(rt;
+            (notes.times, notes.last, notes.falls, notes.clears),
+            (*times, *last, false, 1),
+            "{last}"
+        );
+        let (plain, _, _) = outputs(&rt, &STEP, Ok(FIRST), Ok(*schedule));
+        assert_eq!(rt; out.as_slice(), plain.as_slice(), "{last}");
+    }
+    let (mut notes, _) = told(&rt, &to_run("f", 4, 4, 200), FIRST, b"");
+    assert_eq!(rt; notes.begun.load(Ordering::SeqCst), 800);
+    assert_eq!(rt; notes.ended.load(Ordering::SeqCst), 800);
+    assert_eq!(rt; (notes.times, notes.clears), (0, 1));
+    // `act_on` gives it one call more.
+    let mut out: Vec<u8> = Vec::new(rt.alloc());
+    let mut err: Vec<u8> = Vec::new(rt.alloc());
+    let mut load = Shelf {
+        module: Ok(FIRST),
+        schedule: UNREAD,
+    };
     let words = ["brc", "run", "m.brc", "--call", "f"];
-    let ended = acted(rt, words.as_slice(), FIRST, b"threads 1\n", &mut notes);
-    (first, (notes.calls(), notes.clears), ended)
+    let status = act_on(
+        &rt,
+        rt.alloc(),
+        words.as_slice(),
+        &mut load,
+        &mut notes,
+        &mut out,
+        &mut err,
+    );
+    assert_eq!(rt; status, 0);
+    assert!(rt; out.as_slice().starts_with(b"threads 1\n"));
+    assert_eq!(rt; notes.begun.load(Ordering::SeqCst), 801);
+    assert_eq!(rt; notes.clears, 2);
 }
 
 /// Two C functions, of which the first is at fault.
 const C: &[u8] =
     b"int f(PyObject *o)\n{\n    PyObject *x = PyObject_Repr(o);\n    return !x;\n}\nint g(int a) { return a; }\n";
 
-/// Returns how many C functions a terminal is told of, how often it is wiped, and how the command ends.
-fn of_c<R: System + AllocGlobal>(rt: &R) -> (u64, u64, (u8, bool, usize)) {
-    let mut notes = Notes::new();
-    shown(rt, &CHECK, FIRST, b"", &mut notes);
+// A terminal is given the number of C functions, and its line is wiped.
+#[test]
+fn tells_how_many_functions_are_judged(rt: HostRuntime) {
+    let (mut notes, _) = told(&rt, &CHECK, FIRST, b"");
     let clears = notes.clears;
+    let mut out: Vec<u8> = Vec::new(rt.alloc());
+    let mut err: Vec<u8> = Vec::new(rt.alloc());
+    let mut load = Shelf {
+        module: Ok(C),
+        schedule: UNREAD,
+    };
     let words = ["brc", "c", "m.brc"];
-    let begin = b"\x1b[1mm.brc:4:5:\x1b[0m ";
-    let ended = acted(rt, words.as_slice(), C, begin, &mut notes);
-    (notes.judged, notes.clears.wrapping_sub(clears), ended)
+    let status = act_on(
+        &rt,
+        rt.alloc(),
+        words.as_slice(),
+        &mut load,
+        &mut notes,
+        &mut out,
+        &mut err,
+    );
+    assert_eq!(rt;
+        (status, notes.judged, notes.clears.wrapping_sub(clears)),
+        (1, 2, 1)
+    );
+    assert!(rt; out.as_slice().starts_with(b"\x1b[1mm.brc:4:5:\x1b[0m "));
+    assert!(rt; err.is_empty());
 }
 
-const ESCAPE: u8 = 0x1b;
-
-const ACCEPTED: &[u8] = b"accepted 1 functions 3 instructions\n";
-
-/// Returns whether an explanation before a terminal has colours, whether it has without a terminal, and whether the
-/// report of a check before a terminal is the plain one.
-fn of_colours<R: System + AllocGlobal>(rt: &R) -> [bool; 3] {
+#[test]
+fn colours_explanations_alone(rt: HostRuntime) {
+    let escape: &[u8] = b"\x1b";
     let explain = Asked::Explain {
         file: "m.brc",
         function: None,
     };
-    let mut notes = Notes::new();
-    let before = shown(rt, &explain, LEAKING, b"", &mut notes);
-    let (without, _, _) = outputs(rt, &explain, Ok(LEAKING), UNREAD);
-    let check = shown(rt, &CHECK, FIRST, b"", &mut notes);
-    [
-        before.as_slice().contains(&ESCAPE),
-        without.as_slice().contains(&ESCAPE),
-        check.as_slice() == ACCEPTED,
-    ]
-}
-
-// A terminal is given the steps of a schedule in rising order, hears each call of a run on threads, as its gate, and is
-// given the number of C functions. Its line is wiped once a command. It changes no report, but colours explanations.
-#[test]
-fn terminals_are_told_how_far_commands_are(rt: HostRuntime) {
-    for (schedule, (times, last)) in SCHEDULES {
-        let wanted = ((*times, *last, false, 1), true);
-        assert_eq!(rt; of_schedule(&rt, schedule), wanted, "{last}");
-    }
-    // `act_on` gives it one call more.
-    let wanted = (((800, 800), 0, 1), ((801, 801), 2), (0, true, 0));
-    assert_eq!(rt; of_runs(&rt), wanted);
-    assert_eq!(rt; of_c(&rt), (2, 1, (1, true, 0)));
-    assert_eq!(rt; of_colours(&rt), [true, false, true]);
+    let (_, out) = told(&rt, &explain, LEAKING, b"");
+    assert!(rt; out.as_slice().contains(&escape[0]));
+    let (out, _, _) = outputs(&rt, &explain, Ok(LEAKING), UNREAD);
+    assert!(rt; !out.as_slice().contains(&escape[0]));
+    let (_, out) = told(&rt, &CHECK, FIRST, b"");
+    assert_eq!(rt;
+        out.as_slice(),
+        b"accepted 1 functions 3 instructions\n".as_slice()
+    );
 }

@@ -51,30 +51,21 @@ const MERGED_AT_EXIT: &[u8] =
 const BOTH_CLOSED: &[u8] =
     b"threads 2\nrunning 0\ncreated 2\nclosed 2\nalive 0\nhost faults 0\nclose faults 0\n";
 
-/// A module, a schedule, what is written, and why no more is, if something is at fault.
-type Row = (&'static [u8], &'static [u8], &'static [u8], &'static str);
-
-/// What is written neither as a report nor as a trace.
-const FAULTS: &[Row] = &[
-    (MISSPELT, PLAN, b"", "unreadable line 3 L2"),
+// A module, a schedule, and why it isn't stepped.
+const FAULTS: &[(&[u8], &[u8], &str)] = &[
+    (MISSPELT, PLAN, "unreadable line 3 L2"),
     (
         SMALLEST,
         b"schedule 1\nworkers 0\n",
-        b"",
         "unreadable schedule line 2 L3",
     ),
-    (LEAKING, PLAN, b"", "refused f @1 C5"),
+    (LEAKING, PLAN, "refused f @1 C5"),
     (
         SMALLEST,
         b"schedule 1\nworkers 1\nrows 4\ncall 1 g 1\n",
-        b"",
         "no function g",
     ),
 ];
-
-const STEPPED: &[Row] = &[(OWN_AND_OTHER, MERGED_AT_EXIT, BOTH_CLOSED, "")];
-
-const TRACED: &[Row] = &[(SMALLEST, PLAN, TRACE, "")];
 
 /// A writer that takes nothing.
 #[derive(Clone, Copy)]
@@ -90,60 +81,36 @@ impl Write for Full {
     }
 }
 
-/// What was written, and how it ended.
-type Written = (Vec<u8>, Result<(), StepFault>);
-
-fn stepped(alloc: Global, row: &Row) -> Written {
-    let mut out: Vec<u8> = Vec::new(alloc);
-    let ended = step_text(alloc, row.0, row.1, &mut out);
-    (out, ended)
-}
-
-fn traced(alloc: Global, row: &Row) -> Written {
-    let mut out: Vec<u8> = Vec::new(alloc);
-    let ended = trace_text(alloc, row.0, row.1, &mut out);
-    (out, ended)
-}
-
-/// Returns whether it ended for this reason, or without a fault if there is none.
-fn is_said(alloc: Global, ended: Result<(), StepFault>, fault: &str) -> Result<bool, AllocError> {
+/// Returns why it ended, and nothing if the schedule was stepped.
+fn said(alloc: Global, ended: Result<(), StepFault>) -> Result<String, AllocError> {
     match ended {
-        Ok(()) => Ok(fault.is_empty()),
-        Err(found) => Ok(format!(in alloc; "{found}")?.as_str() == fault),
+        Ok(()) => format!(in alloc; ""),
+        Err(fault) => format!(in alloc; "{fault}"),
     }
-}
-
-/// Returns whether this was written as the row says.
-fn is_so(alloc: Global, written: Written, row: &Row) -> Result<bool, AllocError> {
-    let (out, ended) = written;
-    Ok(is_said(alloc, ended, row.3)? && out.as_slice() == row.2)
-}
-
-/// Returns whether a picture of the plan has its claim.
-fn is_drawn(alloc: Global) -> Result<bool, Fail> {
-    let picture = picture_text(alloc, SMALLEST, PLAN)?;
-    Ok(contains(picture.as_slice(), b">claim of row 1</text>"))
-}
-
-/// Returns how a report ends that can't be written.
-fn unwritten(alloc: Global) -> Result<(), StepFault> {
-    step_text(alloc, SMALLEST, PLAN, &mut Full)
 }
 
 #[test]
 fn texts_are_stepped_traced_and_drawn(rt: HostRuntime) -> Result<(), Fail> {
     let alloc = rt.alloc();
-    for rows in [STEPPED, FAULTS] {
-        for row in rows {
-            assert!(rt; is_so(alloc, stepped(alloc, row), row)?, "{:?}", row.3);
-        }
+    let mut report: Vec<u8> = Vec::new(alloc);
+    let ended = said(
+        alloc,
+        step_text(alloc, OWN_AND_OTHER, MERGED_AT_EXIT, &mut report),
+    )?;
+    assert_eq!(rt; (report.as_slice(), ended.as_str()), (BOTH_CLOSED, ""));
+    let mut trace: Vec<u8> = Vec::new(alloc);
+    let ended = said(alloc, trace_text(alloc, SMALLEST, PLAN, &mut trace))?;
+    assert_eq!(rt; (trace.as_slice(), ended.as_str()), (TRACE, ""));
+    let picture = picture_text(alloc, SMALLEST, PLAN)?;
+    assert!(rt; contains(picture.as_slice(), b">claim of row 1</text>"));
+    for (module, schedule, fault) in FAULTS {
+        let mut out: Vec<u8> = Vec::new(alloc);
+        let ended = said(alloc, step_text(alloc, module, schedule, &mut out))?;
+        assert_eq!(rt; ended.as_str(), *fault);
+        let ended = said(alloc, trace_text(alloc, module, schedule, &mut out))?;
+        assert_eq!(rt; (ended.as_str(), out.is_empty()), (*fault, true));
     }
-    for rows in [TRACED, FAULTS] {
-        for row in rows {
-            assert!(rt; is_so(alloc, traced(alloc, row), row)?, "{:?}", row.3);
-        }
-    }
-    assert!(rt; is_drawn(alloc)?);
-    assert!(rt; is_said(alloc, unwritten(alloc), "cannot write")?);
+    let ended = said(alloc, step_text(alloc, SMALLEST, PLAN, &mut Full))?;
+    assert_eq!(rt; ended.as_str(), "cannot write");
     Ok(())
 }

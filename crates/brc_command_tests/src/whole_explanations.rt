@@ -1,14 +1,11 @@
 //! The commands write all that an explanation says: what is on standard output is compared, byte by byte, with what
 //! `brc_explain` and `brc_pages` write themselves.
 
-ghost use Rattle.brc_check.specs.Refusal.{IsRefusal};
-ghost use Rattle.brc_lang.specs.Grammar.{IsModule};
-
 use crate::cases::{FIRST, MISSPELT, UNREAD, outputs};
-use brc_check::{CheckCode, Checked, Refused, check, infer};
+use brc_check::{CheckCode, check, infer};
 use brc_command::Asked;
 use brc_explain::{explain_accepted, explain_refused, explain_unreadable};
-use brc_lang::{FaultCode, Module, ReadFault, read};
+use brc_lang::{FaultCode, read};
 use brc_pages::{Topic, write_page};
 use brc_report::Paint;
 use std::alloc::Global;
@@ -46,64 +43,21 @@ const TOPICS: &[Topic] = &[
 
 /// Returns the explanation of the module of this text, or `None` if memory is refused.
 fn explanation(alloc: Global, text: &[u8]) -> Option<Vec<u8>> {
-    match read(alloc, text) {
-        Ok(module) => explanation_of(alloc, module),
-        Err(fault) => explanation_of_fault(alloc, text, &fault),
-    }
-}
-
-fn explanation_of_fault(alloc: Global, text: &[u8], fault: &ReadFault) -> Option<Vec<u8>> {
     let mut out = Vec::new(alloc);
-    match explain_unreadable(text, fault, Paint::Plain, &mut out) {
-        Ok(()) => Some(out),
-        Err(_) => None,
+    let module = match read(alloc, text) {
+        Ok(module) => module,
+        Err(fault) => {
+            explain_unreadable(text, &fault, Paint::Plain, &mut out).ok()?;
+            return Some(out);
+        }
+    };
+    if let Err(refused) = infer(alloc, &module) {
+        explain_refused(alloc, &module, &refused, None, Paint::Plain, &mut out).ok()?;
+        return Some(out);
     }
-}
-
-fn explanation_of(alloc: Global, module: Module) -> Option<Vec<u8>>
-    requires { IsModule «module» }
-{
-    match infer(alloc, &module) {
-        Ok(_) => explanation_of_accepted(alloc, module),
-        Err(refused) => explanation_of_refusal(alloc, &module, &refused),
-    }
-}
-
-fn explanation_of_refusal(alloc: Global, module: &Module, refused: &Refused) -> Option<Vec<u8>>
-    requires fits { IsModule «module».now }
-    requires refusal { IsRefusal «module».now.functions refused.now }
-{
-    let mut out = Vec::new(alloc);
-    match explain_refused(alloc, module, refused, None, Paint::Plain, &mut out) {
-        Ok(()) => Some(out),
-        Err(_) => None,
-    }
-}
-
-fn explanation_of_accepted(alloc: Global, module: Module) -> Option<Vec<u8>>
-    requires { IsModule «module» }
-{
-    match check(alloc, module) {
-        Ok(checked) => explanation_of_checked(alloc, &checked),
-        Err(_) => None,
-    }
-}
-
-fn explanation_of_checked(alloc: Global, checked: &Checked) -> Option<Vec<u8>> {
-    let mut out = Vec::new(alloc);
-    match explain_accepted(alloc, checked, None, Paint::Plain, &mut out) {
-        Ok(()) => Some(out),
-        Err(_) => None,
-    }
-}
-
-/// Returns the page of the topic, or `None` if it can't be written.
-fn page_of(alloc: Global, topic: Topic) -> Option<Vec<u8>> {
-    let mut page: Vec<u8> = Vec::new(alloc);
-    match write_page(topic, Paint::Plain, &mut page) {
-        Ok(()) => Some(page),
-        Err(_) => None,
-    }
+    let checked = check(alloc, module).ok()?;
+    explain_accepted(alloc, &checked, None, Paint::Plain, &mut out).ok()?;
+    Some(out)
 }
 
 #[test]
@@ -118,6 +72,9 @@ fn explanations_are_written_whole(rt: HostRuntime) {
     }
     for topic in TOPICS {
         let (out, _, _) = outputs(&rt, &Asked::Page { topic: *topic }, UNREAD, UNREAD);
-        assert!(rt; Some(out) == page_of(rt.alloc(), *topic), "{topic:?}");
+        let mut page: Vec<u8> = Vec::new(rt.alloc());
+        let written = write_page(*topic, Paint::Plain, &mut page);
+        assert!(rt; written.is_ok());
+        assert!(rt; out == page, "{topic:?}");
     }
 }
