@@ -27,7 +27,7 @@ use Rattle.brc_table.proofs.Duties.{runs_on, either_is}
 use Rattle.brc_table.proofs.Locking.{locking_becomes}
 use Rattle.brc_table.proofs.LockedFields.{still_seen, field_seen}
 use Rattle.brc_table.proofs.Allowed as allowed
-use Rattle.brc_table.proofs.Allowed.{IsAt, Knows, IsNextAt, Seen, object_next}
+use Rattle.brc_table.proofs.Allowed.{IsAt, object_next}
 use Rattle.brc_table.proofs.FieldsTaken as taken
 
 module _ (laws : ModelLaws) where

@@ -1,6 +1,5 @@
-use Rattle.std.proofs.Common.{List, subst, sym, ◌∙◌}
+use Rattle.std.proofs.Common.{subst, sym, ◌∙◌}
 use Rattle.std.specs.List.{AllByRecursion}
-use Rattle.brc_command.specs.declared.finding.Other.{Other}
 use Rattle.brc_command.specs.Findings.{IsOther}
 use Rattle.brc_command.proofs.Others.{all_more}
 use Rattle.brc_command.proofs.finding.others_of.Goals.{in-Some+in_ok-push, in_default}

@@ -1,5 +1,3 @@
-use Rattle.std.proofs.Common.{List, ℕ, sym}
-use Rattle.brc_command.specs.Reruns.{HasWrongBeginning}
 use Rattle.brc_command.proofs.rerun.end_unwritten.Goals as goal
 
 -- the run without its trace is the same one
