@@ -1,3 +1,6 @@
+ghost use Rattle.std.specs.Prelude.{◌≡◌};
+ghost use Rattle.brc_c_graph.specs.Nodes.{node_at, local_at};
+
 use crate::local_name::LocalName;
 use crate::node::{Node, NodeId, Words};
 use brc_c_store::{Choice, Field, Local};
@@ -31,7 +34,9 @@ impl Graph {
     }
 
     /// Returns a node of the graph. Of another graph's it may know nothing.
-    pub fn node(&self, id: NodeId) -> Option<Node> {
+    pub fn node(&self, id: NodeId) -> Option<Node>
+        ensures { result ≡ node_at self.now id }
+    {
         self.nodes.get(id.0).copied()
     }
 
@@ -64,7 +69,9 @@ impl Graph {
     }
 
     /// Returns what a name of the graph is in the source.
-    pub fn local(&self, local: Local) -> Option<LocalName> {
+    pub fn local(&self, local: Local) -> Option<LocalName>
+        ensures { result ≡ local_at self.now local }
+    {
         self.locals.get(local.0).copied()
     }
 

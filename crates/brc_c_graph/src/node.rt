@@ -1,3 +1,6 @@
+ghost use Rattle.std.specs.Prelude.{◌≡◌};
+ghost use Rattle.brc_c_graph.specs.Nodes.{way_of};
+
 use brc_c_store::{Choice, Event};
 use brc_c_text::Place;
 
@@ -31,7 +34,9 @@ impl Ways {
     };
 
     /// Returns where a path goes on after a choice.
-    pub fn way(self, choice: Choice) -> Option<NodeId> {
+    pub fn way(self, choice: Choice) -> Option<NodeId>
+        ensures { result ≡ way_of self choice }
+    {
         match choice {
             Choice::Yes => self.yes,
             Choice::No => self.no,

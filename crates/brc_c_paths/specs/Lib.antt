@@ -1,0 +1,15 @@
+pub mod CellsKept
+pub mod Closed
+pub mod Faults
+pub mod Lenders
+pub mod Lives
+pub mod NamesKept
+pub mod Normal
+pub mod Numbers
+pub mod Order
+pub mod Paths
+pub mod Registers
+pub mod Replaying
+pub mod Settled
+pub mod Sorted
+pub mod Stepping
