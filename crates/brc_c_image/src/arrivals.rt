@@ -1,8 +1,8 @@
 //! What is known where the paths of a function end.
 
 use crate::blocks::{Blocks, Source, explore};
-use crate::liveness::Liveness;
 use brc_c_graph::{Graph, NodeId};
+use brc_c_paths::Liveness;
 use brc_c_store::{Rules, Store};
 use std::alloc::{AllocError, Global};
 

@@ -4,7 +4,7 @@ use crate::block::Held;
 use crate::laying::Laid;
 use crate::layout::Layout;
 use crate::line::{LENT, LOCK, Line, Target};
-use crate::registers::MOST_REGISTERS;
+use brc_c_paths::MOST_REGISTERS;
 use std::alloc::{AllocError, Global};
 
 /// Writes the lines that lead to each block to which no other block of the text leads. The entry needs none.

@@ -1,5 +1,9 @@
-use crate::registers::items_of;
+ghost use Rattle.std.specs.Prelude.{◌≡◌};
+ghost use Rattle.brc_c_store.specs.Stores.{contents_of, is_locked, owned_registers};
+ghost use Rattle.brc_c_paths.specs.Registers.{items_of};
+
 use brc_c_graph::NodeId;
+use brc_c_paths::items_of;
 use brc_c_store::{Choice, Register, RegisterSet, Rules, Store};
 use brc_lang::CheckCode;
 
@@ -20,7 +24,12 @@ impl Held {
         items: RegisterSet::EMPTY,
     };
 
-    pub(crate) fn of(rules: Rules, store: &Store) -> Held {
+    /// What the state has in a store.
+    pub(crate) fn of(rules: Rules, store: &Store) -> Held
+        ensures locked { result.is_locked ≡ is_locked rules (contents_of store.now) }
+        ensures owned { result.owned ≡ owned_registers (contents_of store.now) }
+        ensures items { result.items ≡ items_of (contents_of store.now) }
+    {
         Held {
             is_locked: store.is_locked(rules),
             owned: store.owned(),
@@ -60,6 +69,8 @@ pub(crate) struct Break {
 #[derive(Clone, Copy, Debug)]
 pub(crate) struct Block {
     pub(crate) node: NodeId,
+    /// The number of its point. The function's entry and forks have none.
+    pub(crate) point: Option<usize>,
     pub(crate) origin: Option<Origin>,
     pub(crate) held: Held,
     /// Whether it asks only which of the other ways of a block is taken.
@@ -82,6 +93,7 @@ impl Block {
     pub(crate) fn new(node: NodeId, origin: Option<Origin>, held: Held) -> Block {
         Block {
             node,
+            point: None,
             origin,
             held,
             is_fork: false,

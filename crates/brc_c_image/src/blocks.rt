@@ -9,13 +9,14 @@ use crate::following::follow;
 use crate::hashing::hash_of;
 use crate::image::Size;
 use crate::line::Line;
-use crate::liveness::Liveness;
-use crate::points::{Points, Waiting};
+use crate::points::{Found, Points, Waiting, arrival_of};
 use crate::taking::{gives_again, take_lent};
 use brc_c_graph::{Graph, Node, NodeId};
-use brc_c_store::{Event, Local, RegisterSet, Rules, Store, faults, left_by};
+use brc_c_paths::{Liveness, Point};
+use brc_c_store::{Choice, Event, Local, RegisterSet, Rules, Store, faults, left_by};
 use brc_lang::CheckCode;
 use std::alloc::{AllocError, Global};
+use std::mem;
 
 /// How many blocks may have lines.
 const MOST_BLOCKS: usize = 2048;
@@ -78,7 +79,7 @@ impl Blocks {
         Ok(number)
     }
 
-    /// Returns the block of a node in a normal store. A new one has to wait. One point may be taken.
+    /// Returns the point of a node in a normal store. A new one has to wait. One point may be taken.
     pub(crate) fn add_point(
         &mut self,
         rules: Rules,
@@ -86,15 +87,28 @@ impl Blocks {
         store: Store,
         origin: Origin,
         taken: Option<&Waiting>,
-    ) -> Result<usize, AllocError> {
+    ) -> Result<Found, AllocError> {
         let hash = hash_of(node, &store);
-        if let Some(block) = self.points.find(node, &store, hash, taken) {
-            return Ok(block);
+        if let Some(found) = self.points.find(node, &store, hash, taken) {
+            return Ok(found);
         }
         let held = Held::of(rules, &store);
-        let block = self.add(Block::new(node, Some(origin), held))?;
-        self.points.add(node, store, hash, block)?;
-        Ok(block)
+        let number = self.points.len();
+        let block = self.add(Block {
+            point: Some(number),
+            ..Block::new(node, Some(origin), held)
+        })?;
+        self.points.add(node, store, hash, block)
+    }
+
+    /// Notes to which point a choice leads from one that is followed.
+    pub(crate) fn set_way(&mut self, from: &Waiting, choice: Choice, to: Found) {
+        self.points.set_way(from.number, choice, to.number);
+    }
+
+    /// Takes the points, in the order in which they were found.
+    pub(crate) fn take_points(&mut self, alloc: Global) -> Vec<Point> {
+        mem::replace(&mut self.points, Points::new(alloc)).into_points()
     }
 
     /// Returns the points at which paths return.
@@ -107,7 +121,7 @@ impl Blocks {
         let mut arrivals = Vec::new(alloc);
         for point in points.into_points() {
             if is_return(graph, point.node) {
-                arrivals.push(point.into_arrival())?;
+                arrivals.push(arrival_of(point))?;
             }
         }
         Ok(arrivals)
@@ -173,7 +187,11 @@ fn begin(source: &Source, blocks: &mut Blocks) -> Result<(), AllocError> {
         block: number,
         choice: None,
     };
-    entry.next = Some(blocks.add_point(rules, NodeId::ENTRY, store, origin, None)?);
+    entry.next = Some(
+        blocks
+            .add_point(rules, NodeId::ENTRY, store, origin, None)?
+            .block,
+    );
     blocks.set(number, entry);
     Ok(())
 }
@@ -237,13 +255,14 @@ fn go_on_in(
         choice: None,
     };
     let next = blocks.add_point(rules, waiting.node, store, origin, Some(waiting))?;
+    blocks.points.set_emptied(waiting.number, next.number);
     if let Some(block) = blocks.get(waiting.block) {
         blocks.set(
             waiting.block,
             Block {
                 first,
                 end,
-                next: Some(next),
+                next: Some(next.block),
                 ..block
             },
         );

@@ -1,4 +1,4 @@
-use crate::registers::{difference, items_of, known_items};
+use brc_c_paths::{difference, ends_items, items_of, known_items};
 use brc_c_store::{Event, Register, RegisterSet, Rules, Store};
 
 /// What an event changes in the text's state.
@@ -36,13 +36,5 @@ impl Changes {
             unlocks: (was_locked && !is_locked) || (is_suspended && !after.has_items()),
             locks: (!was_locked && is_locked) || (is_suspended && !after.has_items()),
         }
-    }
-}
-
-/// Returns whether what is borrowed ends by such an event, if anything does.
-pub(crate) fn ends_items(event: Event) -> bool {
-    match event {
-        Event::EndItems | Event::Lock { .. } | Event::Unlock | Event::Detach => true,
-        _ => false,
     }
 }

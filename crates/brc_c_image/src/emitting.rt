@@ -3,7 +3,7 @@
 use crate::block::Branch;
 use crate::changes::Changes;
 use crate::line::{LENT, Line};
-use crate::registers::MOST_REGISTERS;
+use brc_c_paths::MOST_REGISTERS;
 use brc_c_store::{Base, Event, Local, RegisterSet, Rules, Store};
 use std::alloc::AllocError;
 

@@ -2,25 +2,21 @@
 
 use crate::block::{Block, Branch, Origin};
 use crate::blocks::{Blocks, Source};
-use crate::changes::{Changes, ends_items};
+use crate::changes::Changes;
 use crate::emitting::write_event;
 use crate::image::Size;
-use crate::normal::make_normal;
-use crate::points::Waiting;
-use crate::registers::{difference, items_of};
-use brc_c_graph::{Node, NodeId};
+use crate::points::{Found, Waiting};
+use brc_c_graph::Node;
+use brc_c_paths::{MOST_SECTIONS, arrive, difference, items_of, make_normal};
 use brc_c_store::{Choice, Event, Next, Store, after};
 use std::alloc::AllocError;
-
-/// How many critical sections may be open at once.
-const MOST_SECTIONS: usize = 8;
 
 /// A way after an event.
 #[derive(Clone, Copy, Debug)]
 enum Way {
     Never,
     TooMany,
-    To { block: usize, changes: Changes },
+    To { found: Found, changes: Changes },
 }
 
 /// Where paths go on, the first way first.
@@ -79,7 +75,10 @@ pub(crate) fn follow(
         match follow_way(source, blocks, waiting, node, choice)? {
             Way::Never => {}
             Way::TooMany => return Ok(Some(Size::References)),
-            Way::To { block, changes } => exits = exits.with(block, changes),
+            Way::To { found, changes } => {
+                blocks.set_way(waiting, choice, found);
+                exits = exits.with(found.block, changes);
+            }
         }
     }
     write_exits(source, blocks, waiting, node.event, exits)?;
@@ -110,29 +109,19 @@ fn follow_way(
                 block: waiting.block,
                 choice: Some(choice),
             };
-            let block = arrive(source, blocks, waiting, node.event, to, store, origin)?;
-            Ok(Way::To { block, changes })
+            let store = arrive(
+                source.alloc,
+                source.graph,
+                source.live,
+                node.event,
+                &waiting.store,
+                to,
+                store,
+            )?;
+            let found = blocks.add_point(source.rules, to, store, origin, Some(waiting))?;
+            Ok(Way::To { found, changes })
         }
     }
-}
-
-/// Returns the block of a node in a store, which is made normal.
-fn arrive(
-    source: &Source,
-    blocks: &mut Blocks,
-    waiting: &Waiting,
-    event: Event,
-    to: NodeId,
-    store: Store,
-    origin: Origin,
-) -> Result<usize, AllocError> {
-    let mut store = store;
-    if !ends_items(event) {
-        let lost = difference(items_of(&waiting.store), items_of(&store));
-        store.stale = store.stale.union(difference(lost, store.owned()));
-    }
-    make_normal(source.alloc, source.graph, source.live, to, &mut store)?;
-    blocks.add_point(source.rules, to, store, origin, Some(waiting))
 }
 
 /// Writes the lines of a block, and notes where paths go on.

@@ -1,31 +1,26 @@
 //! From a graph to texts.
 
+ghost use Rattle.std.specs.Prelude.{IfOk};
+ghost use Rattle.brc_c_image.specs.Images.{IsImageOf};
+
 use crate::blocks::{Blocks, Source, explore};
+use crate::checking::checked;
+use crate::labels::{Labels, labels_of};
 use crate::laying::{Laid, lay};
 use crate::layout::{Layout, Part};
-use crate::liveness::Liveness;
 use crate::naming::name_of;
 use crate::order::{order_of, places_of};
-use crate::outlining::outline_of;
+use crate::outlining::{numbers_of, outline_of};
 use crate::parting::{MOST_INSTRUCTIONS, part_with, parts_of};
-use crate::path::{Step, path_to};
+use crate::path::path_to;
 use crate::resolving::pass_by;
 use crate::writing::text_of;
 use brc_c_graph::{Graph, NodeId};
 use brc_c_outline::Outline;
+use brc_c_paths::{Fault, Liveness};
 use brc_c_store::Rules;
 use brc_lang::CheckCode;
 use std::alloc::{AllocError, Global};
-
-/// A rule that a path breaks.
-#[derive(Debug, Drop)]
-pub struct Fault {
-    pub code: CheckCode,
-    /// The node whose event breaks it.
-    pub node: NodeId,
-    /// The steps from the entry to the node.
-    pub path: Vec<Step>,
-}
 
 /// The text of a module.
 #[derive(Debug, Drop)]
@@ -35,6 +30,9 @@ pub struct Text {
     pub at: usize,
     /// What the text is to show, by the nodes in their stores and not by the lines.
     pub outline: Outline,
+    /// Whether it has all nodes in all stores, and not a part of them.
+    pub is_whole: bool,
+    pub(crate) labels: Labels,
 }
 
 /// What a function has too much of to be judged.
@@ -55,17 +53,22 @@ pub enum Image {
     /// No path breaks a rule. Each text has a part of the blocks: it makes what the state has where it begins, and
     /// gives that up where it ends.
     Right(Vec<Text>),
-    /// Each rule that is broken at a node, once, with a text in which only the paths to that node report something.
-    Wrong(Vec<(Fault, Text)>),
+    /// Each rule that is broken at a node, and for each a text in which only the paths to that node report something.
+    Wrong(Vec<Fault>, Vec<Text>),
+    /// The search hasn't found just the paths of the graph. That is an error of this program.
+    Unmatched,
 }
 
-/// Returns the modules of a function of C. The name may be any.
+/// Returns the modules of a function of C. The name may be any. What an image says of the paths of the graph is checked
+/// point by point.
 pub fn image_of(
     alloc: Global,
     rules: Rules,
     graph: &Graph,
     name: &[u8],
-) -> Result<Image, AllocError> {
+) -> Result<Image, AllocError>
+    ensures { IfOk result (IsImageOf rules graph.now) }
+{
     let live = Liveness::of(alloc, graph)?;
     let mut blocks = Blocks::new(alloc);
     let source = Source {
@@ -78,8 +81,10 @@ pub fn image_of(
     if let Some(size) = explore(&source, &mut blocks)? {
         return Ok(Image::TooLarge(size));
     }
+    let points = blocks.take_points(alloc);
     pass_by(&mut blocks);
-    image_in(alloc, &blocks, name)
+    let image = image_in(alloc, &blocks, name)?;
+    checked(alloc, rules, graph, &live, points.as_slice(), image)
 }
 
 fn image_in(alloc: Global, blocks: &Blocks, name: &[u8]) -> Result<Image, AllocError> {
@@ -138,7 +143,8 @@ fn wrong_image(
     parts: &[Part],
     broken: &[usize],
 ) -> Result<Image, AllocError> {
-    let mut wrong = Vec::new(alloc);
+    let mut faults = Vec::new(alloc);
+    let mut texts = Vec::new(alloc);
     for number in broken {
         let text = match part_with(parts, layout.place(*number)) {
             Some(part) => text_in(alloc, name, layout, Some(*number), part)?,
@@ -149,10 +155,11 @@ fn wrong_image(
         };
         if let Some((code, node)) = fault_at(layout.blocks, *number) {
             let path = path_to(alloc, layout.blocks, *number)?;
-            wrong.push((Fault { code, node, path }, text))?;
+            faults.push(Fault { code, node, path })?;
+            texts.push(text)?;
         }
     }
-    Ok(Image::Wrong(wrong))
+    Ok(Image::Wrong(faults, texts))
 }
 
 fn fault_at(blocks: &Blocks, number: usize) -> Option<(CheckCode, NodeId)> {
@@ -221,11 +228,15 @@ fn text_in(
         return Ok(None);
     }
     let text = text_of(alloc, name, &laid)?;
-    let outline = outline_of(alloc, &parted, &laid)?;
+    let numbers = numbers_of(alloc, &parted, &laid)?;
+    let outline = outline_of(alloc, &parted, &laid, &numbers)?;
+    let labels = labels_of(alloc, &parted, &numbers)?;
     let at = laid.at;
     Ok(Some(Text {
         bytes: text.into_bytes(),
         at,
         outline,
+        is_whole: part.first == 0 && part.end == layout.order.len(),
+        labels,
     }))
 }

@@ -11,13 +11,13 @@ use std::alloc::{AllocError, Global};
 
 /// The blocks of a text that are points of its outline.
 #[derive(Drop)]
-struct Numbers {
+pub(crate) struct Numbers {
     /// The point of each block, by the block's number.
     of_blocks: Vec<Option<usize>>,
     /// The blocks, by the numbers of their points.
-    blocks: Vec<usize>,
+    pub(crate) blocks: Vec<usize>,
     /// The number of the first of these points.
-    first: usize,
+    pub(crate) first: usize,
 }
 
 impl Numbers {
@@ -31,7 +31,7 @@ impl Numbers {
     }
 
     /// Returns the point of a block.
-    fn of(&self, block: usize) -> Option<usize> {
+    pub(crate) fn of(&self, block: usize) -> Option<usize> {
         self.of_blocks.get(block).copied()?
     }
 }
@@ -41,15 +41,15 @@ pub(crate) fn outline_of(
     alloc: Global,
     layout: &Layout,
     laid: &Laid,
+    numbers: &Numbers,
 ) -> Result<Outline, AllocError> {
-    let numbers = numbers_of(alloc, layout, laid)?;
     let mut points = Vec::new(alloc);
     if layout.part.first > 0 {
-        points.push(beginning(alloc, layout, &numbers)?)?;
+        points.push(beginning(alloc, layout, numbers)?)?;
     }
     for number in numbers.blocks.iter() {
         if let Some(block) = layout.blocks.get(*number) {
-            points.push(point_of(alloc, layout, laid, &numbers, *number, &block)?)?;
+            points.push(point_of(alloc, layout, laid, numbers, *number, &block)?)?;
         }
     }
     Ok(Outline { points })
@@ -71,7 +71,11 @@ fn beginning(alloc: Global, layout: &Layout, numbers: &Numbers) -> Result<Point,
 
 /// Returns which blocks are points: those of the text for which something is written, and each to which paths leave it
 /// by lines of their own. A fork belongs to the block whose ways it asks for.
-fn numbers_of(alloc: Global, layout: &Layout, laid: &Laid) -> Result<Numbers, AllocError> {
+pub(crate) fn numbers_of(
+    alloc: Global,
+    layout: &Layout,
+    laid: &Laid,
+) -> Result<Numbers, AllocError> {
     let mut numbers = Numbers {
         of_blocks: Vec::with_capacity(alloc, layout.blocks.len())?,
         blocks: Vec::new(alloc),

@@ -1,14 +1,8 @@
-use crate::blocks::Blocks;
-use brc_c_graph::NodeId;
-use brc_c_store::Choice;
-use std::alloc::{AllocError, Global};
+//! The first path to a block.
 
-/// A step of a path: a node, and the way after its event.
-#[derive(Clone, Copy, Debug, PartialEq, Eq)]
-pub struct Step {
-    pub node: NodeId,
-    pub choice: Choice,
-}
+use crate::blocks::Blocks;
+use brc_c_paths::Step;
+use std::alloc::{AllocError, Global};
 
 /// Returns the steps of the first path to a block.
 pub(crate) fn path_to(

@@ -2,27 +2,18 @@
 
 use crate::arrivals::Arrival;
 use brc_c_graph::NodeId;
-use brc_c_store::Store;
+use brc_c_paths::{Point, PointWays};
+use brc_c_store::{Choice, Store};
 use std::alloc::{AllocError, Global};
 use std::collections::HashMap;
 use std::mem;
 
-/// A node in a normal store, and its block.
-#[derive(Debug, Drop)]
-pub(crate) struct Point {
-    pub(crate) node: NodeId,
-    /// Without anything while the point's event is followed.
-    pub(crate) store: Store,
+/// What the search knows of a point beside what it is.
+#[derive(Clone, Copy, Debug)]
+struct Place {
     block: usize,
     /// The point before this one that has the same hash.
     before: Option<usize>,
-}
-
-impl Point {
-    pub(crate) fn into_arrival(self) -> Arrival {
-        let Point { node, store, .. } = self;
-        Arrival { node, store }
-    }
 }
 
 /// A point whose event is followed.
@@ -31,13 +22,22 @@ pub(crate) struct Waiting {
     pub(crate) block: usize,
     pub(crate) node: NodeId,
     pub(crate) store: Store,
-    number: usize,
+    pub(crate) number: usize,
+}
+
+/// A point that was found, and its block.
+#[derive(Clone, Copy, Debug)]
+pub(crate) struct Found {
+    pub(crate) number: usize,
+    pub(crate) block: usize,
 }
 
 /// All points, and how far they were followed.
 #[derive(Drop)]
 pub(crate) struct Points {
+    /// A point that is followed has an empty store meanwhile.
     points: Vec<Point>,
+    places: Vec<Place>,
     /// The last point with each hash.
     last: HashMap<usize, usize>,
     followed: usize,
@@ -47,17 +47,23 @@ impl Points {
     pub(crate) fn new(alloc: Global) -> Points {
         Points {
             points: Vec::new(alloc),
+            places: Vec::new(alloc),
             last: HashMap::new(alloc),
             followed: 0,
         }
     }
 
+    pub(crate) fn len(&self) -> usize {
+        self.points.len()
+    }
+
     /// Takes the next point whose event wasn't followed yet.
     pub(crate) fn take(&mut self, alloc: Global) -> Option<Waiting> {
         let number = self.followed;
+        let block = self.places.get(number)?.block;
         let point = self.points.get_mut(number)?;
         let waiting = Waiting {
-            block: point.block,
+            block,
             node: point.node,
             store: mem::replace(&mut point.store, Store::new(alloc)),
             number,
@@ -74,22 +80,26 @@ impl Points {
         }
     }
 
-    /// Returns the block of a node in a store, if a path came there before. One point may be taken.
+    /// Returns the point of a node in a store, if a path came there before. One point may be taken.
     pub(crate) fn find(
         &self,
         node: NodeId,
         store: &Store,
         hash: usize,
         taken: Option<&Waiting>,
-    ) -> Option<usize> {
+    ) -> Option<Found> {
         let mut next = Some(*self.last.get(&hash)?);
         for _ in 0..self.points.len() {
             let number = next?;
             let point = self.points.get(number)?;
+            let place = self.places.get(number)?;
             if point.node == node && is_in(point, number, taken, store) {
-                return Some(point.block);
+                return Some(Found {
+                    number,
+                    block: place.block,
+                });
             }
-            next = point.before;
+            next = place.before;
         }
         None
     }
@@ -101,22 +111,47 @@ impl Points {
         store: Store,
         hash: usize,
         block: usize,
-    ) -> Result<(), AllocError> {
+    ) -> Result<Found, AllocError> {
         let number = self.points.len();
         let before = self.last.insert(hash, number)?;
         self.points.push(Point {
             node,
             store,
-            block,
-            before,
+            emptied: None,
+            ways: PointWays::NONE,
         })?;
-        Ok(())
+        self.places.push(Place { block, before })?;
+        Ok(Found { number, block })
+    }
+
+    /// Notes to which point a choice leads from another one.
+    pub(crate) fn set_way(&mut self, from: usize, choice: Choice, to: usize) {
+        if let Some(point) = self.points.get_mut(from) {
+            match choice {
+                Choice::Yes => point.ways.yes = Some(to),
+                Choice::No => point.ways.no = Some(to),
+                Choice::Missing => point.ways.missing = Some(to),
+            }
+        }
+    }
+
+    /// Notes which point is the same node after registers are emptied.
+    pub(crate) fn set_emptied(&mut self, from: usize, to: usize) {
+        if let Some(point) = self.points.get_mut(from) {
+            point.emptied = Some(to);
+        }
     }
 
     /// Returns the points.
     pub(crate) fn into_points(self) -> Vec<Point> {
         self.points
     }
+}
+
+/// Returns the point as what is known where a path ends.
+pub(crate) fn arrival_of(point: Point) -> Arrival {
+    let Point { node, store, .. } = point;
+    Arrival { node, store }
 }
 
 /// Returns whether a point has a store.

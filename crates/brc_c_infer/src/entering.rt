@@ -2,7 +2,7 @@
 
 use brc_c_flow::OutNames;
 use brc_c_graph::{Graph, Node, NodeId};
-use brc_c_image::{name_assigned, names_read};
+use brc_c_paths::{name_assigned, names_read};
 use brc_c_store::{Event, Local, Source};
 use std::alloc::{AllocError, Global};
 

@@ -1,0 +1,3 @@
+pub mod GraphOutlines
+pub mod Images
+pub mod States
