@@ -1,7 +1,7 @@
 //! A text that the checker accepts.
 
 ghost use Rattle.std.specs.Prelude.{◌≡◌};
-ghost use Rattle.brc_c_judge.specs.Verdicts.{IsRightText};
+ghost use Rattle.brc_c_judge.specs.Texts.{IsRightText};
 
 use brc_c_image::Text;
 use std::marker::Model;
@@ -15,7 +15,7 @@ pub struct Accepted {
 
 impl Model for Accepted {
     ghost use Rattle.brc_c_image.specs.declared.image.Text.{Text};
-    ghost use Rattle.brc_c_judge.specs.Verdicts.{IsRightText};
+    ghost use Rattle.brc_c_judge.specs.Texts.{IsRightText};
 
     ghost Value = { Text };
 

@@ -1,10 +1,13 @@
 //! The checker's verdict on a text.
 
-ghost use Rattle.std.specs.Prelude.{◌≡◌, IfOk, false, true};
+ghost use Rattle.std.specs.Prelude.{◌≡◌, IfOk, Ok, false, true};
 ghost use Rattle.brc_lang.specs.Grammar.{Spells};
 ghost use Rattle.brc_check.specs.Refusal.{IsForMemory};
+ghost use Rattle.brc_c_outline.specs.Outlines.{IsBroken};
+ghost use Rattle.brc_c_judge.specs.Texts.{BreaksOnly};
 ghost use Rattle.brc_c_judge.specs.Verdicts.{IsVerdictOn};
 
+use crate::only::breaks_only;
 use brc_c_outline::{Outline, accepted_is_unbroken, is_broken, shows};
 use brc_check::{Refused, check};
 use brc_lang::{CheckCode, FaultCode, Module, one_reading, read};
@@ -92,11 +95,22 @@ fn judge_module(
     let Some(claim) = claim else {
         return Ok(Judged::Unconfirmed);
     };
-    if is_reported(claim, &refused) && is_broken(alloc, outline, claim.at, claim.code)? {
+    if is_reported(claim, &refused) && breaks_just(alloc, outline, claim)? {
         Ok(Judged::Wrong(Finding { claim }))
     } else {
         Ok(Judged::Unconfirmed)
     }
+}
+
+/// Returns whether a path of the outline breaks the rule that is claimed, and none another.
+fn breaks_just(alloc: Global, outline: &Outline, claim: Claim) -> Result<bool, AllocError>
+    ensures broken { result ≡ Ok true → IsBroken outline.now claim.at claim.code }
+    ensures only { result ≡ Ok true → BreaksOnly outline.now claim.at claim.code }
+{
+    if !breaks_only(outline, claim.at, claim.code) {
+        return Ok(false);
+    }
+    is_broken(alloc, outline, claim.at, claim.code)
 }
 
 fn is_for_memory(refused: &Refused) -> bool

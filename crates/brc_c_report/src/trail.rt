@@ -3,7 +3,7 @@
 use crate::choosing::is_open;
 use crate::origin::Origin;
 use brc_c_graph::{Graph, NodeId};
-use brc_c_image::Step;
+use brc_c_paths::Step;
 use brc_c_store::{Choice, Event, Local, Next, ObjectId, Rules, Source, Store, after};
 use std::alloc::{AllocError, Global};
 

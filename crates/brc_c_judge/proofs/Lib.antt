@@ -1,0 +1,2 @@
+pub mod Confirming
+pub mod Images
