@@ -1,0 +1,4 @@
+mod Leading
+mod Readying
+mod Following
+mod Showing
