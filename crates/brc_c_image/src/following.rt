@@ -7,7 +7,7 @@ use crate::emitting::write_event;
 use crate::image::Size;
 use crate::points::{Found, Waiting};
 use brc_c_graph::Node;
-use brc_c_paths::{MOST_SECTIONS, arrive, difference, items_of, make_normal};
+use brc_c_paths::{MOST_SECTIONS, arrive};
 use brc_c_store::{Choice, Event, Next, Store, after};
 use std::alloc::AllocError;
 
