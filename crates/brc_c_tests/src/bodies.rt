@@ -144,56 +144,9 @@ pub const ROWS: [(&str, &str); 43] = [
     ),
 ];
 
-/// The body of a function that isn't read, from line 2 on, and where and why it isn't.
-pub const NOT_READ: [(&str, &str); 23] = [
-    ("a = ;", "2:5 `;` is read where an expression is expected"),
-    ("a = 1", "3:1 `}` is read where `;` is expected"),
-    ("f(1", "3:1 `}` is read where `)` is expected"),
-    ("a ? b;", "2:6 `;` is read where `:` is expected"),
-    ("a = (b;", "2:7 `;` is read where `)` is expected"),
-    ("a[1;", "2:4 `;` is read where `]` is expected"),
-    ("a = ({ 1; });", "2:5 statements in an expression"),
-    ("asm(\"nop\");", "2:1 assembler"),
-    ("...;", "2:1 `...` stands for code that isn't there"),
-    ("a = @;", "2:5 `@` is read, which begins nothing in C"),
-    ("a = 'x;", "2:5 `'` is read, which begins nothing in C"),
-    (
-        "int x __attribute__((cleanup(f))) = 1; done: return 0;",
-        "2:40 a variable whose end calls a function",
-    ),
-    (
-        "else b = 1;",
-        "2:1 `else` is read where an expression is expected",
-    ),
-    (
-        "do a = 1; b = 2;",
-        "2:11 `b` is read where `while` is expected",
-    ),
-    ("goto 1;", "2:6 `1` is read where a name is expected"),
-    ("a->1;", "2:4 `1` is read where a name is expected"),
-    ("int *;", "2:6 `;` is read where a name is expected"),
-    ("int (*)(int);", "2:13 `;` is read where a name is expected"),
-    ("case 1;", "2:7 `;` is read where `:` is expected"),
-    ("if a b", "3:1 `}` is read where `;` is expected"),
-    ("if (a) {", "1:14 a brace or a parenthesis isn't closed"),
-    ("foo(a)\nb = 1;", "3:1 `b` is read where `;` is expected"),
-    ("sizeof (a", "2:1 a brace or a parenthesis isn't closed"),
-];
-
 /// Fails unless the body has this tree.
 pub fn body(alloc: Global, body: &str, wanted: &str) -> Result<(), Fail> {
     let source = format!(in alloc; "static int f(PyObject *a, int b) {{ {body} }}")?;
     let found = bodies_of(alloc, source.as_bytes())?;
     same(body, found.as_str().trim_end(), wanted)
-}
-
-/// Fails unless the body isn't read, for this reason, and the function after it is, as each one after one that isn't.
-pub fn body_not_read(alloc: Global, body: &str, wanted: &str) -> Result<(), Fail> {
-    let source = format!(in alloc;
-        "int f(int a) {{\n{body}\n}}\nint g(void)\n{{\nreturn 1;\n}}\n"
-    )?;
-    let found = bodies_of(alloc, source.as_bytes())?;
-    let (first, second) = found.as_str().split_once('\n').unwrap_or(("", ""));
-    same(body, first, wanted)?;
-    same(body, second, "{ return 1; }\n")
 }

@@ -1,8 +1,7 @@
-//! A C file in memory, judged as the command judges it: in three formats, and with releases that are changed. Then
-//! outlines.
+//! A C file in memory, judged as the command judges it.
 
-use crate::{formats, outlines, releases};
-use brc_c_program::{Asked, AskedFormat, AskedRules, Files, Judgement, Status, judge_files};
+use crate::{outlines, parts};
+use brc_c_program::{Asked, AskedFormat, AskedRules, Files, Judgement, judge_files};
 use std::alloc::{AllocError, Global};
 use std::test::Fail;
 
@@ -28,48 +27,13 @@ impl Files for OneFile<'_> {
     }
 }
 
-/// What the command says of a file.
-#[derive(Drop)]
-pub struct Said {
-    pub text: String,
-    pub status: Status,
-}
-
-/// Judges a file by both sets of rules, and shows what is possible, too.
-pub fn said_of(alloc: Global, source: &str, format: AskedFormat) -> Result<Said, AllocError> {
-    let Judgement {
-        text,
-        errors: _,
-        status,
-    } = judged(alloc, source, FILES, format)?;
-    Ok(Said { text, status })
-}
-
-/// Judges a file that a command names this often, and returns what standard error has.
-pub fn errors_of(alloc: Global, source: &str, times: usize) -> Result<String, AllocError> {
-    let mut files = Vec::new(alloc);
-    for _time in 0..times {
-        files.push(FILE)?;
-    }
-    let Judgement {
-        text: _,
-        errors,
-        status: _,
-    } = judged(alloc, source, files.as_slice(), AskedFormat::Text)?;
-    Ok(errors)
-}
-
-fn judged(
-    alloc: Global,
-    source: &str,
-    files: &[&str],
-    format: AskedFormat,
-) -> Result<Judgement, AllocError> {
+/// Judges a file by both sets of rules, and returns the text about it, which shows what is possible, too.
+pub fn said_of(alloc: Global, source: &str) -> Result<String, AllocError> {
     let asked = Asked {
-        files,
+        files: FILES,
         function: None,
         rules: AskedRules::Both,
-        format,
+        format: AskedFormat::Text,
         version: "1",
         folders: NONE,
         macros: NONE,
@@ -80,18 +44,20 @@ fn judged(
         allows_not_read: false,
         shows_modules: false,
     };
-    judge_files(alloc, &asked, &mut OneFile { text: source })
+    let Judgement {
+        text,
+        errors: _,
+        status: _,
+    } = judge_files(alloc, &asked, &mut OneFile { text: source })?;
+    Ok(text)
 }
 
+/// Long functions are judged as short ones, and outlines are found to be those of a function.
 #[test]
 fn functions_are_judged(rt: HostRuntime) -> Result<(), Fail> {
     let alloc = rt.alloc();
-    for source in &formats::FILES {
-        formats::agree(alloc, source)?;
-    }
-    formats::finds(alloc, formats::FILES[0], formats::FIRST)?;
-    for marked in &releases::RIGHT {
-        releases::needs_each(alloc, marked)?;
+    for marked in &parts::FUNCTIONS {
+        parts::same_wherever_cut(alloc, marked)?;
     }
     for (number, (said, wanted)) in outlines::SAID.iter().enumerate() {
         assert_eq!(rt;

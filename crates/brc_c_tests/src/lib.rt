@@ -1,16 +1,12 @@
-//! Tests of C functions: tokens, macros, the trees of functions, types, the table of the C API; and what is said of
-//! functions that are made at random, by a change of right ones, or so long that they are cut, in each format. Last,
-//! the check of an outline.
+//! Tests of what no command shows: tokens, macros, the trees of C functions, types, the table of the C API; what is said
+//! of functions that are made at random, or so long that they are cut; and the check of an outline. What `brc c` shows is
+//! in the cases of brc_cases.
 #![tactic(auto)]
 
 #[cfg(test)]
 mod bodies;
 #[cfg(test)]
-mod formats;
-#[cfg(test)]
 mod judged;
-#[cfg(test)]
-mod limits;
 #[cfg(test)]
 mod macros;
 #[cfg(test)]
@@ -25,8 +21,6 @@ mod random;
 mod random_functions;
 #[cfg(test)]
 mod reading;
-#[cfg(test)]
-mod releases;
 #[cfg(test)]
 mod rendering;
 #[cfg(test)]

@@ -31,6 +31,13 @@ fn left_in(alloc: Global, source: &[u8]) -> Result<Vec<u8>, Fail> {
     Ok(left_of(alloc, &symbols, &done)?)
 }
 
+/// Returns how many lexemes a header leaves that includes itself.
+pub fn included(alloc: Global) -> Result<usize, Fail> {
+    let mut symbols = Symbols::new(alloc)?;
+    let done = preprocessed(alloc, &mut symbols, b"#include \"self.h\"\nx")?;
+    Ok(done.lexemes.len())
+}
+
 /// A source, and what is left of it.
 pub const ROWS: [(&str, &str); 29] = [
     ("a\nb", "a b "),

@@ -1,7 +1,7 @@
 //! What is declared outside functions.
 
 use crate::reading::{read, same};
-use crate::rendering::{add_pieces, add_type, spelled};
+use crate::rendering::{add_type, either, spelled};
 use brc_c_text::{Symbol, Symbols};
 use brc_c_tree::{Parameter, Record, SourceTree, TypeName};
 use std::alloc::{AllocError, Global};
@@ -30,10 +30,10 @@ fn add_records(symbols: &Symbols, text: &mut String, tree: &SourceTree) -> Resul
 }
 
 fn add_record(symbols: &Symbols, text: &mut String, record: &Record) -> Result<(), AllocError> {
-    text.push_str(if record.is_object { " object" } else { "" })?;
+    text.push_str(either(record.is_object, " object", ""))?;
     for field in &record.fields {
         let name = spelled(symbols, field.name);
-        add_pieces(text, [" ", name, ":", "", "", "", "", ""])?;
+        write!(text, " {name}:")?;
         add_type(text, symbols, field.type_name)?;
     }
     Ok(())
@@ -66,11 +66,7 @@ fn add_names(symbols: &Symbols, text: &mut String, tree: &SourceTree) -> Result<
 
 fn add_heads(symbols: &Symbols, text: &mut String, tree: &SourceTree) -> Result<(), AllocError> {
     for function in &tree.functions {
-        let word = if function.is_static {
-            "static "
-        } else {
-            "function "
-        };
+        let word = either(function.is_static, "static ", "function ");
         add(symbols, text, word, function.name, function.result)?;
         for parameter in &function.parameters {
             add_parameter(symbols, text, parameter)?;
@@ -84,13 +80,17 @@ fn add_parameter(
     text: &mut String,
     parameter: &Parameter,
 ) -> Result<(), AllocError> {
-    let name = match parameter.name {
+    let name = name_of(symbols, parameter);
+    write!(text, "({name}:")?;
+    add_type(text, symbols, parameter.type_name)?;
+    text.push_str(either(parameter.is_variadic, "...) ", ") "))
+}
+
+fn name_of<'s>(symbols: &'s Symbols, parameter: &Parameter) -> &'s str {
+    match parameter.name {
         Some(name) => spelled(symbols, name),
         None => "-",
-    };
-    add_pieces(text, ["(", name, ":", "", "", "", "", ""])?;
-    add_type(text, symbols, parameter.type_name)?;
-    text.push_str(if parameter.is_variadic { "...) " } else { ") " })
+    }
 }
 
 fn add(
@@ -101,7 +101,7 @@ fn add(
     of: TypeName,
 ) -> Result<(), AllocError> {
     let name = spelled(symbols, name);
-    add_pieces(text, [what, name, ":", "", "", "", "", ""])?;
+    write!(text, "{what}{name}:")?;
     add_type(text, symbols, of)?;
     text.push_str("; ")
 }

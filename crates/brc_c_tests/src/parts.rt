@@ -2,12 +2,11 @@
 
 use crate::judged::said_of;
 use crate::reading::same;
-use brc_c_program::AskedFormat;
 use std::alloc::{AllocError, Global};
 use std::test::Fail;
 
 /// Functions. What makes them long is put at each `@`.
-const FUNCTIONS: [&str; 7] = [
+pub const FUNCTIONS: [&str; 7] = [
     "static PyObject *f(PyObject *self, PyObject *o)\n{\n@PyObject *x = PyObject_Repr(o);\n\
     if (x == NULL)\nreturn NULL;\nif (PyObject_Size(x) < 0) {\nPy_DECREF(x);\nreturn NULL;\n}\n@return x;\n}\n",
     "static PyObject *f(PyObject *self, PyObject *o)\n{\n@PyObject *x = PyObject_Repr(o);\n\
@@ -59,9 +58,9 @@ fn filled(alloc: Global, marked: &str, times: [usize; 2]) -> Result<String, Allo
 
 /// Returns the codes of what is found, and the counts.
 fn verdict_on(alloc: Global, source: &str) -> Result<String, AllocError> {
-    let said = said_of(alloc, source, AskedFormat::Text)?;
+    let said = said_of(alloc, source)?;
     let mut verdict = String::new(alloc);
-    for line in said.text.as_str().lines() {
+    for line in said.as_str().lines() {
         if line.starts_with("1 function") {
             verdict.push_str(line)?;
         } else if let Some((_, code)) = line.rsplit_once(" [") {
@@ -72,7 +71,7 @@ fn verdict_on(alloc: Global, source: &str) -> Result<String, AllocError> {
 }
 
 /// Fails unless the verdict on the function is the same wherever it is cut.
-fn same_wherever_cut(alloc: Global, marked: &str) -> Result<(), Fail> {
+pub fn same_wherever_cut(alloc: Global, marked: &str) -> Result<(), Fail> {
     let short = filled(alloc, marked, [0, 0])?;
     let wanted = verdict_on(alloc, short.as_str())?;
     same_with(alloc, marked, BEFORE, BEHIND, wanted.as_str())?;
@@ -91,14 +90,6 @@ fn same_with(
         let source = filled(alloc, marked, [times, behind])?;
         let found = verdict_on(alloc, source.as_str())?;
         same(source.as_str(), found.as_str(), wanted)?;
-    }
-    Ok(())
-}
-
-#[test]
-fn parts(rt: HostRuntime) -> Result<(), Fail> {
-    for marked in &FUNCTIONS {
-        same_wherever_cut(rt.alloc(), marked)?;
     }
     Ok(())
 }

@@ -2,7 +2,6 @@
 
 use crate::judged::said_of;
 use crate::random::{below, reads_bytes, reads_pieces};
-use brc_c_program::AskedFormat;
 use std::alloc::{AllocError, Global};
 use std::test::Fail;
 
@@ -166,8 +165,8 @@ fn file(alloc: Global, is_of_statements: bool, state: &mut u64) -> Result<String
 
 /// Judges a file, and returns how many of its functions aren't read. Fails if brc is at fault.
 fn not_read(alloc: Global, source: &str) -> Result<u32, Fail> {
-    let said = said_of(alloc, source, AskedFormat::Text)?;
-    let text = said.text.as_str();
+    let said = said_of(alloc, source)?;
+    let text = said.as_str();
     let mut count: u32 = 0;
     for line in text.lines() {
         if line.contains(": not read: ") {

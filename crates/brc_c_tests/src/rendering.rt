@@ -1,25 +1,44 @@
-//! Trees as texts: expressions in parentheses, statements in words. A text is a row of pieces; what isn't there before
-//! (a list, a type, the name of an operator) is made first.
+//! Trees as texts: expressions in parentheses, statements in words. Each sort has a form, in which letters are the places
+//! of its parts.
 
 use crate::statement_texts::statement_texts;
 use brc_c_text::{Symbol, Symbols};
 use brc_c_tree::{Body, Expression, ExpressionId, Function, List, Tree, TypeName, reason_text};
 use std::alloc::{AllocError, Global};
 
-/// The pieces of a text. Where a text has fewer, the rest is empty.
-pub type Pieces<'t> = [&'t str; 8];
+/// What fills a form: the texts of three expressions (`0`, `1` and `2`) and of two statements (`A` and `B`), a name (`N`),
+/// and what is made for the form (`M`). A part that a form hasn't is empty.
+pub type Parts<'t> = [&'t str; 7];
 
-/// Appends the pieces.
-pub fn add_pieces(text: &mut String, pieces: Pieces<'_>) -> Result<(), AllocError> {
-    for piece in &pieces {
-        text.push_str(piece)?;
+/// Returns the part that a letter of a form is the place of, if it is one.
+fn part_of<'t>(parts: Parts<'t>, letter: char) -> Option<&'t str> {
+    match letter {
+        '0' => Some(parts[0]),
+        '1' => Some(parts[1]),
+        '2' => Some(parts[2]),
+        'A' => Some(parts[3]),
+        'B' => Some(parts[4]),
+        'N' => Some(parts[5]),
+        'M' => Some(parts[6]),
+        _ => None,
+    }
+}
+
+/// Appends the form, with the parts in place of their letters.
+fn add_filled(text: &mut String, form: &str, parts: Parts<'_>) -> Result<(), AllocError> {
+    for letter in form.chars() {
+        match part_of(parts, letter) {
+            Some(part) => text.push_str(part)?,
+            None => text.push(letter)?,
+        }
     }
     Ok(())
 }
 
-pub fn joined(alloc: Global, pieces: Pieces<'_>) -> Result<String, AllocError> {
+/// Returns the form with its parts.
+pub fn filled(alloc: Global, form: &str, parts: Parts<'_>) -> Result<String, AllocError> {
     let mut text = String::new(alloc);
-    add_pieces(&mut text, pieces)?;
+    add_filled(&mut text, form, parts)?;
     Ok(text)
 }
 
@@ -80,7 +99,12 @@ pub fn add_type(text: &mut String, symbols: &Symbols, of: TypeName) -> Result<()
     for _star in 0..of.stars {
         text.push('*')?;
     }
-    text.push_str(if of.is_function { "()" } else { "" })
+    text.push_str(either(of.is_function, "()", ""))
+}
+
+/// Returns the one text or the other. A branch of its own keeps what comes behind it short to prove.
+pub fn either<'t>(is_one: bool, one: &'t str, other: &'t str) -> &'t str {
+    if is_one { one } else { other }
 }
 
 fn type_text(alloc: Global, symbols: &Symbols, of: TypeName) -> Result<String, AllocError> {
@@ -111,10 +135,17 @@ fn expression_text(
     expression: &Expression,
 ) -> Result<String, AllocError> {
     let made = made_text(alloc, symbols, tree, texts, expression)?;
-    joined(
-        alloc,
-        value_pieces(symbols, texts, expression, made.as_str()),
-    )
+    let [first, second, third] = operands_of(expression);
+    let parts = [
+        at_some(texts, first),
+        at_some(texts, second),
+        at_some(texts, third),
+        "",
+        "",
+        name_in(symbols, expression),
+        made.as_str(),
+    ];
+    filled(alloc, form_of(expression), parts)
 }
 
 /// Returns what the text of an expression has beside the texts of its operands: its list, its type, or the name of its
@@ -148,120 +179,76 @@ pub fn operands_text(
 ) -> Result<String, AllocError> {
     let mut text = String::new(alloc);
     for operand in tree.operands(list) {
-        text.push_str(if text.is_empty() { "" } else { ", " })?;
+        let is_first = text.is_empty();
+        text.push_str(either(is_first, "", ", "))?;
         text.push_str(at(texts, operand.index()))?;
     }
     Ok(text)
 }
 
-/// Returns the pieces of a value that isn't an operator's.
-fn value_pieces<'t>(
-    symbols: &'t Symbols,
-    texts: &'t [String],
-    expression: &Expression,
-    made: &'t str,
-) -> Pieces<'t> {
+/// Returns the form of an expression.
+fn form_of(expression: &Expression) -> &'static str {
     match *expression {
-        Expression::Name(symbol)
-        | Expression::Number(symbol)
-        | Expression::Character(symbol)
-        | Expression::Text(symbol) => [spelled(symbols, symbol), "", "", "", "", "", "", ""],
-        Expression::Call { function, .. } => {
-            let function = at(texts, function.index());
-            [function, "(", made, ")", "", "", "", ""]
-        }
-        Expression::Values(_) => ["{", made, "}", "", "", "", "", ""],
-        Expression::Cast { operand, .. } => {
-            let operand = at(texts, operand.index());
-            ["[", made, "]", operand, "", "", "", ""]
-        }
-        Expression::SizeOf => ["sizeof", "", "", "", "", "", "", ""],
-        Expression::Opaque => ["opaque", "", "", "", "", "", "", ""],
-        _ => operator_pieces(symbols, texts, expression, made),
+        Expression::Name(_)
+        | Expression::Number(_)
+        | Expression::Character(_)
+        | Expression::Text(_) => "N",
+        Expression::Unary { .. } => "(M 0)",
+        Expression::Step {
+            is_up: true,
+            is_before: true,
+            ..
+        } => "(++0)",
+        Expression::Step { is_up: true, .. } => "(0++)",
+        Expression::Step {
+            is_before: true,
+            ..
+        } => "(--0)",
+        Expression::Step { .. } => "(0--)",
+        Expression::Binary { .. } => "(0 M 1)",
+        Expression::Assign { .. } => "(0 M= 1)",
+        Expression::Conditional { .. } => "(0 ? 1 : 2)",
+        Expression::Comma { .. } => "(0, 1)",
+        Expression::Cast { .. } => "[M]0",
+        Expression::Call { .. } => "0(M)",
+        Expression::Index { .. } => "0[1]",
+        Expression::Field { is_arrow: true, .. } => "0->N",
+        Expression::Field { .. } => "0.N",
+        Expression::SizeOf => "sizeof",
+        Expression::Values(_) => "{M}",
+        Expression::Opaque => "opaque",
     }
 }
 
-/// Returns the pieces of an operator with its operands.
-fn operator_pieces<'t>(
-    symbols: &'t Symbols,
-    texts: &'t [String],
-    expression: &Expression,
-    made: &'t str,
-) -> Pieces<'t> {
+/// Returns the operands of an expression that aren't in a list.
+fn operands_of(expression: &Expression) -> [Option<ExpressionId>; 3] {
     match *expression {
-        Expression::Unary { operand, .. } => {
-            ["(", made, " ", at(texts, operand.index()), ")", "", "", ""]
-        }
-        Expression::Binary { left, right, .. } => {
-            let left = at(texts, left.index());
-            ["(", left, " ", made, " ", at(texts, right.index()), ")", ""]
-        }
-        Expression::Comma { left, right } => {
-            let left = at(texts, left.index());
-            ["(", left, ", ", at(texts, right.index()), ")", "", "", ""]
-        }
+        Expression::Unary { operand, .. }
+        | Expression::Step { operand, .. }
+        | Expression::Cast { operand, .. } => [Some(operand), None, None],
+        Expression::Call { function, .. } => [Some(function), None, None],
+        Expression::Field { object, .. } => [Some(object), None, None],
+        Expression::Binary { left, right, .. }
+        | Expression::Assign { left, right, .. }
+        | Expression::Comma { left, right } => [Some(left), Some(right), None],
+        Expression::Index { array, index } => [Some(array), Some(index), None],
         Expression::Conditional {
             condition,
             then,
             otherwise,
-        } => {
-            let condition = at(texts, condition.index());
-            let then = at(texts, then.index());
-            let otherwise = at(texts, otherwise.index());
-            ["(", condition, " ? ", then, " : ", otherwise, ")", ""]
-        }
-        _ => place_pieces(symbols, texts, expression, made),
+        } => [Some(condition), Some(then), Some(otherwise)],
+        _ => [None; 3],
     }
 }
 
-/// Returns the pieces of what reads or writes a place.
-fn place_pieces<'t>(
-    symbols: &'t Symbols,
-    texts: &'t [String],
-    expression: &Expression,
-    made: &'t str,
-) -> Pieces<'t> {
+/// Returns the name in an expression, or an empty one.
+fn name_in<'s>(symbols: &'s Symbols, expression: &Expression) -> &'s str {
     match *expression {
-        Expression::Step {
-            is_up,
-            is_before,
-            operand,
-        } => step_pieces(is_up, is_before, at(texts, operand.index())),
-        Expression::Assign { left, right, .. } => {
-            let left = at(texts, left.index());
-            [
-                "(",
-                left,
-                " ",
-                made,
-                "= ",
-                at(texts, right.index()),
-                ")",
-                "",
-            ]
-        }
-        Expression::Index { array, index } => {
-            let array = at(texts, array.index());
-            [array, "[", at(texts, index.index()), "]", "", "", "", ""]
-        }
-        Expression::Field {
-            object,
-            name,
-            is_arrow,
-        } => {
-            let object = at(texts, object.index());
-            let dot = if is_arrow { "->" } else { "." };
-            [object, dot, spelled(symbols, name), "", "", "", "", ""]
-        }
-        _ => ["?", "", "", "", "", "", "", ""],
-    }
-}
-
-fn step_pieces(is_up: bool, is_before: bool, operand: &str) -> Pieces<'_> {
-    let sign = if is_up { "++" } else { "--" };
-    if is_before {
-        ["(", sign, operand, ")", "", "", "", ""]
-    } else {
-        ["(", operand, sign, ")", "", "", "", ""]
+        Expression::Name(symbol)
+        | Expression::Number(symbol)
+        | Expression::Character(symbol)
+        | Expression::Text(symbol) => spelled(symbols, symbol),
+        Expression::Field { name, .. } => spelled(symbols, name),
+        _ => "",
     }
 }

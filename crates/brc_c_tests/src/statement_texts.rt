@@ -1,8 +1,8 @@
 //! Statements as texts.
 
-use crate::rendering::{Pieces, add_pieces, add_type, at, at_some, joined, operands_text, spelled};
+use crate::rendering::{add_type, at, at_some, either, filled, operands_text, spelled};
 use brc_c_text::Symbols;
-use brc_c_tree::{Declaration, Known, List, Statement, Tree};
+use brc_c_tree::{Declaration, ExpressionId, Known, List, Statement, StatementId, Tree};
 use std::alloc::{AllocError, Global};
 
 /// Returns the texts of all statements. Each comes after its parts.
@@ -35,10 +35,37 @@ fn statement_text(
         Statement::Known { known, arguments } => {
             known_text(alloc, tree, expressions, known, arguments)
         }
-        _ => joined(
-            alloc,
-            statement_pieces(symbols, expressions, texts, statement),
-        ),
+        _ => plain_text(alloc, symbols, expressions, texts, statement),
+    }
+}
+
+/// Returns the text of a statement without a list.
+fn plain_text(
+    alloc: Global,
+    symbols: &Symbols,
+    expressions: &[String],
+    texts: &[String],
+    statement: &Statement,
+) -> Result<String, AllocError> {
+    let [first, second] = expressions_of(statement);
+    let [part, other] = statements_of(statement);
+    let parts = [
+        at_some(expressions, first),
+        at_some(expressions, second),
+        "",
+        at_part(texts, part),
+        at_part(texts, other),
+        name_in(symbols, statement),
+        "",
+    ];
+    filled(alloc, form_of(statement), parts)
+}
+
+/// Returns the text of a statement that may be left out.
+fn at_part(texts: &[String], part: Option<StatementId>) -> &str {
+    match part {
+        Some(id) => at(texts, id.index()),
+        None => "",
     }
 }
 
@@ -88,81 +115,76 @@ fn add_declared(
     expressions: &[String],
     declared: &Declaration,
 ) -> Result<(), AllocError> {
-    text.push_str(if declared.is_static {
-        "static "
-    } else {
-        "let "
-    })?;
+    text.push_str(either(declared.is_static, "static ", "let "))?;
     add_type(text, symbols, declared.type_name)?;
-    let equals = if declared.value.is_some() { " = " } else { "" };
+    let equals = either(declared.value.is_some(), " = ", "");
     let value = at_some(expressions, declared.value);
     let name = spelled(symbols, declared.name);
-    add_pieces(text, [" ", name, equals, value, ";", "", "", ""])
+    write!(text, " {name}{equals}{value};")
 }
 
-/// Returns the pieces of a statement that goes to another one, or chooses one.
-fn statement_pieces<'t>(
-    symbols: &'t Symbols,
-    expressions: &'t [String],
-    texts: &'t [String],
-    statement: &Statement,
-) -> Pieces<'t> {
+/// Returns the form of a statement.
+fn form_of(statement: &Statement) -> &'static str {
     match *statement {
-        Statement::For {
-            first,
-            condition,
-            next,
-            body,
-        } => {
-            let first = match first {
-                Some(id) => at(texts, id.index()),
-                None => "",
-            };
-            let condition = at_some(expressions, condition);
-            let next = at_some(expressions, next);
-            let body = at(texts, body.index());
-            ["for (", first, " ", condition, "; ", next, ") ", body]
-        }
+        Statement::Expression(_) => "0;",
         Statement::If {
-            condition,
-            then,
-            otherwise,
-        } => {
-            let condition = at(expressions, condition.index());
-            let then = at(texts, then.index());
-            let (between, otherwise) = match otherwise {
-                Some(id) => (" else ", at(texts, id.index())),
-                None => ("", ""),
-            };
-            ["if ", condition, " ", then, between, otherwise, "", ""]
-        }
-        Statement::Label(name) => [spelled(symbols, name), ":", "", "", "", "", "", ""],
-        Statement::Goto(name) => ["goto ", spelled(symbols, name), ";", "", "", "", "", ""],
-        _ => short_pieces(expressions, texts, statement),
+            otherwise: Some(_),
+            ..
+        } => "if 0 A else B",
+        Statement::If { .. } => "if 0 A",
+        Statement::While { .. } => "while 0 A",
+        Statement::DoWhile { .. } => "do-while 0 A",
+        Statement::For { .. } => "for (A 0; 1) B",
+        Statement::Switch { .. } => "switch 0 A",
+        Statement::Case(_) => "case 0;",
+        Statement::Default => "default;",
+        Statement::Label(_) => "N:",
+        Statement::Goto(_) => "goto N;",
+        Statement::Break => "break;",
+        Statement::Continue => "continue;",
+        Statement::Return(_) => "return 0;",
+        _ => "?",
     }
 }
 
-/// Returns the pieces of a statement with one expression and one part at most.
-fn short_pieces<'t>(
-    expressions: &'t [String],
-    texts: &'t [String],
-    statement: &Statement,
-) -> Pieces<'t> {
-    let (word, value, body) = match *statement {
-        Statement::Expression(value) => ("", Some(value), None),
-        Statement::While { condition, body } => ("while ", Some(condition), Some(body)),
-        Statement::DoWhile { body, condition } => ("do-while ", Some(condition), Some(body)),
-        Statement::Switch { value, body } => ("switch ", Some(value), Some(body)),
-        Statement::Case(value) => ("case ", Some(value), None),
-        Statement::Return(value) => ("return ", value, None),
-        Statement::Default => ("default", None, None),
-        Statement::Break => ("break", None, None),
-        Statement::Continue => ("continue", None, None),
-        _ => ("?", None, None),
-    };
-    let value = at_some(expressions, value);
-    match body {
-        Some(body) => [word, value, " ", at(texts, body.index()), "", "", "", ""],
-        None => [word, value, ";", "", "", "", "", ""],
+/// Returns the expressions of a statement.
+fn expressions_of(statement: &Statement) -> [Option<ExpressionId>; 2] {
+    match *statement {
+        Statement::Expression(value) | Statement::Case(value) => [Some(value), None],
+        Statement::If { condition, .. }
+        | Statement::While { condition, .. }
+        | Statement::DoWhile { condition, .. } => [Some(condition), None],
+        Statement::For {
+            condition,
+            next,
+            ..
+        } => [condition, next],
+        Statement::Switch { value, .. } => [Some(value), None],
+        Statement::Return(value) => [value, None],
+        _ => [None; 2],
+    }
+}
+
+/// Returns the parts of a statement, in the order of its form.
+fn statements_of(statement: &Statement) -> [Option<StatementId>; 2] {
+    match *statement {
+        Statement::If {
+            then,
+            otherwise,
+            ..
+        } => [Some(then), otherwise],
+        Statement::While { body, .. }
+        | Statement::DoWhile { body, .. }
+        | Statement::Switch { body, .. } => [Some(body), None],
+        Statement::For { first, body, .. } => [first, Some(body)],
+        _ => [None; 2],
+    }
+}
+
+/// Returns the label in a statement, or an empty one.
+fn name_in<'s>(symbols: &'s Symbols, statement: &Statement) -> &'s str {
+    match *statement {
+        Statement::Label(name) | Statement::Goto(name) => spelled(symbols, name),
+        _ => "",
     }
 }

@@ -1,7 +1,7 @@
-//! The table of the C API: a row and a fault of each sort, and the table that the program carries with it.
+//! The table of the C API: a row of each sort, and the table that the program carries with it.
 
-use brc_c_table::{Fails, Gives, RowFault, Table, TableFault, Tables, Takes};
-use std::alloc::{AllocError, Global};
+use brc_c_table::{Fails, Gives, Table, TableFault, Tables, Takes};
+use std::alloc::Global;
 use std::test::Fail;
 
 /// The words after a name, and what they say.
@@ -168,72 +168,6 @@ fn is_read_so(alloc: Global, wanted: &Sort) -> Result<bool, Fail> {
     Ok(says(&table, wanted))
 }
 
-/// Texts that aren't read, with their first line at fault.
-const FAULTS: [(&[u8], u64, RowFault); 26] = [
-    (b"f new . null\n", 1, RowFault::WordCount),
-    (b"# c\nf\n", 2, RowFault::WordCount),
-    (b"f new . null pure pure\n", 1, RowFault::WordCount),
-    (b"f item\n", 1, RowFault::WordCount),
-    (b"1f new . null pure\n", 1, RowFault::Name),
-    (b"->f->g new . null pure\n", 1, RowFault::Name),
-    (b"f-g new . null pure\n", 1, RowFault::Name),
-    (b"-> new . null pure\n", 1, RowFault::Name),
-    (b"f old . null pure\n", 1, RowFault::Result),
-    (b"f item b null pure\n", 1, RowFault::ArgumentNumber),
-    (b"f item 0 b null pure\n", 1, RowFault::ArgumentNumber),
-    (b"f item 2 b null pure\n", 1, RowFault::ArgumentNumber),
-    (b"f part 1 - null pure\n", 1, RowFault::ArgumentNumber),
-    (b"f same 1 s null pure\n", 1, RowFault::ArgumentNumber),
-    (b"f new b, null pure\n", 1, RowFault::Letter),
-    (b"f new .. null pure\n", 1, RowFault::Letter),
-    (b"f new 1 b null pure\n", 1, RowFault::Letter),
-    (b"f new b+b null pure\n", 1, RowFault::NotLast),
-    (b"f new p-b null pure\n", 1, RowFault::NotLast),
-    (b"f new . nul pure\n", 1, RowFault::Failure),
-    (b"f new . neg pure\n", 1, RowFault::OtherFailure),
-    (b"f int . null pure\n", 1, RowFault::OtherFailure),
-    (b"f void . neg pure\n", 1, RowFault::OtherFailure),
-    (b"f new . null run\n", 1, RowFault::Code),
-    (
-        b"f new . null pure\n\nf new . null pure\n",
-        3,
-        RowFault::NameTwice,
-    ),
-    (b"f new . null pure\ng new . null pure", 2, RowFault::CutOff),
-];
-
-/// The line at fault of a text that isn't read, and its fault.
-fn fault_of(alloc: Global, text: &[u8]) -> Option<(u64, RowFault)> {
-    match Table::read(alloc, text) {
-        Ok(_) => None,
-        Err(found) => Some((found.line, found.fault)),
-    }
-}
-
-/// Returns what is at fault in a text that repeats a byte.
-fn fault_of_long(alloc: Global, long: &Long) -> Result<Option<(u64, RowFault)>, AllocError> {
-    let mut text = Vec::from_slice(alloc, long.0)?;
-    for _ in 0..long.2 {
-        text.push(long.1)?;
-    }
-    text.extend_from_slice(long.3)?;
-    Ok(fault_of(alloc, text.as_slice()))
-}
-
-/// What is before a byte, the byte, how often it is there, what is behind, and the fault, which is in line 1.
-type Long = (&'static [u8], u8, usize, &'static [u8], RowFault);
-
-const LONG: [Long; 2] = [
-    (
-        b"f new ",
-        b'b',
-        128,
-        b" null pure\n",
-        RowFault::TooManyArguments,
-    ),
-    (b"#", b'-', 255, b"\n", RowFault::LongLine),
-];
-
 /// Names of functions, with what the manual says of them.
 const NAMES: [(&[u8], Gives, &[Takes]); 3] = [
     (
@@ -335,12 +269,6 @@ fn tables_are_read(rt: HostRuntime) -> Result<(), Fail> {
     let alloc = rt.alloc();
     for wanted in &ROWS {
         assert!(rt; is_read_so(alloc, wanted)?, "{:?}", wanted.0);
-    }
-    for (text, line, fault) in &FAULTS {
-        assert_eq!(rt; fault_of(alloc, text), Some((*line, *fault)), "{text:?}");
-    }
-    for long in &LONG {
-        assert_eq!(rt; fault_of_long(alloc, long)?, Some((1, long.4)));
     }
     assert_eq!(rt; carried_rows(alloc)?, 1318);
     assert_eq!(rt; carried(alloc)?, (true, [None, Some(Gives::New)]));

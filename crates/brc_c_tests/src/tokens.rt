@@ -1,5 +1,5 @@
 use crate::reading::same;
-use brc_c_text::{Comment, TextFault, Token, TokenKind, scan};
+use brc_c_text::{Comment, Token, TokenKind, scan};
 use std::alloc::{AllocError, Global};
 use std::test::Fail;
 
@@ -78,13 +78,3 @@ pub const ROWS: [(&[u8], &str); 18] = [
     (b"\x00\xff@", "?\x00@1:1 ?\u{fffd}@1:2 ?@@1:3 "),
     (b"\r\n\t x", "nx@2:3 "),
 ];
-
-/// Returns why a source of this many letters isn't scanned, or `None` if it is.
-pub fn fault_of(alloc: Global, letters: usize) -> Result<Option<TextFault>, AllocError> {
-    let mut long = Vec::new(alloc);
-    long.resize(letters, b'a')?;
-    match scan(alloc, long.as_slice()) {
-        Ok(_) => Ok(None),
-        Err(fault) => Ok(Some(fault)),
-    }
-}

@@ -1,7 +1,7 @@
 //! The types of expressions.
 
 use crate::reading::{read, same};
-use crate::rendering::add_type;
+use crate::rendering::{add_type, either};
 use brc_c_text::Symbols;
 use brc_c_tree::{SourceTree, TypeName};
 use brc_c_types::{Types, types_of};
@@ -69,7 +69,7 @@ fn type_text(
     let mut text = String::new(alloc);
     add_type(&mut text, symbols, of)?;
     let is_object = types.is_object(symbols, of);
-    text.push_str(if is_object { " object" } else { "" })?;
+    text.push_str(either(is_object, " object", ""))?;
     Ok(text)
 }
 

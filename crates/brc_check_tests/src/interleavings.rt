@@ -57,19 +57,6 @@ fn make(world: &mut World<'_>, turn: u8) -> Result<Option<Did>, NoMemory> {
     }
 }
 
-/// Returns the world after the moves, and what the last one did.
-fn after<'a>(
-    alloc: Global,
-    checked: &'a Checked,
-    moves: &[u8],
-) -> Result<(World<'a>, Option<Did>), NoMemory>
-    requires { HasCallableEnds checked.now.module }
-{
-    let mut world = first(alloc, checked)?;
-    let did = make_all(&mut world, moves)?;
-    Ok((world, did))
-}
-
 /// Makes the moves. Returns what the last one did.
 fn make_all(world: &mut World<'_>, moves: &[u8]) -> Result<Option<Did>, NoMemory> {
     let mut did = None;
@@ -122,30 +109,16 @@ fn is_new(
     Ok(seen.insert(format!(in alloc; "{world:?}")?)?)
 }
 
-/// Returns whether all threads of a new state are gone, or `None` if the state isn't new.
+/// Returns whether all threads of a new state are gone, or `None` if the last move didn't lead to a new one.
 fn last_if_new(
-    alloc: Global,
-    world: &World<'_>,
-    objects: u64,
-    seen: &mut BTreeSet<String>,
-) -> Result<Option<bool>, Fail> {
-    if is_new(alloc, world, seen)? {
-        Ok(Some(is_last(world, objects)?))
-    } else {
-        Ok(None)
-    }
-}
-
-/// Does what `last_if_new` does, if the last move led to the state.
-fn last_if_moved(
     alloc: Global,
     world: &World<'_>,
     did: Option<Did>,
     objects: u64,
     seen: &mut BTreeSet<String>,
 ) -> Result<Option<bool>, Fail> {
-    if did == Some(Did::Moved) {
-        last_if_new(alloc, world, objects, seen)
+    if did == Some(Did::Moved) && is_new(alloc, world, seen)? {
+        Ok(Some(is_last(world, objects)?))
     } else {
         Ok(None)
     }
@@ -162,9 +135,49 @@ fn visit(
 ) -> Result<(Option<Did>, Option<bool>), Fail>
     requires { HasCallableEnds checked.now.module }
 {
-    let (world, did) = after(alloc, checked, moves)?;
-    let found = last_if_moved(alloc, &world, did, objects, seen)?;
+    let mut world = first(alloc, checked)?;
+    visit_in(alloc, &mut world, objects, moves, seen)
+}
+
+/// Does what `visit` does, in this world.
+fn visit_in(
+    alloc: Global,
+    world: &mut World<'_>,
+    objects: u64,
+    moves: &[u8],
+    seen: &mut BTreeSet<String>,
+) -> Result<(Option<Did>, Option<bool>), Fail> {
+    let did = make_all(world, moves)?;
+    let found = last_if_new(alloc, world, did, objects, seen)?;
     Ok((did, found))
+}
+
+/// Visits each state that a move more leads to. Returns in how many new ones all threads are gone, whether no move
+/// changes the state, and how many threads wait in it.
+fn go_on(
+    alloc: Global,
+    checked: &Checked,
+    objects: u64,
+    moves: &[u8],
+    seen: &mut BTreeSet<String>,
+    paths: &mut Vec<Vec<u8>>,
+) -> Result<(usize, bool, usize), Fail>
+    requires { HasCallableEnds checked.now.module }
+{
+    let mut last = 0usize;
+    let mut waits = 0usize;
+    let mut is_end = true;
+    for turn in 0..MOVES {
+        let more = one_move_more(alloc, moves, turn)?;
+        let (did, found) = visit(alloc, checked, objects, &more, seen)?;
+        if let Some(is_last) = found {
+            last = last.saturating_add(usize::from(is_last));
+            paths.push(more)?;
+        }
+        waits = waits.saturating_add(usize::from(turn < THREADS && did == Some(Did::Same)));
+        is_end = is_end && did != Some(Did::Moved);
+    }
+    Ok((last, is_end, waits))
 }
 
 /// Visits each state that moves lead to.
@@ -173,26 +186,31 @@ fn search(alloc: Global, checked: &Checked, objects: u64) -> Result<Found, Fail>
 {
     let mut seen = BTreeSet::new(alloc);
     let mut paths: Vec<Vec<u8>> = Vec::new(alloc);
+    search_on(alloc, checked, objects, &mut seen, &mut paths)
+}
+
+/// Does what `search` does, with the states that were seen, and the moves to each.
+fn search_on(
+    alloc: Global,
+    checked: &Checked,
+    objects: u64,
+    seen: &mut BTreeSet<String>,
+    paths: &mut Vec<Vec<u8>>,
+) -> Result<Found, Fail>
+    requires { HasCallableEnds checked.now.module }
+{
     paths.push(Vec::new(alloc))?;
     let mut last = 0usize;
     let mut ends = 0usize;
     let mut waits = 0usize;
     for state in 0..MOST_STATES {
-        let Some(moves) = moves_to(alloc, &paths, state)? else {
+        let Some(moves) = moves_to(alloc, paths, state)? else {
             break;
         };
-        let mut is_end = true;
-        for turn in 0..MOVES {
-            let more = one_move_more(alloc, &moves, turn)?;
-            let (did, found) = visit(alloc, checked, objects, &more, &mut seen)?;
-            if let Some(is_last) = found {
-                last = last.saturating_add(usize::from(is_last));
-                paths.push(more)?;
-            }
-            waits = waits.saturating_add(usize::from(turn < THREADS && did == Some(Did::Same)));
-            is_end = is_end && did != Some(Did::Moved);
-        }
+        let (gone, is_end, waiting) = go_on(alloc, checked, objects, &moves, seen, paths)?;
+        last = last.saturating_add(gone);
         ends = ends.saturating_add(usize::from(is_end));
+        waits = waits.saturating_add(waiting);
     }
     Ok([paths.len(), last, ends, waits])
 }

@@ -12,8 +12,6 @@ mod interleavings;
 #[cfg(test)]
 mod modules;
 #[cfg(test)]
-mod pages;
-#[cfg(test)]
 mod random_tables;
 #[cfg(test)]
 mod schedules;

@@ -52,10 +52,19 @@ fn next(draft: &mut Draft, bound: u64) -> u64
     (draft.seed >> 33) % bound
 }
 
-/// Adds a line of these words.
-fn put(draft: &mut Draft, words: &[&[u8]]) -> Result<(), Fail> {
+/// Adds the line of a form, in which `A` and `B` are the places of two variables.
+fn put(draft: &mut Draft, form: &[u8], one: usize, other: usize) -> Result<(), Fail>
+    requires one { one < 3 }
+    requires other { other < 3 }
+{
     draft.before.push(Some(draft.owned))?;
-    write_pieces(words, &mut draft.lines)?;
+    for byte in form {
+        match *byte {
+            b'A' => draft.lines.extend_from_slice(NAMES[one])?,
+            b'B' => draft.lines.extend_from_slice(NAMES[other])?,
+            letter => draft.lines.push(letter)?,
+        }
+    }
     draft.lines.push(b'\n')?;
     Ok(())
 }
@@ -101,19 +110,13 @@ fn with(owned: Owned, at: usize, value: u8) -> Owned
     made
 }
 
-/// The words of a line that makes, moves or gives up references, and what is owned behind it, or `None` where the
+/// The form of a line that makes, moves or gives up references, and what is owned behind it, or `None` where the
 /// number is of no such line or the line would be refused. A call lends the list to `show`, if nothing is owned, or
 /// `give` steals all that is; only what the call returns is owned behind it.
-fn words_of(
-    number: u64,
-    one: usize,
-    other: usize,
-    owned: Owned,
-) -> Option<([&'static [u8]; 5], Owned)>
+fn form_of(number: u64, one: usize, other: usize, owned: Owned) -> Option<(&'static [u8], Owned)>
     requires one { one < 3 }
     requires other { other < 3 }
 {
-    let (name, other_name) = (NAMES[one], NAMES[other]);
     let is_empty = owned[one] == 0;
     let owns_nothing = owned == [0, 0, 0];
     let owns_other = with(owned, other, 0) == [0, 0, 0] && one != other;
@@ -121,21 +124,13 @@ fn words_of(
     let moved = with(with(owned, one, 0), other, owned[one]);
     let is_other_empty = owned[other] == 0;
     match number {
-        0 if is_empty => Some(([b"none ", name, b"", b"", b""], with(owned, one, 1))),
-        1 if is_empty => Some(([b"newref ", name, b" v0", b"", b""], with(owned, one, 2))),
-        2 | 3 if owns_nothing => Some((
-            [b"num ", name, b" 1 else @29", b"", b""],
-            with(owned, one, 3),
-        )),
-        2 if !is_empty => Some(([b"drop ", name, b"", b"", b""], with(owned, one, 0))),
-        3 if !is_empty && is_other_empty => {
-            Some(([b"move ", other_name, b" ", name, b""], moved))
-        }
-        8 | 9 if owns_nothing => Some(([b"call ", name, b" show v0 else @29", b"", b""], returned)),
-        8 | 9 if owns_other => Some((
-            [b"call ", name, b" give ", other_name, b" else @29"],
-            returned,
-        )),
+        0 if is_empty => Some((b"none A", with(owned, one, 1))),
+        1 if is_empty => Some((b"newref A v0", with(owned, one, 2))),
+        2 | 3 if owns_nothing => Some((b"num A 1 else @29", with(owned, one, 3))),
+        2 if !is_empty => Some((b"drop A", with(owned, one, 0))),
+        3 if !is_empty && is_other_empty => Some((b"move B A", moved)),
+        8 | 9 if owns_nothing => Some((b"call A show v0 else @29", returned)),
+        8 | 9 if owns_other => Some((b"call A give B else @29", returned)),
         _ => None,
     }
 }
@@ -150,11 +145,11 @@ fn put_random(draft: &mut Draft) -> Result<(), Fail> {
     match number {
         4 | 5 => put_again(draft, to),
         6 => put_goto(draft),
-        _ => match words_of(number, one, other, owned) {
+        _ => match form_of(number, one, other, owned) {
             Some(made) => {
-                let words = made.0;
+                let form = made.0;
                 let after = made.1;
-                put(draft, &words)?;
+                put(draft, form, one, other)?;
                 draft.owned = after;
                 Ok(())
             }
@@ -171,26 +166,31 @@ fn text_of(alloc: Global, seed: u64) -> Result<Vec<u8>, Fail> {
         owned: [0; 3],
         seed,
     };
+    fill(&mut draft)?;
+    let Draft { lines, .. } = draft;
+    Ok(lines)
+}
+
+/// Writes a random function that is accepted.
+fn fill(draft: &mut Draft) -> Result<(), Fail> {
     for _ in 0..END {
         if draft.before.len() < END {
-            put_random(&mut draft)?;
+            put_random(draft)?;
         }
     }
     for one in 0..3 {
         if draft.owned[one] != 0 {
-            put(&mut draft, &[b"drop ", NAMES[one]])?;
+            put(draft, b"drop A", one, one)?;
             draft.owned[one] = 0;
         }
     }
     for _ in 0..LAST {
         if draft.before.len() < LAST {
-            put_plain(&mut draft)?;
+            put_plain(draft)?;
         }
     }
-    put(&mut draft, &[b"fail"])?;
-    put(&mut draft, &[b"end"])?;
-    let Draft { lines, .. } = draft;
-    Ok(lines)
+    put(draft, b"fail", 0, 0)?;
+    put(draft, b"end", 0, 0)
 }
 
 /// Fills a full table: what each exit leaves becomes the state of its target, round after round.

@@ -1,6 +1,7 @@
 //! Texts that are written: instructions, modules, as they were read and over writers that stop, numbers, and reports.
 
 use crate::instructions::{INSTRUCTIONS, is_case};
+use crate::modules::module_of;
 use crate::schedules::read_schedules;
 use brc_lang::{
     FaultCode, Kind, Module, ReadFault, Sequence, read, write, write_bytes, write_number,
@@ -91,13 +92,6 @@ impl Write for Narrow {
 
 /// Whether a writer that takes so many bytes gets the beginning of the smallest module, and no error only if it takes
 /// all.
-fn is_begun(alloc: Global, interrupts: bool, left: usize) -> Result<bool, Fail> {
-    match read(alloc, SMALLEST) {
-        Ok(module) => Ok(writes_beginning(alloc, &module, interrupts, left)),
-        Err(_) => Ok(false),
-    }
-}
-
 fn writes_beginning(alloc: Global, module: &Module, interrupts: bool, left: usize) -> bool {
     let mut writer = Narrow {
         taken: Vec::new(alloc),
@@ -219,16 +213,12 @@ fn is_last_line_printed(alloc: Global) -> Result<bool, Fail> {
     Ok(text.as_str() == "line 18446744073709551615 L8")
 }
 
-fn is_largest_written_back(alloc: Global) -> Result<bool, Fail> {
-    let text = largest(alloc)?;
-    is_written_back(alloc, &text)
-}
-
 /// The stops of a writer that takes only some of the smallest module's bytes, after which the text isn't its beginning.
 fn wrong_stops(alloc: Global, interrupts: bool) -> Result<usize, Fail> {
+    let smallest = module_of(alloc, SMALLEST)?;
     let mut wrong: usize = 0;
     for left in 0..=SMALLEST.len() {
-        if !is_begun(alloc, interrupts, left)? {
+        if !writes_beginning(alloc, &smallest, interrupts, left) {
             wrong = wrong.saturating_add(1);
         }
     }
@@ -239,7 +229,7 @@ fn wrong_stops(alloc: Global, interrupts: bool) -> Result<usize, Fail> {
 /// prints its number; and how many items of 100,000 are in a list to which they were appended.
 fn written(alloc: Global) -> Result<([bool; 3], usize), Fail> {
     let are_written = [
-        is_largest_written_back(alloc)?,
+        is_written_back(alloc, &largest(alloc)?)?,
         writes_two_mebibytes(alloc)?,
         is_last_line_printed(alloc)?,
     ];

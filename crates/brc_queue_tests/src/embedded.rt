@@ -27,14 +27,14 @@ const VALUE: u32 = 42;
 /// A hand, which a thread takes with it.
 #[derive(Drop)]
 struct Worker<'a> {
-    heap: &'a Heap<()>,
-    hand: Hand<()>,
+    heap: &'a Heap<u32>,
+    hand: Hand<u32>,
     ghost holds: { Holds heap.now hand None } by { holds-prop heap.now hand None },
     ghost apart: { hand.view.thread ≢ 0 },
 }
 
 /// Starts the thread and gives out its hand.
-fn starts<'a>(heap: &'a Heap<()>, main: &mut Hand<()>, thread: u8) -> Result<Worker<'a>, Taken>
+fn starts<'a>(heap: &'a Heap<u32>, main: &mut Hand<u32>, thread: u8) -> Result<Worker<'a>, Taken>
     requires thread { thread ≢ 0 }
     requires main { main.old.view.thread ≡ 0 }
     requires holds { Holds heap.now main.old None }
@@ -46,7 +46,7 @@ fn starts<'a>(heap: &'a Heap<()>, main: &mut Hand<()>, thread: u8) -> Result<Wor
 }
 
 /// Gives birth to a number. Returns its row, or `None` if the hand's block is full.
-pub fn bear(heap: &Heap<()>, hand: &mut Hand<()>) -> Option<u32>
+pub fn bear(heap: &Heap<u32>, hand: &mut Hand<u32>) -> Option<u32>
     requires apart { hand.old.view.thread ≢ 0 }
     requires holds { Holds heap.now hand.old None }
     ensures apart { result ≢ Some root_row }
@@ -60,7 +60,7 @@ pub fn bear(heap: &Heap<()>, hand: &mut Hand<()>) -> Option<u32>
 }
 
 /// Tries once to put the item into the cell. Returns what was there, or `None` if another thread has locked the root.
-fn try_swap(heap: &Heap<()>, hand: &mut Hand<()>, item: Option<u32>) -> Option<Option<u32>>
+fn try_swap(heap: &Heap<u32>, hand: &mut Hand<u32>, item: Option<u32>) -> Option<Option<u32>>
     requires apart { item ≢ Some root_row }
     requires holds { Holds heap.now hand.old item }
     ensures busy { result ≡ None → Holds heap.now hand.new item }
@@ -76,7 +76,7 @@ fn try_swap(heap: &Heap<()>, hand: &mut Hand<()>, item: Option<u32>) -> Option<O
 }
 
 /// Puts the item into the cell, and waits while another thread has locked the root. Returns what was there.
-fn swap<R: Wait>(rt: &R, heap: &Heap<()>, hand: &mut Hand<()>, item: Option<u32>) -> Option<u32>
+fn swap<R: Wait>(rt: &R, heap: &Heap<u32>, hand: &mut Hand<u32>, item: Option<u32>) -> Option<u32>
     requires apart { item ≢ Some root_row }
     requires holds { Holds heap.now hand.old item }
     ensures holds { Holds heap.now hand.new result }
@@ -91,7 +91,7 @@ fn swap<R: Wait>(rt: &R, heap: &Heap<()>, hand: &mut Hand<()>, item: Option<u32>
 
 /// Tries once to make a reference to the object in the cell. Returns its row, or `None` if the cell is empty, or if
 /// another thread has locked the root.
-fn try_borrow(heap: &Heap<()>, hand: &mut Hand<()>) -> Option<u32>
+fn try_borrow(heap: &Heap<u32>, hand: &mut Hand<u32>) -> Option<u32>
     requires holds { Holds heap.now hand.old None }
     ensures holds { Holds heap.now hand.new result }
 {
@@ -108,7 +108,7 @@ fn try_borrow(heap: &Heap<()>, hand: &mut Hand<()>) -> Option<u32>
 }
 
 /// Returns the value of a number.
-fn value_of(heap: &Heap<()>, hand: &mut Hand<()>, row: u32) -> u32
+fn value_of(heap: &Heap<u32>, hand: &mut Hand<u32>, row: u32) -> u32
     requires holds { Holds heap.now hand.old (Some row) }
     ensures holds { Holds heap.now hand.new (Some row) }
 {
@@ -116,7 +116,13 @@ fn value_of(heap: &Heap<()>, hand: &mut Hand<()>, row: u32) -> u32
 }
 
 /// Gives up a reference, and finalises what dies by that.
-pub fn release<R: Wait>(rt: &R, heap: &Heap<()>, hand: &mut Hand<()>, host: &mut NoFiles, row: u32)
+pub fn release<R: Wait>(
+    rt: &R,
+    heap: &Heap<u32>,
+    hand: &mut Hand<u32>,
+    host: &mut NoFiles,
+    row: u32,
+)
     requires holds { Holds heap.now hand.old (Some row) }
     ensures holds { Holds heap.now hand.new None }
 {
@@ -127,7 +133,7 @@ pub fn release<R: Wait>(rt: &R, heap: &Heap<()>, hand: &mut Hand<()>, host: &mut
 }
 
 /// Does what a thread does now and then: merges the objects that other threads have queued for it.
-fn safe_point<R: Wait>(rt: &R, heap: &Heap<()>, hand: &mut Hand<()>, host: &mut NoFiles)
+fn safe_point<R: Wait>(rt: &R, heap: &Heap<u32>, hand: &mut Hand<u32>, host: &mut NoFiles)
     requires holds { Holds heap.now hand.old None }
     ensures holds { Holds heap.now hand.new None }
 {
@@ -135,7 +141,7 @@ fn safe_point<R: Wait>(rt: &R, heap: &Heap<()>, hand: &mut Hand<()>, host: &mut 
 }
 
 /// Leaves.
-pub fn leave<R: Wait>(rt: &R, heap: &Heap<()>, hand: &mut Hand<()>, host: &mut NoFiles)
+pub fn leave<R: Wait>(rt: &R, heap: &Heap<u32>, hand: &mut Hand<u32>, host: &mut NoFiles)
     requires holds { Holds heap.now hand.old None }
     ensures table { IsOf heap.now hand.new }
     ensures thread { hand.new.view.thread ≡ hand.old.view.thread }
@@ -156,7 +162,7 @@ fn gives<R: Wait>(rt: &R, worker: Worker<'_>) {
 }
 
 /// Waits until a number is in the cell. Returns its value.
-fn reads<R: Wait>(rt: &R, heap: &Heap<()>, hand: &mut Hand<()>, host: &mut NoFiles) -> u32
+fn reads<R: Wait>(rt: &R, heap: &Heap<u32>, hand: &mut Hand<u32>, host: &mut NoFiles) -> u32
     requires holds { Holds heap.now hand.old None }
     ensures holds { Holds heap.now hand.new None }
 {
@@ -203,7 +209,7 @@ fn run<R: Threads + Wait + Sync>(
 
 /// Ends the heap. Returns how many objects were born, and how many of them are closed, or `None` if a thread hasn't
 /// left.
-fn ended(heap: Heap<()>, main: Hand<()>) -> Option<(u32, u32)>
+fn ended(heap: Heap<u32>, main: Hand<u32>) -> Option<(u32, u32)>
     requires table { IsOf heap main }
     requires main { main.view.thread ≡ 0 }
 {
@@ -225,7 +231,7 @@ fn ended(heap: Heap<()>, main: Hand<()>) -> Option<(u32, u32)>
 
 /// Returns a heap for two workers with four rows each, and main's hand.
 #[tactic(auto, using(brc_fixtures::proofs::PlainModules::has_no_lines))]
-fn opened(alloc: Global) -> Result<(Heap<()>, Hand<()>), NoMemory>
+fn opened(alloc: Global) -> Result<(Heap<u32>, Hand<u32>), NoMemory>
     ensures main { IfOk result (λ made. made.1.view.thread ≡ 0) }
     ensures holds { IfOk result (λ made. Holds made.0 made.1 None) }
 {

@@ -268,22 +268,18 @@ fn goes<R: Wait>(
     }
 }
 
-/// Lets the first worker own an object and the second one post it, in threads of their own. Returns how many files the
-/// owner has closed, and how the post went.
+/// Lets the first worker own an object and the second one post it, at the same time. Returns how many files the owner
+/// has closed, and how the post went.
 pub fn both_go<R: Threads + Wait + Sync>(
     rt: &R,
     one: Worker<'_>,
     two: Worker<'_>,
     between: &Signals,
     owner: Owner,
-) -> Result<(Option<u64>, Option<Posted>), AllocError> {
-    thread::scope(
-        thread::scope_env(),
+) -> (Option<u64>, Option<Posted>) {
+    thread::join(
         rt,
-        |scope| -> Result<(Option<u64>, Option<Posted>), AllocError> {
-            let one = scope.spawn(move || owns(rt, one, between, owner))?;
-            let two = scope.spawn(move || posts(rt, two, between, owner))?;
-            Ok((one.join(rt), two.join(rt)))
-        },
+        move || owns(rt, one, between, owner),
+        move || posts(rt, two, between, owner),
     )
 }

@@ -5,14 +5,13 @@ ghost use Rattle.brc_model.specs.Layout.{IsCounted, root_row};
 ghost use Rattle.brc_table.specs.Hands.{IsOf};
 ghost use Rattle.brc_queue_tests.specs.Sharing.{HasWork, HoldsRoot, small_layout, holds-prop};
 
-use crate::borrowed::borrowed;
 use crate::sharing::{ROW, all_closed, bears, leaves, opened, settles, tries_put, tries_take};
 use brc_free::Finaliser;
 use brc_heap::{Hand, Heap};
 use brc_host::{FakeHost, FakeResource};
 use brc_lang::Kind;
 use brc_queue::Queue;
-use std::alloc::{AllocError, Global};
+use std::alloc::Global;
 use std::sync::Wait;
 use std::test::*;
 use std::thread;
@@ -113,28 +112,14 @@ fn exchanges_by<R: Wait>(
     settles(rt, heap, hand, &mut host) == 0 && leaves(rt, heap, hand, &mut host)
 }
 
-/// Lets two workers exchange their numbers in threads of their own. Returns whether both have left.
-fn both_exchange<R: Threads + Wait + Sync>(
-    rt: &R,
-    one: Worker<'_>,
-    two: Worker<'_>,
-) -> Result<bool, AllocError> {
-    thread::scope(
-        thread::scope_env(),
+/// Lets two workers exchange their numbers at the same time. Returns whether both have left.
+fn both_exchange<R: Threads + Wait + Sync>(rt: &R, one: Worker<'_>, two: Worker<'_>) -> bool {
+    let (first, second) = thread::join(
         rt,
-        |scope| -> Result<bool, AllocError> {
-            let one = scope.spawn(move || exchanges(rt, one, (0, ROW), (1, OTHER)))?;
-            let two = scope.spawn(move || exchanges(rt, two, (1, OTHER), (0, ROW)))?;
-            Ok(one.join(rt) & two.join(rt))
-        },
-    )
-}
-
-/// Returns the hand with its heap.
-pub fn ready<'a>(heap: &'a Heap<FakeResource>, hand: Hand<FakeResource>) -> Worker<'a>
-    requires holds { HoldsRoot heap.now hand }
-{
-    Worker { heap, hand }
+        move || exchanges(rt, one, (0, ROW), (1, OTHER)),
+        move || exchanges(rt, two, (1, OTHER), (0, ROW)),
+    );
+    first && second
 }
 
 /// Lets the workers exchange their numbers, and main leave. Returns whether all have left.
@@ -152,24 +137,16 @@ fn all_exchange<R: Threads + Wait + Sync>(
     ensures thread { main.new.view.thread ≡ main.old.view.thread }
 {
     let mut host = FakeHost::new(&[]);
-    let done = both_exchange(rt, ready(heap, one), ready(heap, two));
-    leaves(rt, heap, main, &mut host) && done.unwrap_or(false)
+    let done = both_exchange(rt, Worker { heap, hand: one }, Worker { heap, hand: two });
+    leaves(rt, heap, main, &mut host) && done
 }
 
 /// Plays this over a heap of its own. Returns whether all have left, and whether all objects are closed at the end.
-fn exchanged<R: Threads + Wait + Sync>(
+pub fn exchanged<R: Threads + Wait + Sync>(
     rt: &R,
     alloc: Global,
 ) -> Result<(bool, Option<bool>), Fail> {
     let (heap, mut main, one, two) = opened(alloc)?;
     let done = all_exchange(rt, &heap, &mut main, one, two);
     Ok((done, all_closed(heap, main)))
-}
-
-/// A borrowed item is retained; and two workers, in threads of their own, post to each other.
-#[test]
-fn what_is_shared_is_closed(rt: HostRuntime) -> Result<(), Fail> {
-    assert_eq!(rt; borrowed(&rt, rt.alloc())?, (true, Some(true)));
-    assert_eq!(rt; exchanged(&rt, rt.alloc())?, (true, Some(true)));
-    Ok(())
 }

@@ -8,7 +8,7 @@ use brc_host::{Fault, Host, HostCounts};
 use brc_lang::Mode;
 use std::marker::Model;
 
-/// A host that opens no file and reaches no peer. It counts what fails.
+/// A host that opens no file and reaches no peer, and closes whatever number it is given. It counts what fails.
 #[derive(Drop)]
 pub struct NoFiles {
     counts: HostCounts,
@@ -34,37 +34,37 @@ impl NoFiles {
 }
 
 impl Host for NoFiles {
-    type Res = ();
+    type Res = u32;
 
     ghost counts = { λ host. host };
 
     ghost answers = { λ before call after. after ≡ after_call call before };
 
-    fn open(&mut self, _path: u8, _mode: Mode) -> Result<(), Fault> {
+    fn open(&mut self, _path: u8, _mode: Mode) -> Result<u32, Fault> {
         let file = Err(Fault);
         self.counts.count_opening(&file);
         file
     }
 
-    fn connect(&mut self, _peer: u8) -> Result<(), Fault> {
+    fn connect(&mut self, _peer: u8) -> Result<u32, Fault> {
         let connection = Err(Fault);
         self.counts.count_opening(&connection);
         connection
     }
 
-    fn read(&mut self, _from: &mut (), _most: u16) -> Result<u16, Fault> {
+    fn read(&mut self, _from: &mut u32, _most: u16) -> Result<u16, Fault> {
         let got = Err(Fault);
         self.counts.count_use(&got);
         got
     }
 
-    fn write(&mut self, _to: &mut (), _bytes: &[u8]) -> Result<(), Fault> {
+    fn write(&mut self, _to: &mut u32, _bytes: &[u8]) -> Result<(), Fault> {
         let written = Err(Fault);
         self.counts.count_use(&written);
         written
     }
 
-    fn close(&mut self, _resource: ()) -> Result<(), Fault> {
+    fn close(&mut self, _resource: u32) -> Result<(), Fault> {
         let closed = Ok(());
         self.counts.count_close(&closed);
         closed

@@ -4,8 +4,9 @@ ghost use Rattle.std.specs.Prelude.{◌≡◌};
 ghost use Rattle.brc_table.specs.Hands.{IsOf};
 ghost use Rattle.brc_queue_tests.specs.Sharing.{HoldsRoot};
 
+use crate::borrowed::borrowed;
 use crate::held_post::{Owner, Posted, Signals, both_go};
-use crate::meeting::ready;
+use crate::meeting::{Worker, exchanged};
 use crate::sharing::{all_closed, leaves, opened};
 use brc_heap::{Hand, Heap, MergeStep, SharedRelease};
 use brc_host::{FakeHost, FakeResource};
@@ -35,12 +36,10 @@ fn all_go<R: Threads + Wait + Sync>(
     ensures thread { main.new.view.thread ≡ main.old.view.thread }
 {
     let mut host = FakeHost::new(&[]);
-    let found = both_go(rt, ready(heap, one), ready(heap, two), between, owner);
-    let left = leaves(rt, heap, main, &mut host);
-    match found {
-        Ok((files, posted)) => (files, posted, left),
-        Err(_) => (None, None, left),
-    }
+    let one = Worker { heap, hand: one };
+    let two = Worker { heap, hand: two };
+    let (files, posted) = both_go(rt, one, two, between, owner);
+    (files, posted, leaves(rt, heap, main, &mut host))
 }
 
 /// Plays this over a heap of its own. Returns what was found, and whether all objects are closed at the end.
@@ -78,6 +77,15 @@ const POSTS: [(&str, Owner, u64, Posted); 4] = [
     ),
     ("stays", Owner::Stays, 1, (Looked::Left, None)),
 ];
+
+/// A borrowed item is retained; and two workers, in threads of their own, post to each other.
+#[test]
+fn what_is_shared_is_closed(rt: HostRuntime) -> Result<(), Fail> {
+    let alloc = rt.alloc();
+    let found = (borrowed(&rt, alloc)?, exchanged(&rt, alloc)?);
+    assert_eq!(rt; found, ((true, Some(true)), (true, Some(true))));
+    Ok(())
+}
 
 /// Objects that are posted die.
 #[test]

@@ -7,14 +7,13 @@ ghost use Rattle.brc_table.specs.Hands.{IsOf};
 ghost use Rattle.brc_queue_tests.specs.Embedded.{Holds, holds-prop};
 ghost use Rattle.brc_queue_tests.specs.Modules.{static_layout};
 
+use crate::embedded::{leave, release};
 use crate::modules::static_module;
-use crate::numbered_files::NumberedFiles;
-use brc_free::Finaliser;
+use crate::no_files::NoFiles;
 use brc_heap::{Final, Hand, Heap, ROOT, Taken};
 use brc_lang::Kind;
 use brc_list::Lists;
-use brc_queue::Queue;
-use std::alloc::{AllocError, Global};
+use std::alloc::Global;
 use std::sync::Wait;
 use std::test::*;
 use std::thread;
@@ -111,36 +110,10 @@ fn bear(heap: &Heap<u32>, hand: &mut Hand<u32>, resource: u32) -> Option<u32>
     }
 }
 
-/// Gives up a reference, and finalises what dies by that.
-fn release<R: Wait>(
-    rt: &R,
-    heap: &Heap<u32>,
-    hand: &mut Hand<u32>,
-    host: &mut NumberedFiles,
-    row: u32,
-)
-    requires holds { Holds heap.now hand.old (Some row) }
-    ensures holds { Holds heap.now hand.new None }
-{
-    let queue = Queue::new(heap);
-    let finaliser = Finaliser::new(heap, &queue);
-    finaliser.release(rt, hand, row);
-    finaliser.settle(rt, hand, host);
-}
-
-/// Leaves.
-fn leave<R: Wait>(rt: &R, heap: &Heap<u32>, hand: &mut Hand<u32>, host: &mut NumberedFiles)
-    requires holds { Holds heap.now hand.old None }
-    ensures table { IsOf heap.now hand.new }
-    ensures thread { hand.new.view.thread ≡ hand.old.view.thread }
-{
-    Queue::new(heap).leave(rt, hand, host);
-}
-
 /// A thread: puts a file of its own in the place of the number in the cell, and gives that up.
 fn puts<R: Wait>(rt: &R, worker: Worker<'_>, cell: u32, resource: u32) {
     let Worker { heap, mut hand } = worker;
-    let mut host = NumberedFiles::new();
+    let mut host = NoFiles::new();
     let item = bear(heap, &mut hand, resource);
     if let Some(row) = swap(rt, heap, &mut hand, LIST, cell, item) {
         release(rt, heap, &mut hand, &mut host, row);
@@ -149,18 +122,12 @@ fn puts<R: Wait>(rt: &R, worker: Worker<'_>, cell: u32, resource: u32) {
 }
 
 /// Runs the two threads until both have left.
-fn run<R: Threads + Wait + Sync>(
-    rt: &R,
-    one: Worker<'_>,
-    two: Worker<'_>,
-) -> Result<(), AllocError> {
-    thread::scope(thread::scope_env(), rt, |scope| -> Result<(), AllocError> {
-        let one = scope.spawn(move || puts(rt, one, 0, FILES[0]))?;
-        let two = scope.spawn(move || puts(rt, two, 1, FILES[1]))?;
-        one.join(rt);
-        two.join(rt);
-        Ok(())
-    })
+fn run<R: Threads + Wait + Sync>(rt: &R, one: Worker<'_>, two: Worker<'_>) {
+    thread::join(
+        rt,
+        move || puts(rt, one, 0, FILES[0]),
+        move || puts(rt, two, 1, FILES[1]),
+    );
 }
 
 /// What the ended heap says: how many objects it has but for none, how many of them are immortal, and how many are
@@ -238,8 +205,8 @@ fn both_put<R: Threads + Wait + Sync>(
 {
     let one = starts(heap, main, 1)?;
     let two = starts(heap, main, 2)?;
-    run(rt, one, two)?;
-    leave(rt, heap, main, &mut NumberedFiles::new());
+    run(rt, one, two);
+    leave(rt, heap, main, &mut NoFiles::new());
     Ok(())
 }
 

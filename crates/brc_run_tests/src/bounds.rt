@@ -24,28 +24,27 @@ const SAME_IN_BOTH: &[u8] =
     b"module 3\nstatic 5 6\nfunc f\ntake v1 0\nlock v1\nfetch v2 v1 0 else @8\nput v1 1 v2 else @4\nunlock v1\n\
     drop v2\ndrop v1\nfail\nunlock v1\ndrop v1\nfail\nend\n";
 
-/// Lets 32 workers call the module, and stops each at the bound. Returns the report's numbers.
-fn stopped<R: System>(rt: &R, alloc: Global, text: &[u8], steps: u64) -> Counts {
-    let run: Run = (32, 8, 4, steps);
+/// A million locks and changes of one list.
+const LOCKS: Run = (32, 4, 31_250, u64::MAX);
+
+/// Lets 32 workers call the module. Returns the report's numbers.
+fn counts_of<R: System>(rt: &R, alloc: Global, text: &[u8], run: Run) -> Counts {
     report_of(rt, alloc, text, run, &[], &[], &Open).unwrap_or([0; 7])
 }
 
+// A number that was in the second cell of the list is closed once.
 #[test]
 fn workers_that_are_stopped_leave_nothing(rt: HostRuntime) {
     for text in MODULES {
         for number in 0..ROUNDS * (MOST_STEPS + 1) {
             let steps = number % (MOST_STEPS + 1);
-            let counts = stopped(&rt, rt.alloc(), text, steps);
+            let counts = counts_of(&rt, rt.alloc(), text, (32, 8, 4, steps));
             let created = counts[2];
             assert_eq!(rt; counts, [32, 0, created, created, 0, 0, 0], "{steps} steps");
         }
     }
-}
-
-// Locks and changes of one list. The number that was in the second cell is closed once.
-#[test]
-fn a_million_locks(rt: HostRuntime) {
-    let run: Run = (32, 4, 31_250, u64::MAX);
-    let counts = report_of(&rt, rt.alloc(), SAME_IN_BOTH, run, &[], &[], &Open);
-    assert_eq!(rt; counts, Some([32, 0, 3, 2, 1, 0, 0]));
+    assert_eq!(rt;
+        counts_of(&rt, rt.alloc(), SAME_IN_BOTH, LOCKS),
+        [32, 0, 3, 2, 1, 0, 0]
+    );
 }

@@ -25,24 +25,6 @@ const COPIES: &[([&[u64]; 2], Counts)] = &[
     ([&[3, 5], &[2, 3]], [2, 0, 6, 6, 0, 2, 2]),
 ];
 
-#[test]
-fn everything_is_closed_whichever_calls_fail(rt: HostRuntime) {
-    for (plans, want) in COPIES {
-        assert_eq!(rt; copied(&rt, *plans), Some((*want, true)));
-    }
-    for second in 1..7u64 {
-        for first in 0..second {
-            let plan = [first, second];
-            let copied = copied(&rt, [&plan, &plan]);
-            let [_, _, created, _, _, host_faults, close_faults] = copied
-                .unwrap_or(([0; 7], false))
-                .0;
-            let want = [2, 0, created, created, 0, host_faults, close_faults];
-            assert_eq!(rt; copied, Some((want, true)), "{first} and {second}");
-        }
-    }
-}
-
 /// Lets each of two workers make a copy, over hosts of these plans. Returns the report, and whether each host has
 /// closed what it had opened.
 fn copied<R: AllocGlobal + Threads + Wait + Sync>(
@@ -102,16 +84,6 @@ const EXITS: [([&[u64]; 2], u64); 4] = [
     ([&[1], &[0]], 2),
 ];
 
-/// The second worker takes the first one's file out of the root, which it doesn't own: so the first one's exit merges
-/// and closes it, by call 1 of the first host. The second file is closed as main leaves, by call 0 of main's host.
-#[test]
-fn a_report_has_the_faults_of_the_exits(rt: HostRuntime) {
-    for (plans, close_faults) in EXITS {
-        let counts = [2, 0, 3, 3, 0, 0, close_faults];
-        assert_eq!(rt; kept(&rt, plans), Some((counts, [1, 0, 1], false)));
-    }
-}
-
 /// Lets two workers open a file each, one after the other, over hosts of these plans for the first worker and main, and
 /// of one for the second whose close fails. Returns the report, what the workers' hosts and main's have closed, and
 /// whether a worker has missed the other.
@@ -129,4 +101,29 @@ fn kept<R: AllocGlobal + Threads + Wait + Sync>(
     let [one, other] = &hosts;
     let closed = [one.closed(), other.closed(), main_host.closed()];
     Some((counts, closed, gate.missed.load(Ordering::SeqCst)))
+}
+
+/// Everything is closed, whichever calls fail. At the exits, the second worker takes the first one's file out of the root,
+/// which it doesn't own: so the first one's exit merges and closes it, by call 1 of the first host. The second file is
+/// closed as main leaves, by call 0 of main's host.
+#[test]
+fn faults_are_reported(rt: HostRuntime) {
+    for (plans, want) in COPIES {
+        assert_eq!(rt; copied(&rt, *plans), Some((*want, true)));
+    }
+    for second in 1..7u64 {
+        for first in 0..second {
+            let plan = [first, second];
+            let copied = copied(&rt, [&plan, &plan]);
+            let [_, _, created, _, _, host_faults, close_faults] = copied
+                .unwrap_or(([0; 7], false))
+                .0;
+            let want = [2, 0, created, created, 0, host_faults, close_faults];
+            assert_eq!(rt; copied, Some((want, true)), "{first} and {second}");
+        }
+    }
+    for (plans, close_faults) in EXITS {
+        let counts = [2, 0, 3, 3, 0, 0, close_faults];
+        assert_eq!(rt; kept(&rt, plans), Some((counts, [1, 0, 1], false)));
+    }
 }

@@ -26,7 +26,7 @@ const ROWS: u16 = 1024;
 const TIMES: u32 = 3;
 
 /// Where memory was refused, or how many objects were created and closed.
-#[derive(Clone, Copy, Debug, PartialEq, Eq)]
+#[derive(Debug, Drop)]
 enum Outcome {
     /// L8, in reading the module.
     Reading,
@@ -142,10 +142,10 @@ fn swaps<R: Threads + Wait + Sync>(rt: &R, alloc: Global) -> Outcome {
 }
 
 /// Returns whether the run said where memory was refused and closed what was made, or had ample memory and made all.
-fn is_right(outcome: Outcome) -> bool {
+fn is_right(outcome: &Outcome) -> bool {
     match outcome {
-        Outcome::Ended { created, closed } => created == 13 && closed == 13,
-        Outcome::Starting { created, closed } => created == closed,
+        Outcome::Ended { created, closed } => *created == 13 && *closed == 13,
+        Outcome::Starting { created, closed } => *created == *closed,
         Outcome::Reading | Outcome::Checking | Outcome::Opening => true,
         Outcome::Wrong => false,
     }
@@ -156,5 +156,5 @@ fn is_right(outcome: Outcome) -> bool {
 fn each_refusal_is_answered(rt: HostRuntime) {
     let outcome = swaps(&rt, rt.alloc());
     let _ = eprintln!(rt; "{outcome:?}");
-    assert!(rt; is_right(outcome));
+    assert!(rt; is_right(&outcome));
 }

@@ -48,7 +48,7 @@ pub type Meetings = [u64; 4];
 pub type Run = (u8, u16, u32, u64);
 
 /// A gate that hears of nothing.
-#[derive(Clone, Copy, Debug)]
+#[derive(Drop)]
 pub struct Open;
 
 impl Gate for Open {

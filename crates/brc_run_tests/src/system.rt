@@ -57,7 +57,7 @@ fn report_on<R: AllocGlobal + System>(
 }
 
 /// Makes a folder for one test.
-fn make_folder(rt: &HostRuntime, test: &str) -> Result<String, Fail> {
+pub fn make_folder(rt: &HostRuntime, test: &str) -> Result<String, Fail> {
     let name = format!(in rt.alloc(); "brc-run-{test}-{}", process::id(rt.process()))?;
     let folder = env::temp_dir(rt)?.join(rt.alloc(), name.as_str())?;
     fs::create_dir(rt, folder.as_path())?;

@@ -21,7 +21,7 @@ use std::test::*;
 
 /// What a host should be asked for: the path and the mode of a file, a peer, how many bytes to read, and the bytes to
 /// write.
-#[derive(Clone, Copy, Drop)]
+#[derive(Drop)]
 struct Asked<'a> {
     path: u8,
     mode: Mode,
@@ -58,7 +58,7 @@ impl Notes {
 struct NotingHost<'a> {
     fake: FakeHost<'a>,
     gate: &'a Hearing,
-    asked: Asked<'a>,
+    asked: &'a Asked<'a>,
     notes: Notes,
 }
 
@@ -114,7 +114,7 @@ fn noted<R: Wait>(
     rt: &R,
     alloc: Global,
     text: &[u8],
-    asked: Asked<'_>,
+    asked: &Asked<'_>,
 ) -> Result<(u64, u64), Fail> {
     let checked = accepted(alloc, text)?;
     noted_of(rt, alloc, &checked, asked)
@@ -125,7 +125,7 @@ fn noted_of<R: Wait>(
     rt: &R,
     alloc: Global,
     checked: &Checked,
-    asked: Asked<'_>,
+    asked: &Asked<'_>,
 ) -> Result<(u64, u64), Fail> {
     let function = last_function(checked)?;
     let (heap, mut main) = opened(alloc, checked, 1, MOST_ROWS)?;
@@ -140,7 +140,7 @@ fn notes_of<R: Wait>(
     checked: &Checked,
     function: usize,
     hand: &mut Hand<FakeResource>,
-    asked: Asked<'_>,
+    asked: &Asked<'_>,
 ) -> (u64, u64)
     requires function { function < length checked.now.module.functions }
     requires parameters { (function_at checked.now.module.functions function).parameters ≡ [] }
@@ -186,15 +186,6 @@ const WRITE_MOST: &[u8] =
     b"module 1\nfunc f\nopen v1 15 w else @7\nnum v2 4294967295 else @6\nlock v1\nwrite v1 v2 else @4\n\
     unlock v1\ndrop v2\ndrop v1\nfail\nend\n";
 
-/// The host is asked to write a number to a file.
-const WRITTEN: Asked<'static> = Asked {
-    path: 15,
-    mode: Mode::WRITE,
-    peer: 0,
-    most: 0,
-    bytes: b"",
-};
-
 /// The host is asked to read from a file, and to write to a peer.
 fn told() -> Asked<'static> {
     Asked {
@@ -206,6 +197,17 @@ fn told() -> Asked<'static> {
     }
 }
 
+/// The host is asked to write these bytes to a file.
+fn written(bytes: &[u8]) -> Asked<'_> {
+    Asked {
+        path: 15,
+        mode: Mode::WRITE,
+        peer: 0,
+        most: 0,
+        bytes,
+    }
+}
+
 /// Modules that write a number to a file, and what they write.
 const WRITES: &[(&[u8], &[u8])] = &[(WRITE_LEAST, b"0\n"), (WRITE_MOST, b"4294967295\n")];
 
@@ -213,13 +215,13 @@ const WRITES: &[(&[u8], &[u8])] = &[(WRITE_LEAST, b"0\n"), (WRITE_MOST, b"429496
 #[test]
 fn the_host_is_asked_for_what_the_instructions_say(rt: HostRuntime) -> Result<(), Fail> {
     let alloc = rt.alloc();
-    assert_eq!(rt; noted(&rt, alloc, READ_AND_TELL, told())?, (8, 0));
+    assert_eq!(rt; noted(&rt, alloc, READ_AND_TELL, &told())?, (8, 0));
     for (text, bytes) in WRITES {
-        let asked = Asked {
-            bytes: *bytes,
-            ..WRITTEN
-        };
-        assert_eq!(rt; noted(&rt, alloc, text, asked)?, (4, 0), "{bytes:?}");
+        assert_eq!(rt;
+            noted(&rt, alloc, text, &written(bytes))?,
+            (4, 0),
+            "{bytes:?}"
+        );
     }
     for (name, calls, heard) in ORDERS {
         assert_eq!(rt; heard_after(calls), *heard, "{name}");

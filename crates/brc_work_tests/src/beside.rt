@@ -10,7 +10,7 @@ use crate::calls::{leaves, makes_calls, opened, worker_hand};
 use crate::hearing::{Hearing, WORKER};
 use crate::runs::{MOST_ROWS, objects_left};
 use brc_check::Checked;
-use brc_fixtures::{accepted, is_callable};
+use brc_fixtures::is_callable;
 use brc_heap::{Hand, Heap};
 use brc_host::{FakeHost, FakeResource};
 use std::alloc::Global;
@@ -108,20 +108,9 @@ fn all_leave<R: Threads + Wait + Sync>(
     Some(done)
 }
 
-/// Lets two workers call the text's first two functions at the same time, one each, and begin at most `steps`
+/// Lets two workers call the module's first two functions at the same time, one each, and begin at most `steps`
 /// instructions. Returns whether one has made all its calls, and the objects that were created, closed and are alive.
 pub fn beside<R: Threads + Wait + Sync>(
-    rt: &R,
-    alloc: Global,
-    text: &[u8],
-    steps: u64,
-) -> Result<(bool, [u64; 3]), Fail> {
-    let checked = accepted(alloc, text)?;
-    beside_of(rt, alloc, &checked, steps)
-}
-
-/// Does what `beside` does, of a module that is accepted.
-fn beside_of<R: Threads + Wait + Sync>(
     rt: &R,
     alloc: Global,
     checked: &Checked,

@@ -4,7 +4,7 @@
 use crate::beside::beside;
 use crate::faults::{COPY, FILE_IN_CALLS};
 use crate::hearing::Hearing;
-use crate::runs::{MOST_ROWS, Outcome, run_apart, run_in_thread, run_over};
+use crate::runs::{MOST_ROWS, run_apart, run_twice};
 use crate::worked::{
     FOUR_PASSES, HAND_BACK, IN_ITSELF, KEEP, NOTHING, OWN_TURNS, SET_OUT_OF_RANGE, THREE_OPEN,
 };
@@ -12,7 +12,6 @@ use brc_check::Checked;
 use brc_fixtures::accepted;
 use brc_host::FakeHost;
 use std::alloc::Global;
-use std::process::Abort;
 use std::sync::Wait;
 use std::test::*;
 use std::thread::Threads;
@@ -154,19 +153,33 @@ const TWO_FUNCTIONS: &[u8] =
 /// How many instructions a call of `own` begins, of which the first makes a number.
 const OWN_STEPS: u64 = 12;
 
-/// Lets two workers call the function of this number four times, and begin at most `steps` instructions. Returns
-/// whether one has made all its calls, and the objects that were created, closed and are alive.
-fn two_stopped<R: Threads + Wait + Sync>(
+/// Lets two workers call the first function four times each, the second one, or one each, and begin at most `steps`
+/// instructions. Returns of each whether one has made all its calls, and the objects that were created, closed and are
+/// alive.
+fn all_stopped<R: Threads + Wait + Sync>(
     rt: &R,
     alloc: Global,
-    function: usize,
     steps: u64,
-) -> Result<(bool, [u64; 3]), Fail> {
+) -> Result<[(bool, [u64; 3]); 3], Fail> {
     let checked = accepted(alloc, TWO_FUNCTIONS)?;
-    both_stop(rt, alloc, &checked, function, steps)
+    all_stop(rt, alloc, &checked, steps)
 }
 
-/// Does what `two_stopped` does, of the module.
+/// Does what `all_stopped` does, of the module.
+fn all_stop<R: Threads + Wait + Sync>(
+    rt: &R,
+    alloc: Global,
+    checked: &Checked,
+    steps: u64,
+) -> Result<[(bool, [u64; 3]); 3], Fail> {
+    Ok([
+        both_stop(rt, alloc, checked, 0, steps)?,
+        both_stop(rt, alloc, checked, 1, steps)?,
+        beside(rt, alloc, checked, steps)?,
+    ])
+}
+
+/// Lets two workers call the function of this number four times. Returns what `all_stopped` does.
 fn both_stop<R: Threads + Wait + Sync>(
     rt: &R,
     alloc: Global,
@@ -183,20 +196,6 @@ fn both_stop<R: Threads + Wait + Sync>(
         return Err("there are two workers")?;
     };
     Ok((one.is_done() || other.is_done(), objects))
-}
-
-/// Lets two workers call the first function, the second one, or one each, and begin at most `steps` instructions.
-/// Returns of each whether one has made all its calls, and the objects that were created, closed and are alive.
-fn all_stopped<R: Threads + Wait + Sync>(
-    rt: &R,
-    alloc: Global,
-    steps: u64,
-) -> Result<[(bool, [u64; 3]); 3], Fail> {
-    Ok([
-        two_stopped(rt, alloc, 0, steps)?,
-        two_stopped(rt, alloc, 1, steps)?,
-        beside(rt, alloc, TWO_FUNCTIONS, steps)?,
-    ])
 }
 
 /// Returns what two workers that call the first function, the second one, or one each lead to at this bound.
@@ -219,50 +218,17 @@ fn objects_at(wants: &[[u64; 3]], steps: u64) -> [u64; 3] {
     }
 }
 
-/// Asserts what the case leads to at this bound, in a thread of its own too. No call of the host fails, and the host
-/// has closed what it has opened.
-fn expect_stop<R: Threads + Wait + Sync + Abort>(
-    rt: &R,
-    alloc: Global,
-    case: &Case<'_>,
-    steps: u64,
-) -> Result<(), Fail> {
-    let (name, text, instructions, wants) = case;
-    let ran = run_over(rt, alloc, text, MOST_ROWS, 1, steps, &[])?;
-    let apart = run_in_thread(rt, alloc, text, MOST_ROWS, 1, steps, &[])?;
-    let [created, closed, alive] = objects_at(wants, steps);
-    let wanted = Outcome {
-        counts: [created, closed, alive, 0, 0],
-        closed: ran.opened,
-        done: steps >= *instructions,
-        ..ran
-    };
-    assert_eq!(rt;
-        (ran, apart),
-        (wanted, wanted),
-        "{name}, {steps} steps, and in a thread of its own"
-    );
-    Ok(())
-}
-
-/// Returns whether the worker of a run has made all its calls, and what its gate has heard.
-fn heard_of<R: Wait>(
-    rt: &R,
-    alloc: Global,
-    bounded: &Bounded<'_>,
-) -> Result<(bool, Option<u64>), Fail> {
-    let ran = run_over(rt, alloc, bounded.1, MOST_ROWS, bounded.2, bounded.3, &[])?;
-    Ok((ran.done, ran.heard))
-}
-
 /// A stopped worker has given up what it owned; a run is done unless its bound is met; and of two workers both stop,
 /// whether they call one function or one each, as their four calls begin more instructions than any of the bounds.
 #[test]
 fn bounds_stop_workers(rt: HostRuntime) -> Result<(), Fail> {
     let alloc = rt.alloc();
     for steps in 0..=MOST_STEPS {
-        for case in CASES {
-            expect_stop(&rt, alloc, case, steps)?;
+        for (name, text, instructions, wants) in CASES {
+            let (counts, _, _, done) = run_twice(&rt, alloc, text, (MOST_ROWS, 1, steps, &[]))?;
+            let [created, closed, alive] = objects_at(wants, steps);
+            let wanted = ([created, closed, alive, 0, 0], steps >= *instructions);
+            assert_eq!(rt; (counts, done), wanted, "{name}, {steps} steps");
         }
         assert_eq!(rt;
             all_stopped(&rt, alloc, steps)?,
@@ -270,9 +236,9 @@ fn bounds_stop_workers(rt: HostRuntime) -> Result<(), Fail> {
             "{steps} steps"
         );
     }
-    for bounded in BOUNDED {
-        let heard = heard_of(&rt, alloc, bounded)?;
-        assert_eq!(rt; heard, (bounded.4, Some(bounded.5)), "{}", bounded.0);
+    for (name, text, calls, steps, is_done, heard) in BOUNDED {
+        let (_, _, found, done) = run_twice(&rt, alloc, text, (MOST_ROWS, *calls, *steps, &[]))?;
+        assert_eq!(rt; (done, found), (*is_done, Some(*heard)), "{name}");
     }
     Ok(())
 }

@@ -1,13 +1,12 @@
 //! Runs over a host that fails: its faults are counted, and each file or connection that it has opened is closed once.
 
 use crate::hearing::Hearing;
-use crate::runs::{Counts, MOST_ROWS, Outcome, run_apart, run_in_thread, run_over};
+use crate::runs::{Counts, MOST_ROWS, Run, run_apart, run_twice};
 use brc_check::Checked;
 use brc_fixtures::accepted;
 use brc_host::{FakeHost, Host};
 use brc_work::Totals;
 use std::alloc::Global;
-use std::process::Abort;
 use std::sync::Wait;
 use std::test::*;
 use std::thread::Threads;
@@ -142,28 +141,6 @@ fn left_by(totals: Totals, host: &FakeHost<'_>) -> Left {
     )
 }
 
-/// Asserts that everything is closed if these two calls of a copy fail, in a thread of its own too.
-fn expect_closed<R: Threads + Wait + Sync + Abort>(
-    rt: &R,
-    alloc: Global,
-    plan: [u64; 2],
-) -> Result<(), Fail> {
-    let ran = run_over(rt, alloc, COPY, MOST_ROWS, 1, u64::MAX, &plan)?;
-    let apart = run_in_thread(rt, alloc, COPY, MOST_ROWS, 1, u64::MAX, &plan)?;
-    let [created, _, _, host_faults, close_faults] = ran.counts;
-    let wanted = Outcome {
-        counts: [created, created, 0, host_faults, close_faults],
-        closed: ran.opened,
-        ..ran
-    };
-    assert_eq!(rt;
-        (ran, apart),
-        (wanted, wanted),
-        "calls {plan:?}, and in a thread of its own"
-    );
-    Ok(())
-}
-
 /// What is left if of two workers the first one's open fails, and of the second, which makes the whole copy, both
 /// closes.
 const LEFT: ([Left; 2], [u64; 3], u64) = ([(0, 1, 0, 0, 0), (3, 0, 2, 2, 2)], [4, 4, 0], 0);
@@ -174,7 +151,11 @@ fn faults_of_hosts_are_counted(rt: HostRuntime) -> Result<(), Fail> {
     let alloc = rt.alloc();
     for second in 1..7u64 {
         for first in 0..second {
-            expect_closed(&rt, alloc, [first, second])?;
+            let run: Run = (MOST_ROWS, 1, u64::MAX, &[first, second]);
+            let (counts, _, _, _) = run_twice(&rt, alloc, COPY, run)?;
+            let [created, _, _, host_faults, close_faults] = counts;
+            let wanted = [created, created, 0, host_faults, close_faults];
+            assert_eq!(rt; counts, wanted, "calls {first} and {second}");
         }
     }
     assert_eq!(rt; two_copies(&rt, alloc, [&[0], &[4, 5]])?, LEFT);

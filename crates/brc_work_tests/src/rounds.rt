@@ -80,19 +80,9 @@ impl Gate for Enough {
     fn after(&self, _thread: u8, _call: u32) {}
 }
 
-/// Lets a worker make calls of the text's module until there are enough. Returns how many rounds were stopped by their
-/// bound, and the objects that were created, closed and are alive.
-fn in_rounds<R: Wait>(rt: &R, alloc: Global, text: &[u8]) -> Result<(u32, [u64; 3]), Fail> {
-    let checked = accepted(alloc, text)?;
-    in_rounds_of(rt, alloc, &checked)
-}
-
-/// Does what `in_rounds` does, of a module that is accepted.
-fn in_rounds_of<R: Wait>(
-    rt: &R,
-    alloc: Global,
-    checked: &Checked,
-) -> Result<(u32, [u64; 3]), Fail> {
+/// Lets a worker make calls of the module until there are enough. Returns how many rounds were stopped by their bound,
+/// and the objects that were created, closed and are alive.
+fn in_rounds<R: Wait>(rt: &R, alloc: Global, checked: &Checked) -> Result<(u32, [u64; 3]), Fail> {
     if !is_callable(checked, 0) {
         return Err("the first function has no parameters")?;
     }
@@ -150,21 +140,9 @@ fn rounds<R: Wait>(
 /// The births that a worker has counted in a run, and what its gate has heard.
 type Run = (u32, Option<u64>);
 
-/// Lets a worker call the last function of the text's module `times` times, with at most `steps` instructions, and
-/// then once more without a bound. Each of the two runs has a gate of its own.
+/// Lets a worker call the module's last function `times` times, with at most `steps` instructions, and then once more
+/// without a bound. Each of the two runs has a gate of its own.
 fn two_runs<R: Wait>(
-    rt: &R,
-    alloc: Global,
-    text: &[u8],
-    times: u32,
-    steps: u64,
-) -> Result<[Run; 2], Fail> {
-    let checked = accepted(alloc, text)?;
-    two_runs_of(rt, alloc, &checked, times, steps)
-}
-
-/// Does what `two_runs` does, of a module that is accepted.
-fn two_runs_of<R: Wait>(
     rt: &R,
     alloc: Global,
     checked: &Checked,
@@ -221,18 +199,35 @@ fn run_of<R: Wait>(
     (ran.totals().created, gate.heard())
 }
 
-/// Each run counts its own births and calls. In rounds, a call begins 13 instructions, and makes four numbers. So a
-/// round of 100 instructions makes seven calls, and stops in the eighth one behind its third number. The third round
-/// has the call that is more than enough.
+/// Two pairs of runs, and calls in rounds.
+type Runs = ([Run; 2], [Run; 2], (u32, [u64; 3]));
+
+/// Lets a worker make all of its calls, stop in the first one, and make calls in rounds.
+fn all_runs<R: Wait>(rt: &R, alloc: Global, checked: &Checked) -> Result<Runs, Fail> {
+    Ok((
+        two_runs(rt, alloc, checked, 3, u64::MAX)?,
+        two_runs(rt, alloc, checked, 3, 5)?,
+        in_rounds(rt, alloc, checked)?,
+    ))
+}
+
+/// The numbers that are made in rounds.
+const NUMBERS: u64 = 3 * (7 * 4 + 3);
+
+/// Each run counts its own births and calls. The first run of the second pair stops in its first call, behind its
+/// second number; the hand can go on all the same.
+const RUNS: Runs = (
+    [(12, Some(6)), (4, Some(2))],
+    [(2, Some(1)), (4, Some(2))],
+    (3, [1 + NUMBERS, 1 + NUMBERS, 0]),
+);
+
+/// In rounds, a call begins 13 instructions, and makes four numbers. So a round of 100 instructions makes seven calls,
+/// and stops in the eighth one behind its third number. The third round has the call that is more than enough.
 #[test]
 fn a_worker_runs_again(rt: HostRuntime) -> Result<(), Fail> {
-    let runs = two_runs(&rt, rt.alloc(), FOUR_PASSES, 3, u64::MAX)?;
-    assert_eq!(rt; runs, [(12, Some(6)), (4, Some(2))]);
-    // The first run stops in its first call, behind its second number. The hand can go on all the same.
-    let runs = two_runs(&rt, rt.alloc(), FOUR_PASSES, 3, 5)?;
-    assert_eq!(rt; runs, [(2, Some(1)), (4, Some(2))]);
-    let numbers = 3 * (7 * 4 + 3);
-    let want = (3, [1 + numbers, 1 + numbers, 0]);
-    assert_eq!(rt; in_rounds(&rt, rt.alloc(), FOUR_PASSES)?, want);
+    let checked = accepted(rt.alloc(), FOUR_PASSES)?;
+    let found = all_runs(&rt, rt.alloc(), &checked)?;
+    assert_eq!(rt; found, RUNS);
     Ok(())
 }

@@ -18,7 +18,6 @@ use brc_host::{FakeHost, FakeResource, Host};
 use brc_queue::Queue;
 use brc_work::{Gate, Ran, fan_out};
 use std::alloc::Global;
-use std::process::Abort;
 use std::sync::Wait;
 use std::test::*;
 use std::thread::Threads;
@@ -31,22 +30,16 @@ pub const MOST_ROWS: u16 = 1024;
 /// the static lists don't.
 pub type Counts = [u64; 5];
 
-/// What a run has left.
-#[derive(Clone, Copy, Debug, PartialEq, Eq)]
-pub struct Outcome {
-    /// The report's counts. The faults of closes are those that the worker has counted, and those of both exits.
-    pub counts: Counts,
-    /// The files and connections that the host has opened.
-    pub opened: u64,
-    /// Those that it has closed.
-    pub closed: u64,
-    /// The births that the worker has counted.
-    pub births: u64,
-    /// The beginnings and ends of calls that the gate has heard, or `None` if they didn't come in order.
-    pub heard: Option<u64>,
-    /// Whether the worker has made all its calls.
-    pub done: bool,
-}
+/// What a run has left: the report's counts; the births that the worker has counted; the beginnings and ends of calls
+/// that the gate has heard, or `None` if they didn't come in order; and whether the worker has made all its calls. The
+/// faults of closes are those that the worker has counted, and those of both exits.
+pub type Outcome = (Counts, u64, Option<u64>, bool);
+
+/// An outcome, and the files and connections that the host has opened and closed.
+type Ended = (Outcome, [u64; 2]);
+
+/// The worker's rows, its calls, the most instructions that it begins, and which calls of its host fail.
+pub type Run<'p> = (u16, u32, u64, &'p [u64]);
 
 /// Returns how many objects were created, how many are closed, and how many are alive.
 fn objects(end: &Final<FakeResource>) -> [u64; 3] {
@@ -75,41 +68,60 @@ fn born_and_closed(end: &Final<FakeResource>, row: u32) -> (bool, bool)
 /// How each of one or two workers' runs has ended.
 pub type Ends = [Option<Ran>; 2];
 
-/// Lets a worker with `rows` rows call the last function of the text's module `times` times, over a host that fails
-/// in the calls of the plan. The worker begins at most `steps` instructions. Then it leaves, main leaves, and the heap
-/// ends.
-pub fn run_over<R: Wait>(
+/// Lets a worker call the last function of the text's module, leave, and main leave, and ends the heap; and once more
+/// with the worker in a thread of its own. Fails unless both runs lead to the same, and each host has closed what it has
+/// opened.
+pub fn run_twice<R: Threads + Wait + Sync>(
     rt: &R,
     alloc: Global,
     text: &[u8],
-    rows: u16,
-    times: u32,
-    steps: u64,
-    plan: &[u64],
+    run: Run<'_>,
 ) -> Result<Outcome, Fail> {
-    if rows == 0 || rows > MOST_ROWS {
-        return Err("a worker has 1 to 1024 rows")?;
-    }
     let checked = accepted(alloc, text)?;
-    run_checked(rt, alloc, &checked, rows, times, steps, plan)
+    let (one, apart) = both_run(rt, alloc, &checked, run)?;
+    let (outcome, [opened, closed]) = one;
+    if apart == one && opened == closed {
+        Ok(outcome)
+    } else {
+        Err(Fail::new(format_args!("{one:?}, and in a thread of its own {apart:?}")))
+    }
 }
 
-/// Does what `run_over` does, of a module that is accepted.
-fn run_checked<R: Wait>(
+/// Makes both runs of `run_twice`, of a module that is accepted.
+fn both_run<R: Threads + Wait + Sync>(
     rt: &R,
     alloc: Global,
     checked: &Checked,
+    run: Run<'_>,
+) -> Result<(Ended, Ended), Fail> {
+    let (rows, times, steps, plan) = run;
+    if rows == 0 || rows > MOST_ROWS {
+        return Err("a worker has 1 to 1024 rows")?;
+    }
+    let function = last_function(checked)?;
+    let one = run_once(rt, alloc, checked, function, rows, times, steps, plan)?;
+    let apart = run_alone(rt, alloc, checked, function, rows, times, steps, plan)?;
+    Ok((one, apart))
+}
+
+/// Lets a worker call the function, over a host that fails in the calls of the plan.
+fn run_once<R: Wait>(
+    rt: &R,
+    alloc: Global,
+    checked: &Checked,
+    function: usize,
     rows: u16,
     times: u32,
     steps: u64,
     plan: &[u64],
-) -> Result<Outcome, Fail>
+) -> Result<Ended, Fail>
+    requires function { function < length checked.now.module.functions }
+    requires parameters { (function_at checked.now.module.functions function).parameters ≡ [] }
     requires rows { (0 < rows) × (rows ≤ row_limit) }
 {
-    let function = last_function(checked)?;
     let (heap, main) = opened(alloc, checked, 1, rows)?;
     match run_heap(rt, heap, main, checked, function, times, steps, plan) {
-        Some(outcome) => Ok(outcome),
+        Some(ended) => Ok(ended),
         None => Err("a thread isn't gone")?,
     }
 }
@@ -124,7 +136,7 @@ fn run_heap<R: Wait>(
     times: u32,
     steps: u64,
     plan: &[u64],
-) -> Option<Outcome>
+) -> Option<Ended>
     requires function { function < length checked.now.module.functions }
     requires parameters { (function_at checked.now.module.functions function).parameters ≡ [] }
     requires heap { IsHeapOf checked.now.module heap }
@@ -138,14 +150,14 @@ fn run_heap<R: Wait>(
     )?;
     let [created, closed, alive] = objects_left(heap, main)?;
     let totals = ran.totals();
-    Some(Outcome {
-        counts: [created, closed, alive, totals.host_faults, close_faults],
-        opened: host.opened(),
-        closed: host.closed(),
-        births: u64::from(totals.created),
-        heard: gate.heard(),
-        done: ran.is_done(),
-    })
+    let counts = [created, closed, alive, totals.host_faults, close_faults];
+    let outcome = (
+        counts,
+        u64::from(totals.created),
+        gate.heard(),
+        ran.is_done(),
+    );
+    Some((outcome, [host.opened(), host.closed()]))
 }
 
 /// Lets a worker make the calls and leave, and then main leave. Returns how the run has ended, and how many closes have
@@ -294,37 +306,20 @@ pub fn objects_left(heap: Heap<FakeResource>, main: Hand<FakeResource>) -> Optio
     Some(objects(&end))
 }
 
-/// Makes the run of `run_over` with the worker in a thread of its own. Its exit's faults are among those that it has
+/// Makes the run of `run_once` with the worker in a thread of its own. Its exit's faults are among those that it has
 /// counted.
-pub fn run_in_thread<R: Threads + Wait + Sync>(
-    rt: &R,
-    alloc: Global,
-    text: &[u8],
-    rows: u16,
-    times: u32,
-    steps: u64,
-    plan: &[u64],
-) -> Result<Outcome, Fail> {
-    if rows == 0 || rows > MOST_ROWS {
-        return Err("a worker has 1 to 1024 rows")?;
-    }
-    let checked = accepted(alloc, text)?;
-    run_alone(rt, alloc, &checked, rows, times, steps, plan)
-}
-
-/// Does what `run_in_thread` does, of a module that is accepted.
 fn run_alone<R: Threads + Wait + Sync>(
     rt: &R,
     alloc: Global,
     checked: &Checked,
+    function: usize,
     rows: u16,
     times: u32,
     steps: u64,
     plan: &[u64],
-) -> Result<Outcome, Fail>
+) -> Result<Ended, Fail>
     requires rows { (0 < rows) × (rows ≤ row_limit) }
 {
-    let function = last_function(checked)?;
     let gate = Hearing::new();
     let mut hosts = [FakeHost::new(plan)];
     let (ends, [created, closed, alive], last) = run_apart(
@@ -335,43 +330,12 @@ fn run_alone<R: Threads + Wait + Sync>(
     };
     let totals = ran.totals();
     let close_faults = totals.close_faults.saturating_add(last);
-    Ok(Outcome {
-        counts: [created, closed, alive, totals.host_faults, close_faults],
-        opened: hosts[0].opened(),
-        closed: hosts[0].closed(),
-        births: u64::from(totals.created),
-        heard: gate.heard(),
-        done: ran.is_done(),
-    })
-}
-
-/// Asserts what a run without a bound leads to, in a thread of its own too. `numbers` is how many numbers the module's
-/// static lists have. In every run the worker counts a birth for each object but those and the root, the gate hears
-/// each call begin and end, and the host has closed what it has opened.
-pub fn expect<R: Threads + Wait + Sync + Abort>(
-    rt: &R,
-    alloc: Global,
-    name: &str,
-    text: &[u8],
-    run: (u16, u32, &[u64]),
-    numbers: u32,
-    want: Counts,
-) -> Result<(), Fail> {
-    let (rows, times, plan) = run;
-    let ran = run_over(rt, alloc, text, rows, times, u64::MAX, plan)?;
-    let apart = run_in_thread(rt, alloc, text, rows, times, u64::MAX, plan)?;
-    let wanted = Outcome {
-        counts: want,
-        closed: ran.opened,
-        births: want[0].saturating_sub(1 + u64::from(numbers)),
-        heard: Some(2 * u64::from(times)),
-        done: true,
-        ..ran
-    };
-    assert_eq!(rt;
-        (ran, apart),
-        (wanted, wanted),
-        "{name}, and in a thread of its own"
+    let counts = [created, closed, alive, totals.host_faults, close_faults];
+    let outcome = (
+        counts,
+        u64::from(totals.created),
+        gate.heard(),
+        ran.is_done(),
     );
-    Ok(())
+    Ok((outcome, [hosts[0].opened(), hosts[0].closed()]))
 }

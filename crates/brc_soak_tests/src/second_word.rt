@@ -75,7 +75,7 @@ fn file_born(
 }
 
 /// Puts a new file into the root. Returns its row, or `None` if the file isn't there.
-#[tactic(auto, using(brc_fixtures::proofs::Resting::holds_first, brc_fixtures::proofs::Resting::holds_second, brc_fixtures::proofs::Resting::keeps_other, brc_fixtures::proofs::Resting::without_first, crate::proofs::References::root_counted))]
+#[tactic(auto, using(brc_fixtures::proofs::Resting::holds_first, brc_fixtures::proofs::Resting::holds_second, brc_fixtures::proofs::Resting::keeps_other, brc_fixtures::proofs::Resting::without_first, brc_model::proofs::Basics::Blocks::root_counted))]
 fn shares(
     heap: &Heap<FakeResource>,
     hand: &mut Hand<FakeResource>,
@@ -101,7 +101,7 @@ fn shares(
 }
 
 /// Takes the object out of the root, with the cell's reference. Returns its row, or `None` if the root has none.
-#[tactic(auto, using(brc_fixtures::proofs::Resting::holds_first, brc_fixtures::proofs::Resting::holds_second, brc_fixtures::proofs::Resting::some_counted, brc_fixtures::proofs::Resting::lists_one_more, crate::proofs::References::root_counted))]
+#[tactic(auto, using(brc_fixtures::proofs::Resting::holds_first, brc_fixtures::proofs::Resting::holds_second, brc_fixtures::proofs::Resting::some_counted, brc_fixtures::proofs::Resting::lists_one_more, brc_model::proofs::Basics::Blocks::root_counted))]
 fn takes(heap: &Heap<FakeResource>, hand: &mut Hand<FakeResource>) -> Option<u32>
     requires resting { IsAtRest heap.now hand.old None }
     requires references { hand.old.view.references ≡ root_row ∷ [] }

@@ -1,6 +1,6 @@
 use Rattle.std.proofs.Common.{ℕ, ◌∷◌, inr, sym, ap, ◌∙◌}
 use Rattle.brc_fixtures.proofs.Resting.{holds_first}
-use Rattle.brc_queue_tests.proofs.files.locked_file.Goals as goal
+use Rattle.brc_soak_tests.proofs.files.locked_file.Goals as goal
 
 pub try_lock-requires-clause-held : goal.try_lock-requires-clause-held
 try_lock-requires-clause-held c =

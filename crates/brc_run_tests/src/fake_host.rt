@@ -8,7 +8,7 @@ use brc_lang::Mode;
 type Answers = Result<(Result<u16, Fault>, Result<(), Fault>, Result<(), Fault>), Fault>;
 
 /// How many calls have failed, how many files and peers were opened, and how many closed.
-type Counts = [u64; 3];
+pub type Counts = [u64; 3];
 
 /// A plan over the calls 0 open, 1 read of 5 bytes, 2 write and 3 close, the answers, and what was counted. After a
 /// failed open no call follows.
@@ -69,6 +69,6 @@ fn connect_twice<H: Host>(host: &mut H) -> [bool; 3] {
     }
 }
 
-fn counts_of<H: Host>(host: &H) -> Counts {
+pub fn counts_of<H: Host>(host: &H) -> Counts {
     [host.failures(), host.opened(), host.closed()]
 }

@@ -1,5 +1,7 @@
 //! The system's host, over files of a temporary folder and peers on loopback.
 
+use crate::fake_host::{Counts, counts_of};
+use crate::system::make_folder;
 use bitflags::Flags;
 use brc_host::{Fault, Host};
 use brc_lang::Mode;
@@ -8,10 +10,7 @@ use std::alloc::Global;
 use std::io::{Read, Write};
 use std::net::{Shutdown, SocketAddr, TcpListener};
 use std::test::Fail;
-use std::{env, fs, io, process, thread};
-
-/// How many calls have failed, how many files and peers were opened, and how many closed.
-type Counts = [u64; 3];
+use std::{fs, io, thread};
 
 /// What a write, a read and the close have answered, or the fault of the open.
 type Written = Result<(Result<(), Fault>, Result<u16, Fault>, Result<(), Fault>), Fault>;
@@ -31,27 +30,6 @@ type ReadOn = Result<
 
 /// A read of a file of 5000 bytes goes on where the last one ended. A file that is only read can't be written.
 const READ_ON: ReadOn = Ok(([Ok(0), Ok(1), Ok(4096), Ok(903), Ok(0)], Err(Fault), Ok(())));
-
-fn counts_of<H: Host>(host: &H) -> Counts {
-    [host.failures(), host.opened(), host.closed()]
-}
-
-/// Makes a folder for one test.
-fn make_folder(rt: &HostRuntime, test: &str) -> Result<String, Fail> {
-    let name = format!(in rt.alloc(); "brc-{test}-{}", process::id(rt.process()))?;
-    let folder = env::temp_dir(rt)?.join(rt.alloc(), name.as_str())?;
-    fs::create_dir(rt, folder.as_path())?;
-    Ok(folder.into_string())
-}
-
-#[test]
-fn files_are_made_written_and_read(rt: HostRuntime) -> Result<(), Fail> {
-    let folder = make_folder(&rt, "files")?;
-    let used = file_used(&rt, folder.as_str());
-    fs::remove_dir_all(&rt, folder.as_str())?;
-    assert_eq!(rt; used, Some(([true; 6], [3, 10, 10])));
-    Ok(())
-}
 
 /// Uses a file of the folder that isn't there yet. Returns whether each use went as it has to, and what was counted.
 fn file_used(rt: &HostRuntime, folder: &str) -> Option<([bool; 6], Counts)> {
@@ -173,38 +151,39 @@ type Talked = Result<
 /// The peer sends one byte and shuts its side.
 const TALKED: Talked = Ok(([Ok(1), Ok(0)], Ok(()), Ok(())));
 
+/// Files are made, written and read; a peer resets a connection, and another talks.
 #[test]
-fn a_peer_resets_and_talks(rt: HostRuntime) -> Result<(), Fail> {
+fn files_and_peers_are_used(rt: HostRuntime) -> Result<(), Fail> {
+    let folder = make_folder(&rt, "files")?;
+    let used = file_used(&rt, folder.as_str());
+    fs::remove_dir_all(&rt, folder.as_str())?;
     let listener = TcpListener::bind(&rt, "127.0.0.1:0")?;
     let peer = listener.local_addr()?;
-    let silent = silent_address(&rt)?;
-    let reset = peers_used(&rt, peer, silent, &listener);
+    let reset = peers_used(&rt, peer, &listener);
     let alloc = rt.alloc();
     let Ok(server) = thread::spawn(&rt, move || serve(alloc, &listener)) else {
         return Err(Fail::new("no thread"));
     };
     let talked = peer_talked(&rt, peer);
     let is_received = server.join(&rt)?;
+    assert_eq!(rt; used, Some(([true; 6], [3, 10, 10])));
     assert_eq!(rt; reset, Some(([true, true], RESET, [4, 1, 1])));
-    assert_eq!(rt; talked, Some((TALKED, [0, 1, 1])));
-    assert!(rt; is_received);
+    assert_eq!(rt; (talked, is_received), (Some((TALKED, [0, 1, 1])), true));
     Ok(())
 }
 
-/// Returns an address where nobody listens.
-fn silent_address(rt: &HostRuntime) -> io::Result<SocketAddr> {
-    TcpListener::bind(rt, "127.0.0.1:0")?.local_addr()
-}
-
-/// Connects to a peer that listens by its name, which would be found, and to one that doesn't listen; and then to the
+/// Connects to a peer that listens by its name, which would be found, and to an address where nobody listens; and then to the
 /// first by its address, which resets the connection. Returns whether each of the first two has failed, which calls of
 /// the third have, and what was counted.
 fn peers_used(
     rt: &HostRuntime,
     peer: SocketAddr,
-    silent: SocketAddr,
     listener: &TcpListener,
 ) -> Option<([bool; 2], [bool; 3], Counts)> {
+    let silent = TcpListener::bind(rt, "127.0.0.1:0")
+        .ok()?
+        .local_addr()
+        .ok()?;
     let peers = [
         format!(in rt.alloc(); "{peer}").ok()?,
         format!(in rt.alloc(); "localhost:{}", peer.port()).ok()?,
