@@ -1,6 +1,6 @@
 //! A thread's agenda: the duties that it still has to do. The last duty of the vector is done next.
 
-ghost use Rattle.std.specs.Prelude.{◌≡◌, ◌+◌, ◌≤◌, ◌++◌, ◌∷◌, reverse, vec_len, vec_capacity};
+ghost use Rattle.std.specs.Prelude.{◌≡◌, ◌+◌, ◌≤◌, ◌++◌, reverse, vec_len, vec_capacity};
 ghost use Rattle.brc_model.specs.Duties.{ready};
 ghost use Rattle.brc_machine.specs.Agendas.{is_idle};
 ghost use Rattle.brc_effect.specs.Effects.{duties_of};

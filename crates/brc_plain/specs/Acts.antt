@@ -1,5 +1,5 @@
 -- What a thread of the plain machine does at an event, as the model says it.
-use Rattle.std.specs.Prelude.{ℕ, zero, suc, ◌==◌, if◌then◌else◌, List, [], ◌∷◌, map, reverse, Option, None, Some, slice_set}
+use Rattle.std.specs.Prelude.{ℕ, ◌==◌, if◌then◌else◌, List, [], ◌∷◌, map, reverse, Some, slice_set}
 use Rattle.brc_word.specs.Words.{free_word}
 use Rattle.brc_model.specs.declared.actor.Place.{Place as ModelPlace}
 use Rattle.brc_model.specs.declared.actor.Place.TheVariants as places
@@ -43,11 +43,6 @@ place_at (Fetches empty context at variables) =
     by_item (place_in empty) (λ item. places.Inside (context_in context) at variables (Found item))
 place_at (ByKind context kind same other variables) =
     λ found. places.InCall (context_in context) (if same_kind (kind_of_word found) kind then same else other) variables
-
--- the row that a cell's word names, or none if the cell is empty
-abbrev pub item_named : ℕ → Option ℕ
-item_named zero = None
-item_named (suc row) = Some row
 
 abbrev pub act_in : Act → model.Action
 act_in Skip = model.Skip

@@ -1,23 +1,12 @@
 -- Where a thread of the plain machine is, as the model says it.
 use Rattle.std.specs.Prelude.{map}
-use Rattle.brc_model.specs.declared.actor.OpenCall.{OpenCall as ModelCall}
 use Rattle.brc_model.specs.declared.actor.Context.{Context as ModelContext}
 use Rattle.brc_model.specs.declared.actor.Place.{Place as ModelPlace}
 use Rattle.brc_model.specs.declared.actor.Place.TheVariants as places
-use Rattle.brc_plain.specs.declared.open_call.OpenCall.{OpenCall}
+use Rattle.brc_machine.specs.OpenCalls.{open_of}
 use Rattle.brc_plain.specs.declared.place.Context.{Context}
 use Rattle.brc_plain.specs.declared.place.Place.{Place}
 use Rattle.brc_plain.specs.declared.place.Place.TheVariants.{Idle, InCall, Inside, Exiting}
-
-abbrev pub open_of : OpenCall → ModelCall
-open_of o = record {
-  callee = o.callee;
-  at = o.at;
-  variables = o.variables;
-  turns = o.turns;
-  to = o.to;
-  otherwise = o.otherwise;
-}
 
 abbrev pub context_in : Context → ModelContext
 context_in c = record { left = c.left; turns = c.turns; outer = map open_of c.outer.items }

@@ -2,7 +2,8 @@
 
 ghost use Rattle.std.specs.Prelude.{◌≡◌, if◌then◌else◌, reverse, IfOk};
 ghost use Rattle.brc_model.specs.Kinds.{kind_of_word, same_kind};
-ghost use Rattle.brc_plain.specs.Acts.{item_named, place_at, place_by, rest_in};
+ghost use Rattle.brc_machine.specs.Items.{item_in};
+ghost use Rattle.brc_plain.specs.Acts.{place_at, place_by, rest_in};
 ghost use Rattle.brc_plain.specs.Places.{place_in};
 
 use crate::bag::Move;
@@ -10,9 +11,10 @@ use crate::place::{Context, Place};
 use crate::refused::Refused;
 use brc_effect::kinds::{cells_of, kind_of_word, same_kind};
 use brc_lang::{Kind, Variable};
+use brc_machine::objects::item_in;
 use brc_machine::variables::Variables;
 use brc_model::{Duty, Exit, Stage};
-use brc_word::values::{EMPTY, FREE};
+use brc_word::values::FREE;
 use std::alloc::Global;
 
 /// What a thread does at an event.
@@ -177,7 +179,7 @@ impl AfterDuty {
                 at,
                 variables,
                 to,
-            } => match item_in(found)? {
+            } => match item_named(found)? {
                 None => Ok(empty),
                 Some(row) => {
                     let mut variables = variables;
@@ -194,7 +196,7 @@ impl AfterDuty {
                 context,
                 at,
                 variables,
-            } => match item_in(found)? {
+            } => match item_named(found)? {
                 None => Ok(empty),
                 Some(row) => Ok(Place::Inside {
                     context,
@@ -229,15 +231,12 @@ fn by_kind(word: u64, kind: Kind, same: usize, other: usize) -> usize
     }
 }
 
-/// Returns the row that a cell's word names, or `None` if the cell is empty.
-fn item_in(word: u64) -> Result<Option<u32>, Refused>
-    ensures { IfOk result (λ item. item ≡ item_named word) }
+/// Returns the row that a cell's word names, or `None` if the cell is empty. Refuses a word that names no row.
+fn item_named(word: u64) -> Result<Option<u32>, Refused>
+    ensures { IfOk result (λ item. item ≡ item_in word) }
 {
-    if word == EMPTY {
-        return Ok(None);
-    }
     if word > 1 << 32 {
         return Err(Refused::OutOfBounds);
     }
-    Ok(Some((word - 1) as u32))
+    Ok(item_in(word))
 }

@@ -2,7 +2,7 @@
 
 ghost use Rattle.std.specs.Prelude.{◌≡◌, IfOk};
 ghost use Rattle.brc_model.specs.Dispatch.{dispatch};
-ghost use Rattle.brc_model.specs.Threads.{function_in, number_in};
+ghost use Rattle.brc_model.specs.Threads.{number_in};
 ghost use Rattle.brc_plain.specs.Acts.{act_in};
 ghost use Rattle.brc_plain.specs.Heres.{dispatched, dispatched_inside};
 ghost use Rattle.brc_plain.specs.Places.{place_in};
@@ -20,7 +20,7 @@ use crate::here::{Here, does};
 use crate::place::{Context, Place};
 use crate::refused::Refused;
 use brc_effect::rows::ROOT;
-use brc_lang::{Function, Instr};
+use brc_lang::Instr;
 use brc_machine::variables::entry_variables;
 use brc_model::{Duty, Holding, Layout, Stage};
 use brc_word::kind_word;
@@ -176,16 +176,6 @@ pub fn number_in(first: usize, place: &Place) -> usize
             }
         }
         Place::Idle { .. } | Place::Exiting => first,
-    }
-}
-
-/// Returns the instructions of the function that the innermost call runs, or none if there is no such function.
-pub fn code_in<'a>(functions: &'a [Function], first: usize, place: &Place) -> &'a [Instr]
-    ensures { result.now ≡ (function_in functions.now first (place_in place.now)).code }
-{
-    match functions.get(number_in(first, place)) {
-        Some(function) => function.code.as_slice(),
-        None => &[],
     }
 }
 

@@ -16,8 +16,9 @@ use crate::act::{Act, AfterDuty, Rest};
 use crate::bag::{Holder, Move, Reference};
 use crate::place::{Context, Place};
 use crate::refused::Refused;
-use brc_effect::rows::{block_size, row_at};
+use brc_effect::rows::row_at;
 use brc_lang::Variable;
+use brc_machine::threads::has_room;
 use brc_machine::variables::{Variables, row_of};
 use brc_model::{Duty, Holding, Layout, Stage};
 use std::alloc::Global;
@@ -156,7 +157,7 @@ impl<'a> Here<'a> {
     pub fn has_room(&self) -> bool
         ensures { result ≡ has_room self.now.layout self.now.thread self.now.used }
     {
-        self.used < block_size(self.layout, self.thread)
+        has_room(self.layout, self.thread, self.used)
     }
 
     /// Returns the row of the thread's next object.

@@ -13,7 +13,6 @@ mod key;
 mod lives;
 mod moves;
 mod needs;
-mod open_call;
 mod place;
 mod plain;
 mod refused;

@@ -4,9 +4,9 @@ ghost use Rattle.std.specs.Prelude.{◌≡◌, slice_set, IfOk};
 ghost use Rattle.brc_model.specs.Actions.{first_context, turns_at};
 ghost use Rattle.brc_plain.specs.Places.{context_in, place_in};
 
-use crate::open_call::{OpenCall, Turns};
 use crate::refused::Refused;
 use brc_machine::variables::Variables;
+use brc_machine::{OpenCall, Turns};
 use brc_model::Stage;
 use std::alloc::Global;
 

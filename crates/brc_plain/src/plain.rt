@@ -4,7 +4,7 @@ ghost use Rattle.std.specs.Prelude.{◌≡◌, ◌<◌, ◌≤◌, ◌↔◌, tr
 ghost use Rattle.std.specs.List.{find};
 ghost use Rattle.brc_lang.specs.Grammar.{IsModule};
 ghost use Rattle.brc_model.specs.Limits.{row_limit};
-ghost use Rattle.brc_model.specs.Safety.{has_gone, AllGone, AreCalls};
+ghost use Rattle.brc_model.specs.Safety.{AllGone, AreCalls};
 ghost use Rattle.brc_model.specs.StepMachine.{counting};
 ghost use Rattle.brc_plain.specs.Plains.{machine_in};
 ghost use Rattle.brc_plain.specs.Begun.{begun};
@@ -18,8 +18,9 @@ use crate::refused::Refused;
 use crate::thread::Thread;
 use brc_effect::{Blocks, layout_of};
 use brc_lang::Module;
+use brc_machine::threads::has_gone;
 use brc_machine::{Faults, Memory, first_memory};
-use brc_model::{Call, MOST_WORKERS, Status};
+use brc_model::{Call, MOST_WORKERS};
 use std::alloc::Global;
 
 mod acting;
@@ -57,13 +58,6 @@ pub(crate) fn numbered(number: usize) -> Result<u8, Refused>
         return Err(Refused::OutOfBounds);
     }
     Ok(number as u8)
-}
-
-/// Returns whether a thread with the status is gone.
-pub(crate) fn has_gone(status: Status) -> bool
-    ensures { result ≡ has_gone status }
-{
-    matches!(status, Status::Gone)
 }
 
 impl<'a> Plain<'a> {

@@ -2,7 +2,6 @@
 
 ghost use Rattle.std.specs.Prelude.{◌≡◌, ◌++◌, [], reverse, IfOk, OnOk};
 ghost use Rattle.brc_model.specs.Duties.{ready};
-ghost use Rattle.brc_model.specs.Machine.{is_running};
 ghost use Rattle.brc_effect.specs.Effects.{duties_of, status_after, used_after, locked_after, lent_after};
 ghost use Rattle.brc_plain.specs.Places.{place_in};
 ghost use Rattle.brc_plain.specs.Threads.{actor_of};
@@ -34,13 +33,6 @@ pub struct Thread {
     pub locked: Option<u32>,
     /// The row of the object whose resource it has lent.
     pub lent: Option<u32>,
-}
-
-/// Returns whether the status is that of a running thread.
-pub fn is_running(status: Status) -> bool
-    ensures { result ≡ is_running status }
-{
-    matches!(status, Status::Running)
 }
 
 impl Thread {

@@ -5,8 +5,9 @@ use Rattle.std.specs.List.{list_any}
 use Rattle.std.proofs.lemmas.List.{length-map, length-reverse, reverse-append}
 use Rattle.std.proofs.lemmas.List.Sorted.{IsPermutation-reverse, list_any-IsPermutation}
 use Rattle.brc_model.specs.declared.actor.OpenCall.{OpenCall as ModelCall}
-use Rattle.brc_world.specs.declared.open_call.OpenCall.{OpenCall}
-use Rattle.brc_world.specs.OpenCalls.{open_of, calls_around, rows_of, names_row}
+use Rattle.brc_machine.specs.declared.open_call.OpenCall.{OpenCall}
+use Rattle.brc_world.specs.OpenCalls.{calls_around, rows_of, names_row}
+use Rattle.brc_machine.specs.OpenCalls.{open_of}
 
 -- The last call of the vector is the nearest.
 pub around_last : (calls : List OpenCall) (o : OpenCall)

@@ -9,10 +9,11 @@ use Rattle.brc_model.specs.Actions.{StepActor, Action, Stuck, holds_some, give_u
 use Rattle.brc_model.proofs.Dispatch.Stopped.{first_names}
 use Rattle.brc_world.specs.declared.dispatch.Start.{Start}
 use Rattle.brc_world.specs.declared.dispatch.Start.TheVariants as starts
-use Rattle.brc_world.specs.declared.open_call.OpenCall.{OpenCall}
+use Rattle.brc_machine.specs.declared.open_call.OpenCall.{OpenCall}
 use Rattle.brc_world.specs.declared.thread.Thread.{Thread}
 use Rattle.brc_world.specs.Actors.{actor_of}
-use Rattle.brc_world.specs.OpenCalls.{open_of, rows_of, all_rows, holds_rows}
+use Rattle.brc_world.specs.OpenCalls.{rows_of, all_rows, holds_rows}
+use Rattle.brc_machine.specs.OpenCalls.{open_of}
 use Rattle.brc_world.specs.Starts.{start_by, started, HasDispatched}
 
 -- A call that holds nothing is passed over.

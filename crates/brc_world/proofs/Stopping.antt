@@ -9,8 +9,9 @@ use Rattle.brc_model.specs.declared.actor.OpenCall.{OpenCall as ModelCall}
 use Rattle.brc_model.specs.declared.state.State.{State}
 use Rattle.brc_model.specs.Threads.{number_under}
 use Rattle.brc_model.specs.Actions.{given_up, owned_by, waiting_state}
-use Rattle.brc_world.specs.declared.open_call.OpenCall.{OpenCall}
-use Rattle.brc_world.specs.OpenCalls.{open_of, calls_around, rows_of, AreKnown}
+use Rattle.brc_machine.specs.declared.open_call.OpenCall.{OpenCall}
+use Rattle.brc_world.specs.OpenCalls.{calls_around, rows_of, AreKnown}
+use Rattle.brc_machine.specs.OpenCalls.{open_of}
 
 -- the items, pushed one after another onto the others
 abbrev onto : {A : Type 0} → List A → List A → List A

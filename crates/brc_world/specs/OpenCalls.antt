@@ -6,20 +6,10 @@ use Rattle.brc_lang.specs.declared.module.Function.{Function}
 use Rattle.brc_model.specs.declared.state.State.{State}
 use Rattle.brc_model.specs.Threads.{number_under}
 use Rattle.brc_model.specs.Stops.{holds_some, waiting_state}
-use Rattle.brc_world.specs.declared.open_call.OpenCall.{OpenCall}
+use Rattle.brc_machine.specs.declared.open_call.OpenCall.{OpenCall}
+use Rattle.brc_machine.specs.OpenCalls.{open_of}
 use Rattle.brc_world.specs.declared.thread.Mode.{Mode}
 use Rattle.brc_world.specs.declared.thread.Mode.TheVariants as modes
-
--- the model's open call
-abbrev pub open_of : OpenCall → ModelCall
-open_of o = record {
-  callee = o.callee;
-  at = o.at;
-  variables = o.variables;
-  turns = o.turns;
-  to = o.to;
-  otherwise = o.otherwise;
-}
 
 -- the model's open calls; the nearest is the last one of the code's vector
 abbrev pub calls_around : List OpenCall → List ModelCall

@@ -1,6 +1,6 @@
 -- What a step asks of the word that its duty finds or of the host, and the place where the thread goes on by the
 -- answer.
-use Rattle.std.specs.Prelude.{ℕ, zero, suc, ◌≤◌, if◌then◌else◌, List, Option, None, Some, slice_set}
+use Rattle.std.specs.Prelude.{ℕ, ◌≤◌, if◌then◌else◌, List, Option, None, Some, slice_set}
 use Rattle.brc_model.specs.declared.actor.Context.{Context}
 use Rattle.brc_model.specs.declared.actor.Place.{Place}
 use Rattle.brc_model.specs.declared.actor.Place.TheVariants.{InCall, Inside}
@@ -34,11 +34,6 @@ IsAbout (questions.Kind kind otherwise) d = FindsKind d
 IsAbout (questions.Range index outside) d = FindsKind d
 IsAbout (questions.Borrow to otherwise) d = FindsItem d
 IsAbout (questions.Fetch to otherwise) d = FindsItem d
-
--- the row that a cell's word names, if the cell isn't empty
-abbrev pub item_in : ℕ → Option ℕ
-item_in zero = None
-item_in (suc row) = Some row
 
 -- the word found has an answer: if it is a cell's, it names a row
 abbrev pub IsAnswerable : Question → ℕ → Type 0

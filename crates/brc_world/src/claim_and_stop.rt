@@ -2,25 +2,24 @@
 
 ghost use Rattle.std.specs.Prelude.{◌≡◌, ◌≤◌, true, length, map, OnOk, OnErr, IfOk, IfErr};
 ghost use Rattle.brc_model.specs.declared.actor.Status.TheVariants.{Gone};
-ghost use Rattle.brc_model.specs.Machine.{is_running};
 ghost use Rattle.brc_model.specs.Actions.{given_up, waiting_state};
 ghost use Rattle.brc_model.specs.Dispatch.{may_claim};
 ghost use Rattle.brc_model.specs.Limits.{worker_limit, total_limit};
 ghost use Rattle.brc_machine.specs.Storage.{word_in, AreOf};
 ghost use Rattle.brc_world.specs.Actors.{actor_of, finds_mark, memory_claimed, actor_claimed, did_claim, CanClaim, action_stopped, is_silent, silently, did_stop, CanStop};
-ghost use Rattle.brc_world.specs.OpenCalls.{open_of, rows_of, AreKnown};
+ghost use Rattle.brc_world.specs.OpenCalls.{rows_of, AreKnown};
+ghost use Rattle.brc_machine.specs.OpenCalls.{open_of};
 ghost use Rattle.brc_check.specs.Tables.{states_of};
 
 use crate::did::Did;
-use crate::dispatch::code_of;
 use crate::doing::do_duty;
-use crate::open_call::OpenCall;
 use crate::open_calls::OpenCalls;
 use crate::thread::{Mode, ROOM, Thread};
 use brc_check::{Checked, apply};
 use brc_effect::Blocks;
+use brc_machine::threads::{code_of, is_running};
 use brc_machine::variables::owned_rows;
-use brc_machine::{Memory, NoMemory};
+use brc_machine::{Memory, NoMemory, OpenCall};
 use brc_model::{Duty, Exit, State, Status};
 use brc_word::mark_at;
 use brc_word::values::UNSET;
@@ -179,10 +178,4 @@ fn waiting_state(checked: &Checked, function: usize, call: &OpenCall) -> Option<
     let mut state = checked.entry(function, call.at)?;
     apply(*instr, Exit::Fault, &mut state);
     Some(state)
-}
-
-fn is_running(status: Status) -> bool
-    ensures { result ≡ is_running status }
-{
-    matches!(status, Status::Running)
 }

@@ -3,7 +3,7 @@
 ghost use Rattle.std.specs.Prelude.{◌≡◌, ℕ, ◌+◌, ◌≤◌, slice_get, Some};
 ghost use Rattle.std.specs.Prelude.{[], reverse, vec_len, vec_capacity};
 ghost use Rattle.brc_model.specs.declared.state.Exit.{Exit};
-ghost use Rattle.brc_model.specs.Threads.{function_at, function_in};
+ghost use Rattle.brc_model.specs.Threads.{function_in};
 ghost use Rattle.brc_model.specs.Dispatch.{agenda_action, dispatch};
 ghost use Rattle.brc_world.specs.Actors.{actor_of, OpensFew};
 ghost use Rattle.brc_world.specs.Starts.{first_start, exit_action, action_at, action_inside, unasking, answered, started, AsksWell, CanDispatch, HasDispatched};
@@ -23,6 +23,7 @@ use crate::question::Question;
 use crate::thread::{Mode, Thread};
 use brc_effect::rows::ROOT;
 use brc_lang::{Function, Instr};
+use brc_machine::threads::code_of;
 use brc_model::{Duty, Holding, Layout, Stage};
 use brc_word::kind_word;
 use brc_word::values::{LIST, NUM};
@@ -184,16 +185,6 @@ fn this_instruction(
     match code.get(thread.at) {
         Some(instr) => go_on_inside(*instr, stage, layout, number, thread, start),
         None => *start = Start::Stuck,
-    }
-}
-
-/// Returns the function's instructions, or none if there is no such function.
-pub fn code_of(functions: &[Function], function: usize) -> &[Instr]
-    ensures { result.now ≡ (function_at functions.now function).code }
-{
-    match functions.get(function) {
-        Some(f) => f.code.as_slice(),
-        None => &[],
     }
 }
 

@@ -9,7 +9,6 @@ mod doing;
 mod first;
 mod host_call;
 mod laws;
-mod open_call;
 mod open_calls;
 mod peek;
 mod question;

@@ -1,15 +1,15 @@
 //! The calls that are open around a thread's innermost one.
 
-ghost use Rattle.std.specs.Prelude.{◌≡◌, ◌+◌, ◌<◌, ◌∷◌, ◌^◌, [], length, map, MatchOption, OnOk, IfOk};
+ghost use Rattle.std.specs.Prelude.{◌≡◌, ◌+◌, ◌<◌, ◌∷◌, [], length, map, MatchOption, OnOk, IfOk};
 ghost use Rattle.std.specs.Prelude.{is_some};
 ghost use Rattle.std.specs.List.{list_any};
 ghost use Rattle.brc_lang.specs.Limits.{depth_limit};
 ghost use Rattle.brc_model.specs.Threads.{number_under};
-ghost use Rattle.brc_world.specs.OpenCalls.{open_of, rows_of, names_row};
+ghost use Rattle.brc_world.specs.OpenCalls.{rows_of, names_row};
+ghost use Rattle.brc_machine.specs.OpenCalls.{open_of};
 
-use crate::open_call::OpenCall;
-use brc_machine::NoMemory;
 use brc_machine::variables::names_some;
+use brc_machine::{NoMemory, OpenCall};
 use std::alloc::Global;
 use std::fmt;
 use std::marker::Model;

@@ -2,10 +2,8 @@
 
 ghost use Rattle.std.specs.Prelude.{◌≡◌, ◌<◌, ◌≤◌, length, IfOk, None};
 ghost use Rattle.brc_model.specs.Dispatch.{action_of, status_action};
-ghost use Rattle.brc_model.specs.Duties.{address_of};
 ghost use Rattle.brc_model.specs.Threads.{number_in};
 ghost use Rattle.brc_model.specs.Limits.{worker_limit, total_limit};
-ghost use Rattle.brc_model.specs.Within.{IsThere};
 ghost use Rattle.brc_world.specs.Actors.{actor_of, CanDo, CanAct};
 ghost use Rattle.brc_machine.specs.Sights.{next_part, begins_at, duty_event, kind_born, sight_of, sight_by};
 ghost use Rattle.brc_machine.specs.Storage.{word_in, AreOf};
@@ -15,14 +13,14 @@ use crate::claim_and_stop::{may_claim, stops};
 use crate::dispatch::{Start, first_duty};
 use crate::scratch::copy_thread;
 use crate::thread::{Mode, Thread};
-use crate::world::exit_of;
 use brc_check::Checked;
-use brc_effect::kinds::kind_of_word;
 use brc_effect::{Blocks, access_of, address_of};
 use brc_lang::{Function, Kind};
 use brc_machine::exits::exit_part;
+use brc_machine::objects::kind_born;
+use brc_machine::threads::{exit_of, is_running};
 use brc_machine::{Event, ExitPart, Memory, NoMemory, Part, Sight};
-use brc_model::{Address, Choice, Duty, Layout, Status};
+use brc_model::{Choice, Duty, Layout, Status};
 
 /// Returns the sight of the thread's step by the choice, or `None` if it takes no step: it is gone, may not claim the
 /// row, or can't stop where it is. `copy` becomes a copy of the thread whose step has started. Returns `NoMemory` if
@@ -132,7 +130,7 @@ fn see_duty(
         thread,
         choice,
         event,
-        kind_born(memory, blocks, number, thread, duty),
+        kind_born(memory, duty),
     )
 }
 
@@ -158,27 +156,6 @@ fn duty_event(memory: &Memory, blocks: Blocks, number: u8, thread: &Thread, duty
     }
 }
 
-/// Returns the kind of the object that the duty makes, by its kind word, or `None` if the duty is no birth's last one.
-fn kind_born(
-    memory: &Memory,
-    blocks: Blocks,
-    number: u8,
-    thread: &Thread,
-    duty: &Duty,
-) -> Option<Kind>
-    requires columns { AreOf blocks memory.now }
-    requires there { IsThere blocks (address_of blocks number thread.now.head duty.now) }
-    ensures { result ≡ kind_born (word_in memory.now) duty.now }
-{
-    match *duty {
-        Duty::BirthLocal { row, .. } => {
-            let word = memory.load(Address::KindOf { row });
-            Some(kind_of_word(word))
-        }
-        _ => None,
-    }
-}
-
 /// Returns the sight of the thread's step by the choice, which is the event.
 fn sight_of(
     layout: Layout,
@@ -194,7 +171,7 @@ fn sight_of(
         begins: begins_at(thread, choice),
         event,
         function: number_in(thread),
-        running: matches!(thread.status, Status::Running),
+        running: is_running(thread.status),
         head: thread.head,
         exit: exit_of(choice),
         born,

@@ -1,16 +1,15 @@
 //! What a step asks of the word that its duty finds, and where the thread goes on by the answer.
 
-ghost use Rattle.std.specs.Prelude.{◌≡◌, ◌≤◌};
-ghost use Rattle.brc_model.specs.Limits.{total_limit};
+ghost use Rattle.std.specs.Prelude.{◌≡◌};
 ghost use Rattle.brc_model.specs.StepMachine.{at_place};
 ghost use Rattle.brc_world.specs.Actors.{actor_of, context_in};
-ghost use Rattle.brc_world.specs.Questions.{outside_of, place_answered, IsAnswerable, item_in};
+ghost use Rattle.brc_world.specs.Questions.{outside_of, place_answered, IsAnswerable};
 
 use crate::thread::{Mode, Thread};
 use brc_effect::kinds::{cells_of, kind_of_word, same_kind};
 use brc_lang::{Kind, Variable};
+use brc_machine::objects::item_in;
 use brc_model::Stage;
-use brc_word::values::EMPTY;
 
 /// What a step asks of the word that its duty finds. The answer decides where the thread goes on.
 #[derive(Clone, Copy, Debug)]
@@ -104,15 +103,4 @@ fn miss(thread: &mut Thread, outside: Outside)
         Outside::Releases => thread.mode = Mode::Inside(Stage::OutOfRange),
         Outside::GoesOn { otherwise } => thread.go_to(left, usize::from(otherwise)),
     }
-}
-
-/// Returns the row that a cell's word names, or `None` if the cell is empty.
-fn item_in(word: u64) -> Option<u32>
-    requires { word ≤ total_limit }
-    ensures { result ≡ item_in word }
-{
-    if word == EMPTY {
-        return None;
-    }
-    Some((word - 1) as u32)
 }

@@ -6,13 +6,14 @@ ghost use Rattle.brc_model.specs.declared.duty.Holding.TheVariants.{ByVariable};
 ghost use Rattle.brc_model.specs.Limits.{total_limit};
 ghost use Rattle.brc_model.specs.Threads.{entry_variables, number_under, row_of};
 ghost use Rattle.brc_effect.specs.Effects.{status_after, used_after, locked_after, lent_after};
-ghost use Rattle.brc_world.specs.OpenCalls.{open_of, all_rows, mode_stopped, holds_rows};
+ghost use Rattle.brc_world.specs.OpenCalls.{all_rows, mode_stopped, holds_rows};
+ghost use Rattle.brc_machine.specs.OpenCalls.{open_of};
 
-use crate::open_call::{OpenCall, Turns};
 use crate::open_calls::OpenCalls;
 use brc_effect::Change;
 use brc_lang::Variable;
 use brc_machine::variables::{Variables, entry_variables, names_some, row_of};
+use brc_machine::{OpenCall, Turns};
 use brc_model::{Duty, Holding, Stage, Status};
 use std::fmt;
 

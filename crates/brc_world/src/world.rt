@@ -27,6 +27,7 @@ use brc_effect::kinds::kind_of_word;
 use brc_effect::rows::is_immortal_row;
 use brc_effect::{Blocks, layout_of};
 use brc_lang::Sequence;
+use brc_machine::threads::exit_of;
 use brc_machine::{Faults, Memory, NoMemory, Sight, first_memory};
 use brc_model::{
     Address, Call, Choice, Exit, Status, steps_are_within, steps_move, stops_give_up_what_is_owned,
@@ -315,16 +316,5 @@ impl<'a> World<'a> {
         steps_move();
         stops_give_up_what_is_owned();
         stop(self.accepted, &mut self.threads[thread])
-    }
-}
-
-/// Returns the exit by which the choice ends a host call or a close.
-#[inline(always)]
-pub fn exit_of(choice: Choice) -> Exit
-    ensures { result ≡ exit_of choice }
-{
-    match choice {
-        Choice::Ok | Choice::Claim(_) | Choice::Stop => Exit::Success,
-        Choice::Fault => Exit::Fault,
     }
 }

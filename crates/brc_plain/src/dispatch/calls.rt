@@ -7,15 +7,16 @@ ghost use Rattle.brc_model.specs.Actions.{call_action, depth_of, fail_action, ha
 ghost use Rattle.brc_model.specs.Threads.{row_of};
 ghost use Rattle.brc_plain.specs.Acts.{act_in};
 ghost use Rattle.brc_plain.specs.Bags.{move_in};
-ghost use Rattle.brc_plain.specs.Places.{context_in, open_of, place_in};
+ghost use Rattle.brc_plain.specs.Places.{context_in, place_in};
+ghost use Rattle.brc_machine.specs.OpenCalls.{open_of};
 
 use crate::act::{Act, Rest};
 use crate::bag::{Holder, Move};
 use crate::here::{Here, does, holding_at, moves, next_of, silent};
-use crate::open_call::OpenCall;
 use crate::place::{Context, Place};
 use crate::refused::Refused;
 use brc_lang::{Argument, Passing, Variable};
+use brc_machine::OpenCall;
 use brc_machine::variables::{Variables, all_named, kept_rows, passed_variables};
 use brc_model::{Duty, Holding};
 
@@ -34,6 +35,8 @@ pub fn call(
         return Ok(Act::Stuck);
     }
     let moves = hand_over(here, arguments)?;
+    // A call knows that there is an instruction behind its own.
+    next_of(here.at)?;
     let waiting = OpenCall {
         callee,
         at: here.at,
@@ -159,7 +162,7 @@ fn return_to(
     };
     let mut variables = waiting.variables;
     variables[usize::from(waiting.to.number())] = Some(row);
-    let place = go_on(here, waiting, behind, next_of(waiting.at)?, variables)?;
+    let place = go_on(here, waiting, behind, waiting.at + 1, variables)?;
     moves(here.alloc, passed, place)
 }
 

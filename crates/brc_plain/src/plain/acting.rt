@@ -11,14 +11,15 @@ ghost use Rattle.brc_plain.specs.Threads.{actor_of};
 ghost use Rattle.brc_plain.specs.Begun.{no_states};
 
 use crate::act::{Act, AfterDuty, Rest};
-use crate::dispatch::{code_in, dispatch};
+use crate::dispatch::{dispatch, number_in};
 use crate::place::Place;
-use crate::plain::{Plain, has_gone};
+use crate::plain::Plain;
 use crate::refused::Refused;
-use crate::thread::{Thread, is_running};
+use crate::thread::Thread;
 use brc_effect::Blocks;
 use brc_effect::rows::index_of;
 use brc_lang::Instr;
+use brc_machine::threads::{code_of, has_gone, is_running};
 use brc_model::{Choice, Duty};
 use std::alloc::Global;
 
@@ -104,10 +105,7 @@ impl Plain<'_> {
         ensures { result.now ≡ (function_in (machine_in self.now).functions thread.now.function
             (place_in thread.now.place)).code }
     {
-        code_in(
-            self.module.functions.as_slice(),
-            thread.function,
-            &thread.place,
-        )
+        let number = number_in(thread.function, &thread.place);
+        code_of(self.module.functions.as_slice(), number)
     }
 }

@@ -3,7 +3,7 @@
 use crate::act::Act;
 use crate::bag::{Holder, Move};
 use crate::complaint::{Complaint, Use};
-use crate::dispatch::{code_in, number_in};
+use crate::dispatch::number_in;
 use crate::fits::ask_indexed;
 use crate::lives::{Life, is_freed_for, life_at, touched_row};
 use crate::moves::reference_effects;
@@ -82,11 +82,7 @@ impl Plain<'_> {
     }
 
     fn stuck(&self, thread: &Thread) -> Complaint {
-        let code = code_in(
-            self.module.functions.as_slice(),
-            thread.function,
-            &thread.place,
-        );
+        let code = self.code_of(thread);
         let (at, variables) = match &thread.place {
             Place::Idle { .. } => (0, entry_variables()),
             Place::InCall { at, variables, .. } | Place::Inside { at, variables, .. } => {

@@ -5,8 +5,9 @@ ghost use Rattle.brc_plain.specs.Gone.{is_gone_at};
 ghost use Rattle.brc_plain.specs.Plains.{machine_in};
 
 use crate::act::Act;
-use crate::plain::{Plain, has_gone, numbered};
+use crate::plain::{Plain, numbered};
 use crate::refused::Refused;
+use brc_machine::threads::has_gone;
 use brc_model::{Choice, Duty};
 use std::alloc::Global;
 

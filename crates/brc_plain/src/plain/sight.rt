@@ -2,7 +2,7 @@
 
 ghost use Rattle.std.specs.Prelude.{◌≡◌, ◌≤◌, reverse, IfOk};
 ghost use Rattle.brc_model.specs.Threads.{number_in};
-ghost use Rattle.brc_machine.specs.Sights.{begins_at, duty_event, kind_born, next_part, sight_by, sight_of};
+ghost use Rattle.brc_machine.specs.Sights.{begins_at, duty_event, next_part, sight_by, sight_of};
 ghost use Rattle.brc_plain.specs.Acts.{act_in};
 ghost use Rattle.brc_plain.specs.Places.{place_in};
 ghost use Rattle.brc_plain.specs.Plains.{machine_in};
@@ -12,16 +12,16 @@ ghost use Rattle.brc_plain.specs.Threads.{actor_of};
 use crate::act::Act;
 use crate::dispatch::number_in;
 use crate::place::Place;
-use crate::plain::stepping::exit_of;
 use crate::plain::touching::touch_of;
 use crate::plain::{Plain, numbered};
 use crate::refused::Refused;
-use crate::thread::{Thread, is_running};
-use brc_effect::kinds::kind_of_word;
+use crate::thread::Thread;
 use brc_lang::Kind;
 use brc_machine::exits::exit_part;
+use brc_machine::objects::kind_born;
+use brc_machine::threads::{exit_of, is_running};
 use brc_machine::{Event, ExitPart, Part, Sight};
-use brc_model::{Address, Choice, Duty};
+use brc_model::{Choice, Duty};
 use std::alloc::Global;
 
 impl Plain<'_> {
@@ -64,7 +64,7 @@ impl Plain<'_> {
             }
             Act::Does { duty, .. } => {
                 let event = self.duty_event(number, thread, duty)?;
-                Ok(Some(self.sight_of(thread, choice, event, self.kind_born(duty))))
+                Ok(Some(self.sight_of(thread, choice, event, kind_born(&self.memory, duty))))
             }
         }
     }
@@ -82,19 +82,6 @@ impl Plain<'_> {
             found: touch.found,
             left: touch.left,
         })
-    }
-
-    /// Returns the kind of the object that the duty makes, by its kind word, or `None` if the duty is no birth's last
-    /// one.
-    fn kind_born(&self, duty: &Duty) -> Option<Kind>
-        ensures { result ≡ kind_born (machine_in self.now).memory duty.now }
-    {
-        match *duty {
-            Duty::BirthLocal { row, .. } => {
-                Some(kind_of_word(self.memory.read(Address::KindOf { row })))
-            }
-            _ => None,
-        }
     }
 
     /// Returns the sight of the thread's step by the choice, which is the event.

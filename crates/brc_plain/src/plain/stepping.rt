@@ -2,7 +2,6 @@
 
 ghost use Rattle.std.specs.Prelude.{◌≡◌, ◌<◌, length, slice_get, Some, OnOk};
 ghost use Rattle.brc_model.specs.Action.{StepActor};
-ghost use Rattle.brc_model.specs.Dispatch.{exit_of};
 ghost use Rattle.brc_model.specs.StepMachine.{does_by, machine_by, next_machine};
 ghost use Rattle.brc_plain.specs.Acts.{act_in, place_at, rest_in};
 ghost use Rattle.brc_plain.specs.Plains.{machine_in};
@@ -14,18 +13,9 @@ use crate::plain::touching::touch_of;
 use crate::plain::{Plain, numbered};
 use crate::refused::Refused;
 use brc_effect::Doer;
+use brc_machine::threads::exit_of;
 use brc_model::{Choice, Duty, Exit};
 use std::alloc::Global;
-
-/// Returns the exit by which the choice ends a host call or a close.
-pub(crate) fn exit_of(choice: Choice) -> Exit
-    ensures { result ≡ exit_of choice }
-{
-    match choice {
-        Choice::Ok | Choice::Claim(_) | Choice::Stop => Exit::Success,
-        Choice::Fault => Exit::Fault,
-    }
-}
 
 impl Plain<'_> {
     /// Takes the thread's step by the choice. After an `Err` the machine is neither the old nor the new one.

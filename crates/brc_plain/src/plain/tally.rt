@@ -6,11 +6,12 @@ ghost use Rattle.brc_machine.specs.MachineTallies.{is_left, left_object, machine
 ghost use Rattle.brc_plain.specs.Plains.{machine_in};
 
 use crate::bag::is_among;
-use crate::plain::{Plain, has_gone};
+use crate::plain::Plain;
 use crate::refused::Refused;
 use crate::thread::Thread;
 use brc_effect::rows::row_count;
 use brc_lang::{Kind, Sequence};
+use brc_machine::threads::has_gone;
 use brc_report::{Left, Tally};
 use std::alloc::Global;
 

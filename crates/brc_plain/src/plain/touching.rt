@@ -10,9 +10,10 @@ ghost use Rattle.brc_machine.specs.Storage.{word_in};
 use crate::fits::{ask_indexed, ask_numbered, ask_suits, ask_used};
 use crate::plain::MOST_ROWS;
 use crate::refused::Refused;
-use crate::thread::{Thread, is_running};
+use crate::thread::Thread;
 use brc_effect::{Blocks, access_of, address_of};
 use brc_machine::Memory;
+use brc_machine::threads::is_running;
 use brc_model::{Address, Duty};
 
 /// The word that a duty is about, in a machine with this number of rows.

@@ -9,9 +9,9 @@ ghost use Rattle.brc_world.specs.Starts.{action_at, CanDispatch, HasDispatched};
 
 use crate::dispatch::Start;
 use crate::dispatch::references::release;
-use crate::open_call::OpenCall;
 use crate::thread::Thread;
 use brc_lang::{Arguments, Variable};
+use brc_machine::OpenCall;
 use brc_machine::variables::{all_named, kept_rows, passed_variables};
 
 /// Begins `call`: the thread is before the first instruction of the function called. What the call steals is the

@@ -1,20 +1,20 @@
 //! The dispatch of `open`, `connect`, `read` and `write`, which call the host.
 
-ghost use Rattle.std.specs.Prelude.{◌≡◌, ℕ, None, Some, [], slice_set};
+ghost use Rattle.std.specs.Prelude.{ℕ, None, Some, [], slice_set};
 ghost use Rattle.brc_lang.specs.declared.module.Instr.TheVariants as instructions;
 ghost use Rattle.brc_model.specs.declared.actor.Place.TheVariants.{InCall};
 ghost use Rattle.brc_model.specs.declared.actor.Stage.TheVariants as stages;
 ghost use Rattle.brc_model.specs.declared.layout.Layout.{Layout};
 ghost use Rattle.brc_model.specs.Actions.{Silent, grant_action, granted_birth, lend_action};
-ghost use Rattle.brc_model.specs.Machine.{has_room};
 ghost use Rattle.brc_world.specs.Actors.{context_in};
 ghost use Rattle.brc_world.specs.Starts.{action_at, action_inside, CanDispatch, HasDispatched};
 
 use crate::dispatch::Start;
 use crate::host_call::HostCall;
 use crate::thread::{Mode, Thread};
-use brc_effect::rows::{block_size, row_at};
+use brc_effect::rows::row_at;
 use brc_lang::{Instr, Variable};
+use brc_machine::threads::has_room;
 use brc_model::{Duty, Exit, Layout, Stage};
 use brc_word::kind_word;
 use brc_word::values::{FILE, NUM, SOCK};
@@ -241,11 +241,4 @@ fn give_birth(
         holding: thread.holding(to),
         word,
     });
-}
-
-/// Returns whether the thread has a row left for a birth.
-fn has_room(layout: Layout, number: u8, used: u32) -> bool
-    ensures { result ≡ has_room layout number used }
-{
-    used < block_size(layout, number)
 }

@@ -2,8 +2,8 @@
 
 ghost use Rattle.std.specs.Prelude.{◌+◌, ◌<◌, ◌^◌};
 
+use crate::variables::Variables;
 use brc_lang::Variable;
-use brc_machine::variables::Variables;
 
 /// How often each instruction `again` of a function, by its point, has gone back in a call of it.
 pub type Turns = [u16; 256];
