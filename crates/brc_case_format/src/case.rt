@@ -32,6 +32,12 @@ pub struct Row {
     pub answer: Vec<u8>,
 }
 
+/// The line on standard error if nothing is wrong but that the output has stopped, ..
+const CANNOT_WRITE: &[u8] = b"cannot write\n";
+
+/// .. and the status.
+const NOT_WRITTEN: u8 = 2;
+
 /// A command line, the files that it finds, its status, and what it has to write.
 #[derive(Drop)]
 pub struct Case {
@@ -84,7 +90,7 @@ impl Case {
         let mut says_all = stream == Stream::All;
         for wanted in &self.wanted {
             says_all |= wanted.stream == Stream::All;
-            if wanted.stream != stream || wanted.name.as_str() != name {
+            if wanted.stream != stream || wanted.name.as_str() != name || wanted.is_of_stopped() {
                 continue;
             }
             said = true;
@@ -100,6 +106,26 @@ impl Case {
         } else {
             says_all || found.is_empty()
         }
+    }
+
+    /// Returns whether the command is also carried out over outputs that stop taking bytes.
+    pub fn stops(&self) -> bool {
+        self.wanted.iter().any(|wanted| wanted.how == How::Stops)
+    }
+
+    /// Returns whether the command may write this on standard error and end with this status if its output has stopped
+    /// before the end.
+    pub fn is_stopped(&self, err: &[u8], status: u8) -> bool {
+        let own = self.status.unwrap_or(0);
+        for wanted in &self.wanted {
+            if wanted.is_of_stopped() {
+                return err == wanted.text.as_slice() && status == own.max(NOT_WRITTEN);
+            }
+        }
+        if own == 0 {
+            return err == CANNOT_WRITE && status == NOT_WRITTEN;
+        }
+        self.is_met(Stream::Err, "", err) && status == own
     }
 }
 

@@ -29,7 +29,7 @@ pub enum Why {
     NoCommand,
     #[error("the case has no line `status`")]
     NoStatus,
-    #[error("`out`, `err` and `all` stand alone, or with `has`, `lacks`, `begins`, `ends` or `narrow`; `saved NAME` with one of these; `file NAME` alone, or with `no memory` or `full`")]
+    #[error("`out`, `err` and `all` stand alone, or with `has`, `lacks`, `begins`, `ends` or `narrow`; `saved NAME` with one of these; `out` and `err` with `stops`; `file NAME` alone, or with `no memory` or `full`")]
     WrongWords,
     #[error("`or` comes after a whole text of `out`, `err` or `all`")]
     NoAlternative,

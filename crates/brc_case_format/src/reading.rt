@@ -189,6 +189,7 @@ impl Reader {
             "begins" => How::Begins,
             "ends" => How::Ends,
             "narrow" => How::Narrow,
+            "stops" if stream == Stream::Out || stream == Stream::Err => How::Stops,
             _ => return Err(Why::WrongWords),
         };
         let wanted = Wanted {

@@ -20,6 +20,9 @@ pub enum How {
     Ends,
     /// No line is wider than 80 columns.
     Narrow,
+    /// Of standard output: the whole text is this, if there is content, and the output may stop before its end. Of
+    /// standard error: it is this if the output has stopped.
+    Stops,
 }
 
 /// What a command has to write on a stream.
@@ -43,7 +46,13 @@ impl Wanted {
             How::Begins => found.starts_with(text),
             How::Ends => found.ends_with(text),
             How::Narrow => is_narrow(found),
+            How::Stops => text.is_empty() || found == text,
         }
+    }
+
+    /// Returns whether it says what standard error has if the output has stopped.
+    pub fn is_of_stopped(&self) -> bool {
+        self.how == How::Stops && self.stream == Stream::Err
     }
 }
 

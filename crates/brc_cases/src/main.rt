@@ -2,8 +2,11 @@
 //! prints a line for each case that differs, and last how many hold.
 #![tactic(auto)]
 
+mod carrying;
 mod running;
 mod shelf;
+mod sink;
+mod stopping;
 mod window;
 
 use anyhow::{Result, bail};

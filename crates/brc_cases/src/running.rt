@@ -1,7 +1,8 @@
+use crate::carrying::{Ran, carry_out};
 use crate::shelf::Shelf;
-use crate::window::Window;
+use crate::sink::{ENDLESS, Room};
+use crate::stopping::stopped_difference;
 use anyhow::Result;
-use brc_arguments::{act_on, color_of};
 use brc_case_format::{Case, Stream};
 use brc_run::System;
 use std::alloc::{AllocError, Global};
@@ -51,59 +52,34 @@ fn try_one<R: System + Print + AllocGlobal>(
 /// Runs the case, and returns how it differs, or an empty text.
 fn difference_of<R: System + AllocGlobal>(rt: &R, case: &Case) -> Result<String, AllocError> {
     let alloc = rt.alloc();
-    let words = words_of(alloc, case)?;
-    let mut out: Vec<u8> = Vec::new(alloc);
-    let mut err: Vec<u8> = Vec::new(alloc);
+    let room = Room {
+        out: ENDLESS,
+        err: ENDLESS,
+        interrupts: false,
+    };
     let mut shelf = Shelf::new(alloc, case);
-    let colors = color_of(alloc, words.as_slice()).colors(case.is_terminal);
-    let mut window = Window::new(alloc, case.is_terminal, colors);
-    let status = act_on(
-        rt,
-        alloc,
-        words.as_slice(),
-        &mut shelf,
-        &mut window,
-        &mut out,
-        &mut err,
-    );
-    // The terminal is wiped before anything is written.
-    let mut shown = Vec::from_slice(alloc, window.shown())?;
-    shown.extend_from_slice(err.as_slice())?;
-    told(alloc, case, status, &mut out, shown.as_slice(), &shelf)
-}
-
-fn words_of(alloc: Global, case: &Case) -> Result<Vec<String>, AllocError> {
-    let mut words = Vec::new(alloc);
-    for word in &case.words {
-        words.push(text_of(alloc, word.as_slice())?)?;
+    let ran = carry_out(rt, case, &mut shelf, &room)?;
+    let said = told(alloc, case, &ran, &shelf)?;
+    if said.is_empty() && case.stops() {
+        return stopped_difference(rt, case, &ran);
     }
-    Ok(words)
+    Ok(said)
 }
 
 /// Returns how a command's status and what it wrote differ from the case.
-fn told(
-    alloc: Global,
-    case: &Case,
-    status: u8,
-    out: &mut Vec<u8>,
-    err: &[u8],
-    shelf: &Shelf<'_>,
-) -> Result<String, AllocError> {
+fn told(alloc: Global, case: &Case, ran: &Ran, shelf: &Shelf<'_>) -> Result<String, AllocError> {
     let mut said = String::new(alloc);
+    let status = ran.status;
     if case.status != Some(status) {
         said.push_str(format!(in alloc; "status {status}")?.as_str())?;
     }
-    tell(
-        &mut said,
-        case,
-        Stream::Out,
-        "",
-        "standard output",
-        out.as_slice(),
-    )?;
+    let out = ran.out.as_slice();
+    let err = ran.err.as_slice();
+    let mut all = Vec::from_slice(alloc, out)?;
+    all.extend_from_slice(err)?;
+    tell(&mut said, case, Stream::Out, "", "standard output", out)?;
     tell(&mut said, case, Stream::Err, "", "standard error", err)?;
-    out.extend_from_slice(err)?;
-    tell(&mut said, case, Stream::All, "", "all", out.as_slice())?;
+    tell(&mut said, case, Stream::All, "", "all", all.as_slice())?;
     tell_saved(&mut said, case, shelf)?;
     Ok(said)
 }
@@ -140,8 +116,4 @@ fn tell(
         Ok(text) => said.push_str(text),
         Err(_) => said.push_str("bytes that are no text"),
     }
-}
-
-fn text_of(alloc: Global, bytes: &[u8]) -> Result<String, AllocError> {
-    String::from_str(alloc, str::from_utf8(bytes).unwrap_or(""))
 }

@@ -4,11 +4,15 @@ use brc_command::{CHANGED_NOTHING, Terminal};
 use brc_report::Paint;
 use brc_work::Gate;
 use std::alloc::{AllocError, Global};
+use std::sync::atomic::{AtomicU64, Ordering};
 
 /// What wipes the line that the cursor is in (ECMA-48: to its first column, and erased from there).
 const WIPED: &str = "\r\x1b[K";
 
-/// A terminal in memory, or none. It shows each number at once.
+/// What it shows if a command clears it twice.
+const CLEARED_TWICE: &str = "cleared twice\n";
+
+/// A terminal in memory, or none. It shows each number at once, and how many calls workers have made once all are made.
 #[derive(Drop)]
 pub struct Window {
     alloc: Global,
@@ -22,6 +26,11 @@ pub struct Window {
     no_ops: u64,
     /// How many seconds have passed: one with each number of states.
     seconds: u64,
+    /// The calls of workers that have begun, and those that have ended.
+    begun: AtomicU64,
+    ended: AtomicU64,
+    /// Whether the command has cleared it.
+    is_cleared: bool,
 }
 
 impl Window {
@@ -35,6 +44,9 @@ impl Window {
             is_covered: false,
             no_ops: 0,
             seconds: 0,
+            begun: AtomicU64::new(0),
+            ended: AtomicU64::new(0),
+            is_cleared: false,
         }
     }
 
@@ -56,6 +68,16 @@ impl Window {
         self.shown.push_str(line.as_str())
     }
 
+    fn say_calls(&mut self) -> Result<(), AllocError> {
+        let begun = self.begun.load(Ordering::SeqCst);
+        let ended = self.ended.load(Ordering::SeqCst);
+        if begun == 0 && ended == 0 {
+            return Ok(());
+        }
+        let line = format!(in self.alloc; "{begun} calls have begun, {ended} have ended\n")?;
+        self.shown.push_str(line.as_str())
+    }
+
     fn add(&mut self, number: u64, what: &str) -> Result<(), AllocError> {
         let line = format!(in self.alloc; "{WIPED}{number} {what}")?;
         self.shown.push_str(line.as_str())
@@ -63,9 +85,13 @@ impl Window {
 }
 
 impl Gate for Window {
-    fn before(&self, _thread: u8, _call: u32) {}
+    fn before(&self, _thread: u8, _call: u32) {
+        self.begun.fetch_add(1, Ordering::SeqCst);
+    }
 
-    fn after(&self, _thread: u8, _call: u32) {}
+    fn after(&self, _thread: u8, _call: u32) {
+        self.ended.fetch_add(1, Ordering::SeqCst);
+    }
 }
 
 impl Terminal for Window {
@@ -102,6 +128,10 @@ impl Terminal for Window {
     }
 
     fn clear(&mut self) {
+        if self.is_there && self.is_cleared {
+            let _ = self.shown.push_str(CLEARED_TWICE);
+        }
+        self.is_cleared = true;
         if self.is_covered {
             self.is_covered = false;
             let _ = self.shown.push_str(WIPED);
@@ -110,5 +140,8 @@ impl Terminal for Window {
             let _ = self.say_no_ops();
         }
         self.no_ops = 0;
+        if self.is_there {
+            let _ = self.say_calls();
+        }
     }
 }

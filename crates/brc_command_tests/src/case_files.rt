@@ -48,7 +48,18 @@ const FAULTS: &[(&str, usize, Why)] = &[
         Why::WrongWords,
     ),
     (
+        "case one\n$ brc\nstatus 0\nsaved p.svg stops\n",
+        4,
+        Why::WrongWords,
+    ),
+    ("case one\n$ brc\nstatus 0\nall stops\n", 4, Why::WrongWords),
+    (
         "case one\n$ brc\nstatus 0\nout has\n| part\nor\n",
+        6,
+        Why::NoAlternative,
+    ),
+    (
+        "case one\n$ brc\nstatus 0\nout stops\n| text\nor\n",
         6,
         Why::NoAlternative,
     ),

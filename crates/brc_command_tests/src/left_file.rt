@@ -1,6 +1,6 @@
 //! A run over the real host leaves its file.
 
-use crate::cases::{UNREAD, acts};
+use crate::acting::{NO_TEXT, WHOLE, acts};
 use std::test::Fail;
 use std::{env, fs, process};
 
@@ -29,9 +29,9 @@ fn a_run_leaves_its_file(rt: HostRuntime) -> Result<(), Fail> {
         "--path",
         path.as_str(),
     ];
-    let (out, err, status) = acts(&rt, words.as_slice(), Ok(MAKES), UNREAD);
+    let acted = acts(&rt, words.as_slice(), (MAKES, false), NO_TEXT, WHOLE);
     assert_eq!(rt;
-        (out.as_slice(), err.is_empty(), status),
+        (acted.out.as_slice(), acted.err.is_empty(), acted.status),
         (NUMBER_REPORT, true, 0)
     );
     assert_eq!(rt; fs::read(&rt, path.as_str())?.as_slice(), b"".as_slice());

@@ -1,23 +1,19 @@
-//! Tests of the commands and of the command line that a case of `brc_cases` can't show: output errors, files in pieces,
-//! long lines, terminals, and the functions over texts; and files of cases that can't be read.
+//! Tests of the commands and of the command line that a case of `brc_cases` can't show: files in pieces, long lines,
+//! screens, and the functions over texts; and files of cases that can't be read.
 #![tactic(auto)]
 
 #[cfg(test)]
-mod case_files;
+mod acting;
 #[cfg(test)]
-mod cases;
+mod case_files;
 #[cfg(test)]
 mod left_file;
 #[cfg(test)]
 mod long_lines;
 #[cfg(test)]
-mod narrow;
-#[cfg(test)]
 mod pieces;
 #[cfg(test)]
 mod screens;
-#[cfg(test)]
-mod terminals;
 #[cfg(test)]
 mod texts;
 #[cfg(test)]

@@ -58,23 +58,25 @@ fn fault_of(alloc: Global, text: &[u8]) -> Option<(u64, FaultCode)> {
     }
 }
 
+/// Returns whether what is kept of the text is short and has its fault, in pieces of each length.
+fn keeps_its_fault(alloc: Global, text: &[u8]) -> Result<bool, AllocError> {
+    let fault = fault_of(alloc, text);
+    let whole = kept_of(alloc, text, text.len())?;
+    let mut is_same = true;
+    for length in PIECES {
+        is_same &= kept_of(alloc, text, *length)? == whole;
+    }
+    let is_short = whole.len() <= MOST_KEPT;
+    Ok(is_same && is_short && fault.is_some() && fault_of(alloc, whole.as_slice()) == fault)
+}
+
 #[test]
 fn long_lines_keep_their_faults(rt: HostRuntime) -> Result<(), Fail> {
-    let alloc = rt.alloc();
     for line in LINES {
         for times in TIMES {
-            let text = text_of(alloc, line, *times)?;
-            let fault = fault_of(alloc, text.as_slice());
-            assert!(rt; fault.is_some());
-            let whole = kept_of(alloc, text.as_slice(), text.len())?;
-            assert!(rt; whole.len() <= MOST_KEPT);
-            for length in PIECES {
-                let kept = kept_of(alloc, text.as_slice(), *length)?;
-                assert!(rt; kept == whole, "{line:?} {times} by {length}");
-            }
-            assert_eq!(rt;
-                fault_of(alloc, whole.as_slice()),
-                fault,
+            let text = text_of(rt.alloc(), line, *times)?;
+            assert!(rt;
+                keeps_its_fault(rt.alloc(), text.as_slice())?,
                 "{line:?} {times}"
             );
         }

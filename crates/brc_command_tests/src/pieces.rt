@@ -1,77 +1,7 @@
 //! Files that are read in pieces, no further than their first line at fault.
 
-ghost use Rattle.std.specs.Prelude.{⊤};
-
-use crate::cases::{FIRST, LEAKING, MISSPELT, SMALLEST, acts};
-use brc_arguments::act;
-use brc_command::{Load, LoadError, Save, SaveError};
+use crate::acting::{Acted, FIRST, LEAKING, MISSPELT, SMALLEST, Tape, WHOLE, acts};
 use brc_run::System;
-
-/// A text, and whether zeros without end are behind it.
-type Tape<'t> = (&'t [u8], bool);
-
-/// The files `m.brc` and `s.txt`, given in pieces.
-#[derive(Clone, Copy)]
-struct Pieces<'t> {
-    module: Tape<'t>,
-    schedule: Tape<'t>,
-    /// How many bytes a piece has.
-    length: usize,
-    /// How many pieces were asked for.
-    asked: usize,
-}
-
-impl Load for Pieces<'_> {
-    ghost may_give = { λ _ _ _. ⊤ };
-
-    ghost may_lack = { λ _ _. ⊤ };
-
-    fn load_more(&mut self, path: &str, bytes: &mut Vec<u8>) -> Result<bool, LoadError> {
-        self.asked = self.asked.saturating_add(1);
-        let (text, goes_on) = match path {
-            "s.txt" => self.schedule,
-            _ => self.module,
-        };
-        let before = bytes.len();
-        for _ in 0..self.length {
-            let byte = match text.get(bytes.len()) {
-                Some(byte) => *byte,
-                None if goes_on => 0,
-                None => return Ok(true),
-            };
-            if bytes.push(byte).is_err() {
-                return Err(LoadError::NoMemory);
-            }
-        }
-        Ok(bytes.len() <= before)
-    }
-}
-
-impl Save for Pieces<'_> {
-    fn save(&mut self, _path: &str, _bytes: &[u8]) -> Result<(), SaveError> {
-        Err(SaveError)
-    }
-}
-
-/// Returns what a command line writes and its status, and how many pieces it asks for.
-fn acts_on_pieces<R: System + AllocGlobal>(
-    rt: &R,
-    words: &[&str],
-    module: Tape<'_>,
-    schedule: Tape<'_>,
-    length: usize,
-) -> ((Vec<u8>, Vec<u8>, u8), usize) {
-    let mut out: Vec<u8> = Vec::new(rt.alloc());
-    let mut err: Vec<u8> = Vec::new(rt.alloc());
-    let mut load = Pieces {
-        module,
-        schedule,
-        length,
-        asked: 0,
-    };
-    let status = act(rt, rt.alloc(), words, &mut load, &mut out, &mut err);
-    ((out, err, status), load.asked)
-}
 
 const FIFTH: &[u8] = b"module 1\nfunc f\nnewref v1 v0\ndrop v1\nfai\n";
 
@@ -82,6 +12,8 @@ const FIFTH_OF_PLAN: &[u8] = b"schedule 1\nworkers 1\nrows 4\ncall 1 f 1\nstep 0
 const ZEROS: Tape<'static> = (b"", true);
 
 const FIFTH_SAID: &[u8] = b"unreadable line 5 L2\n";
+
+const STEP: &[&str] = &["brc", "step", "m.brc", "s.txt"];
 
 // A command line, the module and the schedule, and how many pieces of 16 bytes are asked for; the line on standard
 // error.
@@ -136,33 +68,44 @@ const TEXTS: &[(&[u8], &[u8])] = &[
     (b"modul", PLAN),
 ];
 
+/// Returns whether the command line stops for this reason, behind this number of pieces.
+fn stops_at<R: System + AllocGlobal>(
+    rt: &R,
+    words: &[&str],
+    (module, schedule, count): (Tape<'_>, Tape<'_>, usize),
+    line: &[u8],
+) -> bool {
+    let acted = acts(rt, words, module, schedule, 16);
+    acted.err.as_slice() == line && acted.status == 2 && acted.asked == count
+}
+
+fn is_same(acted: &Acted, whole: &Acted) -> bool {
+    acted.out == whole.out && acted.err == whole.err && acted.status == whole.status
+}
+
+/// Returns a length of pieces of which the command reads something else, or 0.
+fn misread_length<R: System + AllocGlobal>(rt: &R, module: &[u8], schedule: &[u8]) -> usize {
+    let whole = acts(rt, STEP, (module, false), (schedule, false), WHOLE);
+    let mut misread = 0;
+    for length in 1..60 {
+        let acted = acts(rt, STEP, (module, false), (schedule, false), length);
+        if !is_same(&acted, &whole) {
+            misread = length;
+        }
+    }
+    misread
+}
+
 #[test]
 fn reads_files_in_pieces(rt: HostRuntime) {
-    for (words, (module, schedule, count), line) in AT_FAULT {
-        let (told, asked) = acts_on_pieces(&rt, words, *module, *schedule, 16);
-        let (_, err, status) = told;
-        assert_eq!(rt;
-            (err.as_slice(), status, asked),
-            (*line, 2, *count),
-            "{words:?}"
-        );
+    for (words, files, line) in AT_FAULT {
+        assert!(rt; stops_at(&rt, words, *files, line), "{words:?}");
     }
-    let words = ["brc", "step", "m.brc", "s.txt"];
     for (module, schedule) in TEXTS {
-        let (out, err, status) = acts(&rt, words.as_slice(), Ok(*module), Ok(*schedule));
-        for length in 1..60 {
-            let ((found, line, ended), _) = acts_on_pieces(
-                &rt,
-                words.as_slice(),
-                (*module, false),
-                (*schedule, false),
-                length,
-            );
-            assert_eq!(rt;
-                (found.as_slice(), line.as_slice(), ended),
-                (out.as_slice(), err.as_slice(), status),
-                "{module:?} {schedule:?} by {length}"
-            );
-        }
+        assert_eq!(rt;
+            misread_length(&rt, module, schedule),
+            0,
+            "{module:?} {schedule:?}"
+        );
     }
 }

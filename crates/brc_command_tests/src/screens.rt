@@ -31,10 +31,6 @@ impl Desk {
         }
     }
 
-    fn set(&self, millis: u64) {
-        self.millis.store(millis, Ordering::SeqCst);
-    }
-
     /// Returns how many numbers it has shown, and how often it was only wiped.
     fn seen(&self) -> (u64, u64) {
         let numbers = self.numbers.load(Ordering::SeqCst);
@@ -68,59 +64,96 @@ impl Eprint for Desk {
     }
 }
 
-// Two seconds pass before the first number, and half a second before the next one.
-#[test]
-fn shows_numbers_of_long_commands(rt: HostRuntime) {
-    let desk = Desk::new(rt.alloc());
-    let mut screen = Screen::new(&desk, false, true);
-    desk.set(1999);
-    screen.judged(1);
-    screen.made(65_536);
-    screen.visited(256);
-    screen.clear();
-    assert_eq!(rt; desk.seen(), (0, 0));
-    desk.set(2000);
-    screen.judged(2);
-    screen.judged(3);
-    assert_eq!(rt; desk.seen(), (1, 0));
-    desk.set(2499);
-    screen.judged(4);
-    assert_eq!(rt; desk.seen(), (1, 0));
-    desk.set(2500);
-    screen.judged(5);
-    assert_eq!(rt; (desk.seen(), screen.passed()), ((2, 0), 2));
-    screen.clear();
-    assert_eq!(rt; desk.seen(), (2, 1));
-    screen.clear();
-    assert_eq!(rt; desk.seen(), (2, 1));
+/// What a screen may meet.
+#[derive(Clone, Copy)]
+enum Event {
+    /// The clock shows these milliseconds.
+    Clock(u64),
+    Judged(u64),
+    Made(u64),
+    Visited(u64),
+    /// A worker makes this many calls.
+    Calls(u64),
+    Clear,
 }
+
+/// Events, and what `Desk::seen` is after each of them.
+type Story<'t> = &'t [(Event, (u64, u64))];
+
+// Two seconds pass before the first number, and half a second before the next one.
+const LONG: Story<'static> = &[
+    (Event::Clock(1999), (0, 0)),
+    (Event::Judged(1), (0, 0)),
+    (Event::Made(65_536), (0, 0)),
+    (Event::Visited(256), (0, 0)),
+    (Event::Clear, (0, 0)),
+    (Event::Clock(2000), (0, 0)),
+    (Event::Judged(2), (1, 0)),
+    (Event::Judged(3), (1, 0)),
+    (Event::Clock(2499), (1, 0)),
+    (Event::Judged(4), (1, 0)),
+    (Event::Clock(2500), (1, 0)),
+    (Event::Judged(5), (2, 0)),
+    (Event::Clear, (2, 1)),
+    (Event::Clear, (2, 1)),
+];
 
 // A run shows its calls, each 64th of them.
-#[test]
-fn shows_calls(rt: HostRuntime) {
-    let desk = Desk::new(rt.alloc());
-    let mut screen = Screen::new(&desk, true, true);
-    desk.set(5000);
-    for _call in 0..63 {
-        screen.after(0, 0);
+const CALLS: Story<'static> = &[
+    (Event::Clock(5000), (0, 0)),
+    (Event::Calls(63), (0, 0)),
+    (Event::Calls(1), (1, 0)),
+    (Event::Clear, (1, 1)),
+];
+
+const UNWATCHED: Story<'static> = &[
+    (Event::Clock(60_000), (0, 0)),
+    (Event::Judged(1), (0, 0)),
+    (Event::Made(65_536), (0, 0)),
+    (Event::Calls(64), (0, 0)),
+    (Event::Clear, (0, 0)),
+];
+
+// Whether texts have colours, whether a terminal is there, the events, and the seconds that have passed by then.
+const SCREENS: &[(bool, bool, Story<'static>, u64)] = &[
+    (false, true, LONG, 2),
+    (true, true, CALLS, 5),
+    (true, false, UNWATCHED, 60),
+];
+
+fn tell(desk: &Desk, screen: &mut Screen<'_, Desk>, event: &Event) {
+    match event {
+        Event::Clock(millis) => desk.millis.store(*millis, Ordering::SeqCst),
+        Event::Judged(functions) => screen.judged(*functions),
+        Event::Made(steps) => screen.made(*steps),
+        Event::Visited(states) => screen.visited(*states),
+        Event::Calls(calls) => {
+            for _call in 0..*calls {
+                screen.after(0, 0);
+            }
+        }
+        Event::Clear => screen.clear(),
     }
-    assert_eq!(rt; desk.seen(), (0, 0));
-    screen.after(0, 0);
-    assert_eq!(rt; desk.seen(), (1, 0));
-    screen.clear();
-    assert_eq!(rt; desk.seen(), (1, 1));
+}
+
+/// Returns whether a screen shows what it has to, and gives these seconds in the end.
+fn shows(alloc: Global, colors: bool, watched: bool, story: Story<'_>, seconds: u64) -> bool {
+    let desk = Desk::new(alloc);
+    let mut screen = Screen::new(&desk, colors, watched);
+    let mut is_right = true;
+    for (event, seen) in story {
+        tell(&desk, &mut screen, event);
+        is_right &= desk.seen() == *seen;
+    }
+    is_right && screen.passed() == seconds
 }
 
 #[test]
-fn shows_nothing_without_a_terminal(rt: HostRuntime) {
-    let desk = Desk::new(rt.alloc());
-    let mut screen = Screen::new(&desk, true, false);
-    desk.set(60_000);
-    screen.judged(1);
-    screen.made(65_536);
-    for _call in 0..64 {
-        screen.after(0, 0);
+fn shows_how_far_a_command_is(rt: HostRuntime) {
+    for (colors, watched, story, seconds) in SCREENS {
+        assert!(rt;
+            shows(rt.alloc(), *colors, *watched, story, *seconds),
+            "{seconds} seconds"
+        );
     }
-    screen.clear();
-    assert_eq!(rt; desk.seen(), (0, 0));
 }

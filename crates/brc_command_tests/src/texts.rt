@@ -1,10 +1,8 @@
-//! Schedules over modules that are given as texts: the report, the trace, the picture, and each fault.
+//! Schedules over modules that are given as texts: the report, the trace, and what each fault says.
 
-use crate::cases::{LEAKING, MISSPELT, SMALLEST, contains};
-use brc_command::{StepFault, picture_text, step_text, trace_text};
+use crate::acting::{LEAKING, MISSPELT, SMALLEST};
+use brc_command::{StepFault, step_text, trace_text};
 use std::alloc::{AllocError, Global};
-use std::io;
-use std::io::Write;
 use std::test::Fail;
 
 // Worker 1 calls `f` once and exits. Main then claims the root, which the worker has queued.
@@ -51,33 +49,48 @@ const MERGED_AT_EXIT: &[u8] =
 const BOTH_CLOSED: &[u8] =
     b"threads 2\nrunning 0\ncreated 2\nclosed 2\nalive 0\nhost faults 0\nclose faults 0\n";
 
-// A module, a schedule, and why it isn't stepped.
-const FAULTS: &[(&[u8], &[u8], &str)] = &[
-    (MISSPELT, PLAN, "unreadable line 3 L2"),
+const NO_WORKERS: &[u8] = b"schedule 1\nworkers 0\n";
+
+const NO_FUNCTION: &[u8] = b"schedule 1\nworkers 1\nrows 4\ncall 1 g 1\n";
+
+// Whether the steps are traced, a module, a schedule, what is written, and why it isn't stepped.
+const STEPPED: &[(bool, &[u8], &[u8], &[u8], &str)] = &[
+    (false, OWN_AND_OTHER, MERGED_AT_EXIT, BOTH_CLOSED, ""),
+    (true, SMALLEST, PLAN, TRACE, ""),
+    (false, MISSPELT, PLAN, b"", "unreadable line 3 L2"),
+    (true, MISSPELT, PLAN, b"", "unreadable line 3 L2"),
     (
+        false,
         SMALLEST,
-        b"schedule 1\nworkers 0\n",
+        NO_WORKERS,
+        b"",
         "unreadable schedule line 2 L3",
     ),
-    (LEAKING, PLAN, "refused f @1 C5"),
     (
+        true,
         SMALLEST,
-        b"schedule 1\nworkers 1\nrows 4\ncall 1 g 1\n",
-        "no function g",
+        NO_WORKERS,
+        b"",
+        "unreadable schedule line 2 L3",
     ),
+    (false, LEAKING, PLAN, b"", "refused f @1 C5"),
+    (true, LEAKING, PLAN, b"", "refused f @1 C5"),
+    (false, SMALLEST, NO_FUNCTION, b"", "no function g"),
+    (true, SMALLEST, NO_FUNCTION, b"", "no function g"),
 ];
 
-/// A writer that takes nothing.
-#[derive(Clone, Copy)]
-struct Full;
-
-impl Write for Full {
-    fn write(&mut self, _buf: &[u8]) -> io::Result<usize> {
-        Ok(0)
-    }
-
-    fn flush(&mut self) -> io::Result<()> {
-        Ok(())
+/// Steps the schedule, or traces it.
+fn steps(
+    alloc: Global,
+    is_traced: bool,
+    module: &[u8],
+    schedule: &[u8],
+    out: &mut Vec<u8>,
+) -> Result<(), StepFault> {
+    if is_traced {
+        trace_text(alloc, module, schedule, out)
+    } else {
+        step_text(alloc, module, schedule, out)
     }
 }
 
@@ -90,27 +103,14 @@ fn said(alloc: Global, ended: Result<(), StepFault>) -> Result<String, AllocErro
 }
 
 #[test]
-fn texts_are_stepped_traced_and_drawn(rt: HostRuntime) -> Result<(), Fail> {
+fn texts_are_stepped_and_traced(rt: HostRuntime) -> Result<(), Fail> {
     let alloc = rt.alloc();
-    let mut report: Vec<u8> = Vec::new(alloc);
-    let ended = said(
-        alloc,
-        step_text(alloc, OWN_AND_OTHER, MERGED_AT_EXIT, &mut report),
-    )?;
-    assert_eq!(rt; (report.as_slice(), ended.as_str()), (BOTH_CLOSED, ""));
-    let mut trace: Vec<u8> = Vec::new(alloc);
-    let ended = said(alloc, trace_text(alloc, SMALLEST, PLAN, &mut trace))?;
-    assert_eq!(rt; (trace.as_slice(), ended.as_str()), (TRACE, ""));
-    let picture = picture_text(alloc, SMALLEST, PLAN)?;
-    assert!(rt; contains(picture.as_slice(), b">claim of row 1</text>"));
-    for (module, schedule, fault) in FAULTS {
+    for (is_traced, module, schedule, text, fault) in STEPPED {
         let mut out: Vec<u8> = Vec::new(alloc);
-        let ended = said(alloc, step_text(alloc, module, schedule, &mut out))?;
-        assert_eq!(rt; ended.as_str(), *fault);
-        let ended = said(alloc, trace_text(alloc, module, schedule, &mut out))?;
-        assert_eq!(rt; (ended.as_str(), out.is_empty()), (*fault, true));
+        let ended = said(alloc, steps(alloc, *is_traced, module, schedule, &mut out))?;
+        assert_eq!(rt; (out.as_slice(), ended.as_str()), (*text, *fault));
     }
-    let ended = said(alloc, step_text(alloc, SMALLEST, PLAN, &mut Full))?;
+    let ended = said(alloc, Err(StepFault::Output))?;
     assert_eq!(rt; ended.as_str(), "cannot write");
     Ok(())
 }

@@ -1,13 +1,13 @@
 //! The commands write all that an explanation says: what is on standard output is compared, byte by byte, with what
 //! `brc_explain` and `brc_pages` write themselves.
 
-use crate::cases::{FIRST, MISSPELT, UNREAD, outputs};
+use crate::acting::{FIRST, MISSPELT, NO_TEXT, WHOLE, acts};
 use brc_check::{CheckCode, check, infer};
-use brc_command::Asked;
 use brc_explain::{explain_accepted, explain_refused, explain_unreadable};
 use brc_lang::{FaultCode, read};
 use brc_pages::{Topic, write_page};
 use brc_report::Paint;
+use brc_run::System;
 use std::alloc::Global;
 
 /// `keep` steals the number, and puts it into the root.
@@ -36,45 +36,53 @@ const MODULES: &[&[u8]] = &[
     FIRST, TWO_PATHS, KEEP, FETCHED, KEPT, NOT_THERE, MISSPELT, b"",
 ];
 
-const TOPICS: &[Topic] = &[
-    Topic::Check(CheckCode::StatesDiffer),
-    Topic::Read(FaultCode::Target),
+// Codes, and what they are codes of.
+const TOPICS: &[(&str, Topic)] = &[
+    ("C10", Topic::Check(CheckCode::StatesDiffer)),
+    ("L4", Topic::Read(FaultCode::Target)),
 ];
 
-/// Returns the explanation of the module of this text, or `None` if memory is refused.
-fn explanation(alloc: Global, text: &[u8]) -> Option<Vec<u8>> {
-    let mut out = Vec::new(alloc);
+/// Writes the explanation of the module of this text, if no memory is refused.
+fn explain(alloc: Global, text: &[u8], out: &mut Vec<u8>) {
     let module = match read(alloc, text) {
         Ok(module) => module,
         Err(fault) => {
-            explain_unreadable(text, &fault, Paint::Plain, &mut out).ok()?;
-            return Some(out);
+            let _ = explain_unreadable(text, &fault, Paint::Plain, out);
+            return;
         }
     };
     if let Err(refused) = infer(alloc, &module) {
-        explain_refused(alloc, &module, &refused, None, Paint::Plain, &mut out).ok()?;
-        return Some(out);
+        let _ = explain_refused(alloc, &module, &refused, None, Paint::Plain, out);
+        return;
     }
-    let checked = check(alloc, module).ok()?;
-    explain_accepted(alloc, &checked, None, Paint::Plain, &mut out).ok()?;
-    Some(out)
+    if let Ok(checked) = check(alloc, module) {
+        let _ = explain_accepted(alloc, &checked, None, Paint::Plain, out);
+    }
+}
+
+/// Returns whether the command writes the explanation of the module, and nothing else.
+fn explains_module<R: System + AllocGlobal>(rt: &R, module: &[u8]) -> bool {
+    let words = ["brc", "explain", "m.brc"];
+    let acted = acts(rt, words.as_slice(), (module, false), NO_TEXT, WHOLE);
+    let mut text: Vec<u8> = Vec::new(rt.alloc());
+    explain(rt.alloc(), module, &mut text);
+    acted.out == text
+}
+
+/// Returns whether the command writes the page of the code, and nothing else.
+fn explains_code<R: System + AllocGlobal>(rt: &R, code: &str, topic: Topic) -> bool {
+    let words = ["brc", "explain", "--code", code];
+    let acted = acts(rt, words.as_slice(), NO_TEXT, NO_TEXT, WHOLE);
+    let mut page: Vec<u8> = Vec::new(rt.alloc());
+    write_page(topic, Paint::Plain, &mut page).is_ok() && acted.out == page
 }
 
 #[test]
 fn explanations_are_written_whole(rt: HostRuntime) {
-    let explain = Asked::Explain {
-        file: "m.brc",
-        function: None,
-    };
     for module in MODULES {
-        let (out, _, _) = outputs(&rt, &explain, Ok(*module), UNREAD);
-        assert!(rt; Some(out) == explanation(rt.alloc(), module), "{module:?}");
+        assert!(rt; explains_module(&rt, module), "{module:?}");
     }
-    for topic in TOPICS {
-        let (out, _, _) = outputs(&rt, &Asked::Page { topic: *topic }, UNREAD, UNREAD);
-        let mut page: Vec<u8> = Vec::new(rt.alloc());
-        let written = write_page(*topic, Paint::Plain, &mut page);
-        assert!(rt; written.is_ok());
-        assert!(rt; out == page, "{topic:?}");
+    for (code, topic) in TOPICS {
+        assert!(rt; explains_code(&rt, code, *topic), "{code}");
     }
 }
