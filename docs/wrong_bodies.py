@@ -17,23 +17,29 @@ Without an option the script fails if a line has another form, or names a functi
 rule has neither a wrong body nor a reason in docs/rules.py; or if a mistake that the page names isn't tried by the
 gate.
 
-With --all it clones the last commit into a folder of its own, moves the wrong bodies of also-must-fail/ beside those of
-must-fail/, and has `rt must-fail` try them: those of the crates named, or all. What was tried before on this machine,
-and stands on the same files, isn't tried again. It ends with the number of the refused ones, and with status 1 if one
-isn't refused.
+With --all it clones the last commit into folders of its own, moves the wrong bodies of also-must-fail/ beside those of
+must-fail/, and tries those of the crates named, or all: those that change different functions of a crate by one check,
+and what isn't refused so, each for itself, by `rt must-fail`. Crates are tried side by side. It ends with the number of
+the refused ones, and with status 1 if one isn't refused.
 """
 import functools
 import re
 import subprocess
 import sys
 import tempfile
+from concurrent.futures import ThreadPoolExecutor
 from pathlib import Path
+from queue import Queue
 
 # Importing a script of this folder leaves no file there.
 sys.dont_write_bytecode = True
 import proved
+import refusals
 import rules
 from tables import LISTS, ROOT, link
+
+sys.path.append(str(ROOT / "tools"))
+import lanes
 
 PAGE = LISTS / "WRONG_BODIES.md"
 NAMES_HEADING = "## The mistakes that have a name"
@@ -115,29 +121,43 @@ def check():
     return 1 if found else 0
 
 
+def cloned(folder):
+    """Clones the last commit, with all wrong bodies in must-fail/."""
+    subprocess.run(["git", "clone", "-q", ROOT, folder], check=True)
+    for path in folder.glob("crates/*/also-must-fail/*.edit"):
+        (path.parents[1] / "must-fail").mkdir(exist_ok=True)
+        path.rename(path.parents[1] / "must-fail" / path.name)
+    return folder
+
+
+def say(line):
+    print(line, flush=True)
+
+
 def try_all(crates):
+    number = {crate: len(edits(crate)) for crate in re.findall(r"^(\w+):", (ROOT / "crates.txt").read_text(), re.M)}
+    lacking = [crate for crate in crates if not number.get(crate)]
+    if lacking:
+        print(f"{lacking[0]} has no wrong body")
+        return 1
+    named = [crate for crate in number if number[crate] and (not crates or crate in crates)]
     with tempfile.TemporaryDirectory(prefix="wrong-bodies-") as room:
-        clone = Path(room) / "clone"
-        subprocess.run(["git", "clone", "-q", ROOT, clone], check=True)
-        for path in sorted(clone.glob("crates/*/also-must-fail/*.edit")):
-            (path.parents[1] / "must-fail").mkdir(exist_ok=True)
-            path.rename(path.parents[1] / "must-fail" / path.name)
-        having = sorted({path.parts[-3] for path in clone.glob("crates/*/must-fail/*.edit")})
-        lacking = [crate for crate in crates if crate not in having]
-        if lacking:
-            print(f"{lacking[0]} has no wrong body")
-            return 1
-        named = crates or having
-        wanted = sum(len(list(clone.glob(f"crates/{crate}/must-fail/*.edit"))) for crate in named)
-        into = {"stdout": subprocess.PIPE, "stderr": subprocess.STDOUT, "text": True}
-        ran = subprocess.Popen(["rt", "must-fail", *named], cwd=clone, **into)
-        refused = 0
-        for line in ran.stdout:
-            print(line, end="", flush=True)
-            refused += ": refused, as it must be" in line
-        status = ran.wait()
-        print(f"{refused} of {wanted} wrong bodies refused")
-        return 1 if status or refused != wanted else 0
+        free = Queue()
+        for at in range(lanes.lanes()):
+            free.put(cloned(Path(room) / f"clone-{at}"))
+
+        def tried(crate):
+            clone = free.get()
+            try:
+                return refusals.try_crate(clone / "crates" / crate, say)
+            finally:
+                free.put(clone)
+
+        with ThreadPoolExecutor(lanes.lanes()) as pool:
+            refused = sum(pool.map(tried, named))
+    wanted = sum(number[crate] for crate in named)
+    print(f"{refused} of {wanted} wrong bodies refused")
+    return 0 if refused == wanted else 1
 
 
 def main():

@@ -25,6 +25,10 @@ import time
 from collections import defaultdict
 from pathlib import Path
 
+# Importing a script of this folder leaves no file there.
+sys.dont_write_bytecode = True
+import lanes
+
 ROOT = Path(__file__).resolve().parents[1]
 PAGE = ROOT / "docs" / "lists" / "PERFORMANCE.md"
 MARKS = "<!-- the table of tools/gate_cost.py -->", "<!-- its end -->"
@@ -120,7 +124,7 @@ def measured(root, words=(), out=sys.stdout):
     """Runs `rt ci` in a folder, and passes on what it prints."""
     start, seen, printed = time.time(), {}, []
     into = {"stdout": subprocess.PIPE, "stderr": subprocess.STDOUT, "text": True, "errors": "replace"}
-    ran = subprocess.Popen(["rt", "ci", *words], cwd=root, start_new_session=True, **into)
+    ran = subprocess.Popen(["rt", "ci", *words], cwd=root, env=lanes.environment(), start_new_session=True, **into)
     reader = threading.Thread(target=pass_on, args=(ran.stdout, printed, out))
     reader.start()
     while ran.poll() is None:

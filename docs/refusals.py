@@ -1,0 +1,173 @@
+"""Tries wrong bodies, several of a crate by one check.
+
+A contract stands for its function in the proofs of all others, so two wrong bodies in two functions don't meet: one
+check finds both refused, each function for itself. What it doesn't refuse, and what changes more than functions' bodies
+(a constant, say), is tried alone, by `rt must-fail`.
+"""
+import contextlib
+import re
+import subprocess
+
+# A line of a check that says where in a function a goal isn't proved, or where in its proof a text isn't admitted.
+TOLD = re.compile(r"^(?:note: |error: )?(?:\./)?((?:src|proofs)/\S+?):(\d+):\d+: (.*)$", re.M)
+# A proof that names what the body no longer has says little of the contract.
+NAMES_WHAT_WENT = re.compile(r"has no field|is not in scope|has no `|was not admitted")
+INTO = {"stdout": subprocess.PIPE, "stderr": subprocess.STDOUT, "text": True, "errors": "replace"}
+
+
+class Function:
+    """A function of a file: its name as a check prints it, below the crate, and its first and last line."""
+
+    def __init__(self, name, first, last):
+        self.name, self.first, self.last = name, first, last
+
+
+def owner_of(block):
+    """Returns what a check calls a block: the type of an `impl`, and right after it the trait."""
+    while re.search(r"<[^<>]*>", block):
+        block = re.sub(r"<[^<>]*>", "", block)
+    found = re.match(r"(?:impl (?:([\w:]+) for )?|(?:pub )?trait )(\w+)", block)
+    return found[2] + (found[1] or "").rpartition("::")[2] if found else ""
+
+
+def functions(file, text):
+    """Yields the functions of a file. Each ends with a brace at its own depth, as `rt fmt` sets them."""
+    module = file.removeprefix("src/").removesuffix(".rt").replace("/", "::")
+    above = [] if module in ("lib", "main") else [module]
+    block, lines = "", text.split("\n")
+    for number, line in enumerate(lines, 1):
+        if re.match(r"}|impl\b|(pub )?trait\b", line):
+            block = line if line.endswith("{") else ""
+        begun = re.match(r"( *)(?:pub(?:\(\w+\))? )?(?:const )?fn (\w+)", line)
+        if begun:
+            last = next((at for at, it in enumerate(lines, 1) if at >= number and it == begun[1] + "}"), number)
+            path = [*above, owner_of(block), begun[2]]
+            yield Function("::".join(it for it in path if it), number, last)
+
+
+class Body:
+    """A wrong body: its file, the texts that it changes, and the functions that these stand in; `alone` where one stands in none."""
+
+    def __init__(self, path):
+        self.path, self.folder, said = path, path.parents[1], path.read_text()
+        self.file = re.search(r"^file: (.*)$", said, re.M)[1].strip()
+        olds, news = (re.findall(rf"^{word}: (.*)$", said, re.M) for word in ("old", "new"))
+        self.changes = list(zip(olds, news))
+        text = (self.folder / self.file).read_text()
+        there = list(functions(self.file, text))
+        lines = [text[: text.index(old)].count("\n") + 1 for old in olds]
+        found = [[it for it in there if it.first < line <= it.last] for line in lines]
+        self.functions = [it[-1] for it in found if it]
+        self.alone = not all(found)
+
+    def put_into(self, text):
+        """Returns the text with the changes, or None if what is to be changed doesn't stand there once."""
+        for old, new in self.changes:
+            if text.count(old) != 1:
+                return None
+            text = text.replace(old, new)
+        return text
+
+
+class Group:
+    """Wrong bodies of a crate that change different functions, and the files with all their changes."""
+
+    def __init__(self):
+        self.bodies, self.texts, self.changed = [], {}, set()
+
+    def takes(self, body):
+        changed = {(body.file, it.first) for it in body.functions}
+        before = self.texts.get(body.file) or (body.folder / body.file).read_text()
+        text = None if changed & self.changed else body.put_into(before)
+        if text is None:
+            return False
+        self.bodies.append(body)
+        self.texts[body.file] = text
+        self.changed |= changed
+        return True
+
+
+def groups(bodies):
+    made = []
+    for body in bodies:
+        if not any(it.takes(body) for it in made):
+            made.append(Group())
+            if not made[-1].takes(body):
+                # `rt must-fail` says what is wrong with it
+                made.pop()
+                body.alone = True
+    return made
+
+
+@contextlib.contextmanager
+def written(folder, texts):
+    """Gives a crate's files these texts for a while."""
+    kept = {file: (folder / file).read_text() for file in texts}
+    try:
+        for file, text in texts.items():
+            (folder / file).write_text(text)
+        yield
+    finally:
+        for file, text in kept.items():
+            (folder / file).write_text(text)
+
+
+def refusal(body, said):
+    """Returns what a check says of a function that the body changes, if it isn't proved by its own fault, or None."""
+    lines = re.findall(rf"^fn {body.folder.name}::(\S+): (.*)$", said, re.M)
+    told = TOLD.findall(said)
+    for changed in body.functions:
+        proof = f"proofs/{changed.name.replace('::', '/')}/"
+        its = [
+            f"{file}:{line}: {why}"
+            for file, line, why in told
+            if file == body.file and changed.first <= int(line) <= changed.last
+            or file.startswith(proof) and not NAMES_WHAT_WENT.search(why)
+        ]
+        # A closure is below its function.
+        is_refused = any(f"{name}::".startswith(f"{changed.name}::") and why.startswith(("no proof", "not proved"))
+                         for name, why in lines)
+        if its and is_refused:
+            return its[0]
+    return None
+
+
+def try_together(group, names):
+    """Checks the functions that a group changes, and returns what the check says: of all of the crate where a name fits none."""
+    folder = group.bodies[0].folder
+    with written(folder, group.texts):
+        for only in ([word for name in names for word in ("--only", name)], []):
+            ran = subprocess.run(["rt", "check", "--jobs", "1", *only], cwd=folder, **INTO)
+            if ran.returncode != 2:
+                break
+    return ran.stdout
+
+
+def try_alone(folder, bodies):
+    """Has `rt must-fail` try those bodies of a crate, and returns its lines about them."""
+    for path in folder.glob("must-fail/*.edit"):
+        if path not in [body.path for body in bodies]:
+            path.unlink()
+    ran = subprocess.run(["rt", "must-fail", folder.name], cwd=folder.parents[1], **INTO)
+    return [line for line in ran.stdout.splitlines() if "must-fail" in line]
+
+
+def try_crate(folder, say):
+    """Tries the wrong bodies in must-fail/ of a crate's folder, says what each came to, and returns how many are refused."""
+    bodies = [Body(path) for path in sorted(folder.glob("must-fail/*.edit"))]
+    refused = 0
+    made = groups([body for body in bodies if not body.alone])
+    left = [body for body in bodies if body.alone]
+    for group in made:
+        said = try_together(group, sorted({it.name for body in group.bodies for it in body.functions}))
+        for body in group.bodies:
+            why = refusal(body, said)
+            if why is None:
+                left.append(body)
+                continue
+            refused += 1
+            say(f"{folder.name}/{body.path.stem}: refused: {why[:160]}")
+    for line in try_alone(folder, left) if left else []:
+        refused += ": refused, as it must be" in line
+        say(line)
+    return refused
