@@ -5,6 +5,7 @@ check finds both refused, each function for itself. What it doesn't refuse, and 
 (a constant, say), is tried alone, by `rt must-fail`.
 """
 import contextlib
+import functools
 import re
 import subprocess
 
@@ -16,33 +17,54 @@ INTO = {"stdout": subprocess.PIPE, "stderr": subprocess.STDOUT, "text": True, "e
 
 
 class Function:
-    """A function of a file: its name as a check prints it, below the crate, and its first and last line."""
+    """A function of a file: its name as a check prints it, below the crate, and its first and last line. The first may be that
+    of an attribute: checks count it in."""
 
     def __init__(self, name, first, last):
         self.name, self.first, self.last = name, first, last
 
 
 def owner_of(block):
-    """Returns what a check calls a block: the type of an `impl`, and right after it the trait."""
+    """Returns the type of an `impl`, or the trait of a `trait`, and what a check calls the block: the trait of an `impl` comes
+    right after the type."""
     while re.search(r"<[^<>]*>", block):
         block = re.sub(r"<[^<>]*>", "", block)
     found = re.match(r"(?:impl (?:([\w:]+) for )?|(?:pub )?trait )(\w+)", block)
-    return found[2] + (found[1] or "").rpartition("::")[2] if found else ""
+    return (found[2], found[2] + (found[1] or "").rpartition("::")[2]) if found else ("", "")
 
 
-def functions(file, text):
-    """Yields the functions of a file. Each ends with a brace at its own depth, as `rt fmt` sets them."""
+def module_of(file):
     module = file.removeprefix("src/").removesuffix(".rt").replace("/", "::")
-    above = [] if module in ("lib", "main") else [module]
-    block, lines = "", text.split("\n")
+    return "" if module in ("lib", "main") else module
+
+
+@functools.cache
+def modules_of_types(crate):
+    """Returns the module of each type of a crate: a check names a type's own functions below it, whatever file they are in,
+    and those of a trait below their file."""
+    found = {}
+    for path in sorted(crate.glob("src/**/*.rt")):
+        for name in re.findall(r"^(?:pub(?:\(\w+\))? )?(?:struct|enum|trait) (\w+)", path.read_text(), re.M):
+            found[name] = module_of(str(path.relative_to(crate)))
+    return found
+
+
+def functions(crate, file):
+    """Yields the functions of a crate's file. Each ends with a brace at its own depth, as `rt fmt` sets them."""
+    block, lines = "", (crate / file).read_text().split("\n")
     for number, line in enumerate(lines, 1):
         if re.match(r"}|impl\b|(pub )?trait\b", line):
             block = line if line.endswith("{") else ""
         begun = re.match(r"( *)(?:pub(?:\(\w+\))? )?(?:const )?fn (\w+)", line)
         if begun:
             last = next((at for at, it in enumerate(lines, 1) if at >= number and it == begun[1] + "}"), number)
-            path = [*above, owner_of(block), begun[2]]
-            yield Function("::".join(it for it in path if it), number, last)
+            first = number
+            while lines[first - 2].lstrip().startswith("#["):
+                first -= 1
+            owner, called = owner_of(block)
+            module = modules_of_types(crate).get(owner) if called == owner else None
+            path = [module_of(file) if module is None else module, called, begun[2]]
+            yield Function("::".join(it for it in path if it), first, last)
 
 
 class Body:
@@ -54,7 +76,7 @@ class Body:
         olds, news = (re.findall(rf"^{word}: (.*)$", said, re.M) for word in ("old", "new"))
         self.changes = list(zip(olds, news))
         text = (self.folder / self.file).read_text()
-        there = list(functions(self.file, text))
+        there = list(functions(self.folder, self.file))
         lines = [text[: text.index(old)].count("\n") + 1 for old in olds]
         found = [[it for it in there if it.first < line <= it.last] for line in lines]
         self.functions = [it[-1] for it in found if it]
