@@ -6,6 +6,7 @@ check finds both refused, each function for itself. What it doesn't refuse, and 
 """
 import contextlib
 import functools
+import os
 import re
 import subprocess
 
@@ -170,7 +171,8 @@ def try_alone(folder, bodies):
     for path in folder.glob("must-fail/*.edit"):
         if path not in [body.path for body in bodies]:
             path.unlink()
-    ran = subprocess.run(["rt", "must-fail", folder.name], cwd=folder.parents[1], **INTO)
+    # One at a time: other crates are tried beside it.
+    ran = subprocess.run(["rt", "must-fail", folder.name], cwd=folder.parents[1], env={**os.environ, "RT_JOBS": "1"}, **INTO)
     return [line for line in ran.stdout.splitlines() if "must-fail" in line]
 
 
