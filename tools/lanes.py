@@ -1,11 +1,11 @@
 """How many crates `rt` works on at once.
 
 Left alone, rt expects of a crate above brc_model two or three times the memory that it takes, and lets it wait until that
-is free: of brc_c_flow 12 GB, which takes 4. It would then come last, with the longest chain of others behind it.
+is free: of brc_c_flow 12 GB. It would then come last, with the longest chain of others behind it.
 """
 import os
 
-# The most that the proof of one crate takes, in bytes.
+# What a proof takes at the most, in bytes; brc_c_flow alone takes 9 GB, when the others beside it take less.
 MEMORY_OF_ONE = 5_000_000_000
 
 
