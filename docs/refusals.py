@@ -1,8 +1,9 @@
 """Tries wrong bodies, several of a crate by one check.
 
 A contract stands for its function in the proofs of all others, so two wrong bodies in two functions don't meet: one
-check finds both refused, each function for itself. What it doesn't refuse, and what changes more than functions' bodies
-(a constant, say), is tried alone, by `rt must-fail`.
+check finds both refused, each function for itself. The functions have to be proved as they stand, which is checked first.
+What such a check doesn't refuse, and what changes more than functions' bodies (a constant, say), is tried alone, by
+`rt must-fail`.
 """
 import contextlib
 import functools
@@ -11,7 +12,7 @@ import re
 import subprocess
 
 # A line of a check that says where in a function a goal isn't proved, or where in its proof a text isn't admitted.
-TOLD = re.compile(r"^(?:note: |error: )?(?:\./)?((?:src|proofs)/\S+?):(\d+):\d+: (.*)$", re.M)
+TOLD = re.compile(r"^(?:note: )?(?:\./)?(src/\S+?|proofs/\S+?):(\d+):\d+: (it is not proved that .*|error: .*)$", re.M)
 # A proof that names what the body no longer has says little of the contract.
 NAMES_WHAT_WENT = re.compile(r"has no field|is not in scope|has no `|was not admitted")
 INTO = {"stdout": subprocess.PIPE, "stderr": subprocess.STDOUT, "text": True, "errors": "replace"}
@@ -78,7 +79,8 @@ class Body:
         self.changes = list(zip(olds, news))
         text = (self.folder / self.file).read_text()
         there = list(functions(self.folder, self.file))
-        lines = [text[: text.index(old)].count("\n") + 1 for old in olds]
+        # One that isn't there is no line's: `rt must-fail` says what is wrong with it.
+        lines = [text[: text.index(old)].count("\n") + 1 if old in text else 0 for old in olds]
         found = [[it for it in there if it.first < line <= it.last] for line in lines]
         self.functions = [it[-1] for it in found if it]
         self.alone = not all(found)
@@ -136,34 +138,29 @@ def written(folder, texts):
 
 
 def refusal(body, said):
-    """Returns what a check says of a function that the body changes, if it isn't proved by its own fault, or None."""
-    lines = re.findall(rf"^fn {body.folder.name}::(\S+): (.*)$", said, re.M)
-    told = TOLD.findall(said)
+    """Returns what a check says of a function that the body changes, if it isn't proved by its own fault, or None: not one
+    that only calls another which isn't."""
+    lines = dict(re.findall(rf"^fn {body.folder.name}::(\S+): (.*)$", said, re.M))
     for changed in body.functions:
-        proof = f"proofs/{changed.name.replace('::', '/')}/"
+        line, proof = lines.get(changed.name, ""), f"proofs/{changed.name.replace('::', '/')}/"
         its = [
-            f"{file}:{line}: {why}"
-            for file, line, why in told
-            if file == body.file and changed.first <= int(line) <= changed.last
+            f"{file}:{at}: {why}"
+            for file, at, why in TOLD.findall(said)
+            if file == body.file and changed.first <= int(at) <= changed.last
             or file.startswith(proof) and not NAMES_WHAT_WENT.search(why)
         ]
-        # A closure is below its function.
-        is_refused = any(f"{name}::".startswith(f"{changed.name}::") and why.startswith(("no proof", "not proved"))
-                         for name, why in lines)
-        if its and is_refused:
+        if its and line.startswith(("no proof", "not proved")) and not line.startswith("no proof: it calls"):
             return its[0]
     return None
 
 
-def try_together(group, names):
-    """Checks the functions that a group changes, and returns what the check says: of all of the crate where a name fits none."""
-    folder = group.bodies[0].folder
-    with written(folder, group.texts):
-        for only in ([word for name in names for word in ("--only", name)], []):
-            ran = subprocess.run(["rt", "check", "--jobs", "1", *only], cwd=folder, **INTO)
-            if ran.returncode != 2:
-                break
-    return ran.stdout
+def check(folder, names):
+    """Checks those functions of a crate, or all where a name fits none, and returns the status and what the check says."""
+    for only in ([word for name in names for word in ("--only", name)], []):
+        ran = subprocess.run(["rt", "check", "--jobs", "1", *only], cwd=folder, **INTO)
+        if ran.returncode != 2:
+            break
+    return ran.returncode, ran.stdout
 
 
 def try_alone(folder, bodies):
@@ -173,17 +170,27 @@ def try_alone(folder, bodies):
             path.unlink()
     # One at a time: other crates are tried beside it.
     ran = subprocess.run(["rt", "must-fail", folder.name], cwd=folder.parents[1], env={**os.environ, "RT_JOBS": "1"}, **INTO)
-    return [line for line in ran.stdout.splitlines() if "must-fail" in line]
+    lines = ran.stdout.splitlines()
+    return [line for line in lines if "must-fail" in line] or lines[-6:]
+
+
+def names_of(bodies):
+    return sorted({it.name for body in bodies for it in body.functions})
 
 
 def try_crate(folder, say):
     """Tries the wrong bodies in must-fail/ of a crate's folder, says what each came to, and returns how many are refused."""
     bodies = [Body(path) for path in sorted(folder.glob("must-fail/*.edit"))]
-    refused = 0
     made = groups([body for body in bodies if not body.alone])
     left = [body for body in bodies if body.alone]
+    status, said = check(folder, names_of(bodies)) if made else (0, "")
+    if status:
+        say(f"{folder.name}: isn't proved as it stands, so no wrong body of it was tried: prove it first")
+        return 0
+    refused = 0
     for group in made:
-        said = try_together(group, sorted({it.name for body in group.bodies for it in body.functions}))
+        with written(folder, group.texts):
+            said = check(folder, names_of(group.bodies))[1]
         for body in group.bodies:
             why = refusal(body, said)
             if why is None:

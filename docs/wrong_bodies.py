@@ -80,8 +80,12 @@ def edits(crate="*"):
     return sorted(found, key=lambda edit: (edit.refused_by.split(";")[0], edit.name))
 
 
+def in_order():
+    return re.findall(r"^(\w+)(?: [^:\n]*)?:", (ROOT / "crates.txt").read_text(), re.M)
+
+
 def tables(named):
-    crates = re.findall(r"^(\w+)(?: [^:\n]*)?:", (ROOT / "crates.txt").read_text(), re.M)
+    crates = in_order()
     head = "| Wrong body | Tried by | What is wrong | Refused by |\n|---|---|---|---|\n"
     having = [(crate, edits(crate)) for crate in crates if not named or crate in named]
     rows = {crate: "".join(edit.row() for edit in found) for crate, found in having if found}
@@ -135,7 +139,7 @@ def say(line):
 
 
 def try_all(crates):
-    number = {crate: len(edits(crate)) for crate in re.findall(r"^(\w+):", (ROOT / "crates.txt").read_text(), re.M)}
+    number = {crate: len(edits(crate)) for crate in in_order()}
     lacking = [crate for crate in crates if not number.get(crate)]
     if lacking:
         print(f"{lacking[0]} has no wrong body")
