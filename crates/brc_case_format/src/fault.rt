@@ -13,8 +13,10 @@ pub enum Why {
     NoBlankLine,
     #[error("it is out of order: a case has its words, a terminal, its files, its status, what it writes, what it saves, and its rows")]
     OutOfOrder,
-    #[error("content belongs below `text`, `file`, `out`, `err`, `all` or `saved`")]
+    #[error("content belongs below `text`, `file`, `out`, `err`, `all` or `saved`, and not below `narrow`")]
     NoPlace,
+    #[error("content is missing above: below `has`, `lacks`, `begins`, `ends` and `err stops` there is the text that is meant")]
+    NoContent,
     #[error("a name is missing after the first word")]
     NoName,
     #[error("another text has this name")]

@@ -62,6 +62,7 @@ impl Reader {
         if is_content(line) {
             return self.add_content(texts, line);
         }
+        self.ends_content()?;
         let (word, rest) = line.split_once(' ').unwrap_or((line, ""));
         match word {
             "text" => self.begin_text(texts, rest),
@@ -84,7 +85,19 @@ impl Reader {
         }
     }
 
+    /// Fails if what the case last has to write waits for its content.
+    fn ends_content(&self) -> Result<(), Why> {
+        if self.place != Place::Wanted {
+            return Ok(());
+        }
+        match self.cases.last().and_then(|case| case.wanted.last()) {
+            Some(wanted) if wanted.waits_for_text() => Err(Why::NoContent),
+            _ => Ok(()),
+        }
+    }
+
     fn end_paragraph(&mut self) -> Result<(), Why> {
+        self.ends_content()?;
         let place = self.place;
         self.place = Place::Between;
         match place {
@@ -263,8 +276,12 @@ impl Reader {
         Some(&mut file.text)
     }
 
+    /// Returns the text that content is added to; `narrow` has none.
     fn last_wanted(&mut self) -> Option<&mut Vec<u8>> {
         let wanted = self.cases.last_mut()?.wanted.last_mut()?;
+        if wanted.how == How::Narrow {
+            return None;
+        }
         Some(&mut wanted.text)
     }
 }

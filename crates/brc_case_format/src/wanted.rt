@@ -50,6 +50,16 @@ impl Wanted {
         }
     }
 
+    /// Returns whether it says nothing as long as it has no text: any text would do.
+    pub(crate) fn waits_for_text(&self) -> bool {
+        let is_part = match self.how {
+            How::Has | How::Lacks | How::Begins | How::Ends => true,
+            How::Stops => self.stream == Stream::Err,
+            How::Whole | How::Narrow => false,
+        };
+        is_part && self.text.is_empty()
+    }
+
     /// Returns whether it says what standard error has if the output has stopped.
     pub fn is_of_stopped(&self) -> bool {
         self.how == How::Stops && self.stream == Stream::Err

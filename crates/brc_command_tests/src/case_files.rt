@@ -27,6 +27,26 @@ const FAULTS: &[(&str, usize, Why)] = &[
     ("case one\n$ brc\nstatus 0\n- row\n", 4, Why::OutOfOrder),
     ("case one\n| line\n", 2, Why::NoPlace),
     ("\n| line\n", 2, Why::NoPlace),
+    (
+        "case one\n$ brc\nstatus 0\nout narrow\n| line\n",
+        5,
+        Why::NoPlace,
+    ),
+    (
+        "case one\n$ brc\nstatus 0\nout has\nerr\n",
+        5,
+        Why::NoContent,
+    ),
+    (
+        "case one\n$ brc\nstatus 0\nout ends\n\"\"\n\n",
+        6,
+        Why::NoContent,
+    ),
+    (
+        "case one\n$ brc\nstatus 0\nout stops\nerr stops\n",
+        5,
+        Why::NoContent,
+    ),
     ("text \n", 1, Why::NoName),
     ("case\n", 1, Why::NoName),
     ("text one\n\ntext one\n", 3, Why::NameTwice),
