@@ -56,9 +56,9 @@ fn report_on<R: AllocGlobal + System>(
     report_of(rt, rt.alloc(), text, (1, 8, 1, steps), paths, peers, &Open)
 }
 
-/// Makes a folder for one test.
-pub fn make_folder(rt: &HostRuntime, test: &str) -> Result<String, Fail> {
-    let name = format!(in rt.alloc(); "brc-run-{test}-{}", process::id(rt.process()))?;
+/// Makes a folder for the test.
+fn make_folder(rt: &HostRuntime) -> Result<String, Fail> {
+    let name = format!(in rt.alloc(); "brc-run-{}", process::id(rt.process()))?;
     let folder = env::temp_dir(rt)?.join(rt.alloc(), name.as_str())?;
     fs::create_dir(rt, folder.as_path())?;
     Ok(folder.into_string())
@@ -90,7 +90,7 @@ fn copies(alloc: Global, listener: &TcpListener) -> io::Result<u64> {
 
 #[test]
 fn a_copy_is_stopped_at_each_bound(rt: HostRuntime) -> Result<(), Fail> {
-    let folder = make_folder(&rt, "copy")?;
+    let folder = make_folder(&rt)?;
     let listener = TcpListener::bind(&rt, "127.0.0.1:0")?;
     let address = listener.local_addr()?;
     let alloc = rt.alloc();

@@ -1,7 +1,6 @@
 //! The system's host, over files of a temporary folder and peers on loopback.
 
 use crate::fake_host::{Counts, counts_of};
-use crate::system::make_folder;
 use bitflags::Flags;
 use brc_host::{Fault, Host};
 use brc_lang::Mode;
@@ -10,7 +9,7 @@ use std::alloc::Global;
 use std::io::{Read, Write};
 use std::net::{Shutdown, SocketAddr, TcpListener};
 use std::test::Fail;
-use std::{fs, io, thread};
+use std::{env, fs, io, process, thread};
 
 /// What a write, a read and the close have answered, or the fault of the open.
 type Written = Result<(Result<(), Fault>, Result<u16, Fault>, Result<(), Fault>), Fault>;
@@ -154,7 +153,10 @@ const TALKED: Talked = Ok(([Ok(1), Ok(0)], Ok(()), Ok(())));
 /// Files are made, written and read; a peer resets a connection, and another talks.
 #[test]
 fn files_and_peers_are_used(rt: HostRuntime) -> Result<(), Fail> {
-    let folder = make_folder(&rt, "files")?;
+    let name = format!(in rt.alloc(); "brc-host-{}", process::id(rt.process()))?;
+    let folder = env::temp_dir(&rt)?.join(rt.alloc(), name.as_str())?;
+    fs::create_dir(&rt, folder.as_path())?;
+    let folder = folder.into_string();
     let used = file_used(&rt, folder.as_str());
     fs::remove_dir_all(&rt, folder.as_str())?;
     let listener = TcpListener::bind(&rt, "127.0.0.1:0")?;
