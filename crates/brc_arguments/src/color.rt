@@ -13,7 +13,7 @@ const ALWAYS: &str = "always";
 const NEVER: &str = "never";
 
 /// When texts have colours.
-#[derive(Clone, Copy, Debug, PartialEq, Eq)]
+#[derive(Clone, Copy)]
 pub enum ColorChoice {
     /// If standard output shows them.
     Auto,

@@ -2,7 +2,7 @@ use brc_c_program::Asked as AskedOfC;
 use brc_command::{Asked, Format, Run, Unchecked};
 
 /// What a command line asks for.
-#[derive(Clone, Copy, Debug)]
+#[derive(Clone, Copy)]
 pub enum Request<'a> {
     /// One report.
     One(Asked<'a>),

@@ -15,7 +15,7 @@ use std::collections::HashSet;
 const CAST_LIMIT: usize = 64;
 
 /// What a call does with the references of elements.
-#[derive(Clone, Copy, PartialEq, Eq)]
+#[derive(Clone, Copy)]
 enum Done {
     Nothing,
     Made,

@@ -7,7 +7,7 @@ use brc_c_text::Symbol;
 use std::collections::HashMap;
 
 /// What is known of a function by its own body.
-#[derive(Debug, Drop)]
+#[derive(Drop)]
 pub struct OwnRow {
     /// What a table would say of it.
     pub row: Row,
@@ -26,7 +26,7 @@ pub struct OwnRow {
 }
 
 /// The object that a function leaves where an argument points to.
-#[derive(Clone, Copy, Debug, PartialEq, Eq)]
+#[derive(Clone, Copy, PartialEq, Eq)]
 pub enum LeftObject {
     None,
     /// One to which the caller has a reference then.
@@ -38,7 +38,7 @@ pub enum LeftObject {
 }
 
 /// What an exit of a function leaves where an argument points to.
-#[derive(Clone, Copy, Debug, PartialEq, Eq)]
+#[derive(Clone, Copy, PartialEq, Eq)]
 pub struct Left {
     pub object: LeftObject,
     /// Whether it may be NULL.
@@ -48,7 +48,7 @@ pub struct Left {
 }
 
 /// What a function does where an argument points to.
-#[derive(Clone, Copy, Debug, PartialEq, Eq)]
+#[derive(Clone, Copy, PartialEq, Eq)]
 pub struct OwnOut {
     /// The number of the argument, from 0.
     pub argument: usize,
@@ -108,7 +108,7 @@ impl OwnOut {
 }
 
 /// A field of an argument.
-#[derive(Clone, Copy, Debug, PartialEq, Eq)]
+#[derive(Clone, Copy, PartialEq, Eq)]
 pub struct NullField {
     /// The number of the argument, from 0.
     pub argument: usize,

@@ -12,7 +12,7 @@ pub(crate) enum Purpose<'a> {
 }
 
 /// What a function returns at an end.
-#[derive(Clone, Copy, Debug)]
+#[derive(Clone, Copy)]
 pub enum ReturnedValue {
     /// Nothing, or what no table speaks of.
     Nothing,
@@ -27,14 +27,14 @@ pub enum ReturnedValue {
 }
 
 /// An end of a function.
-#[derive(Clone, Copy, Debug)]
+#[derive(Clone, Copy)]
 pub struct Returned {
     pub node: NodeId,
     pub value: ReturnedValue,
 }
 
 /// A parameter in a graph.
-#[derive(Clone, Copy, Debug)]
+#[derive(Clone, Copy)]
 pub struct ArgumentNames {
     /// The name of the parameter, if it has objects.
     pub local: Option<Local>,
@@ -43,7 +43,7 @@ pub struct ArgumentNames {
 }
 
 /// A parameter that is the address of a variable, in a graph.
-#[derive(Clone, Copy, Debug)]
+#[derive(Clone, Copy)]
 pub struct OutNames {
     /// The number of the parameter, from 0.
     pub argument: usize,
@@ -55,7 +55,7 @@ pub struct OutNames {
 }
 
 /// A field of a parameter, and the name that has what is in the field at the ends.
-#[derive(Clone, Copy, Debug)]
+#[derive(Clone, Copy)]
 pub struct FieldName {
     pub null: NullField,
     pub local: Local,

@@ -2,7 +2,7 @@ use brc_c_text::{Place, Symbol, Symbols};
 use std::alloc::{AllocError, Global};
 
 /// Why a function's graph can't be made.
-#[derive(Clone, Copy, Debug, PartialEq, Eq)]
+#[derive(Clone, Copy)]
 pub enum FlowReason {
     /// An expression has too many operands within each other.
     TooDeep,
@@ -16,7 +16,7 @@ pub enum FlowReason {
 }
 
 /// The place at which a function can't be followed, and why.
-#[derive(Clone, Copy, Debug, PartialEq, Eq)]
+#[derive(Clone, Copy)]
 pub struct Unread {
     pub place: Place,
     pub reason: FlowReason,

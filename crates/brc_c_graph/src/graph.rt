@@ -7,7 +7,7 @@ use brc_c_store::{Choice, Field, Local};
 use std::alloc::{AllocError, Global};
 
 /// What a C function does with references. The nodes name each other by their places.
-#[derive(Debug, Drop)]
+#[derive(Drop)]
 pub struct Graph {
     nodes: Vec<Node>,
     locals: Vec<LocalName>,

@@ -5,7 +5,7 @@ use brc_c_store::{Choice, Event};
 use brc_c_text::Place;
 
 /// A node of a graph, by its place there. A path begins at the first one.
-#[derive(Clone, Copy, Debug, PartialEq, Eq, Hash)]
+#[derive(Clone, Copy, Debug, PartialEq, Eq)]
 pub struct NodeId(pub usize);
 
 impl NodeId {
@@ -14,11 +14,11 @@ impl NodeId {
 }
 
 /// A text that a report shows, by its place among those of the graph.
-#[derive(Clone, Copy, Debug, PartialEq, Eq, Hash)]
+#[derive(Clone, Copy)]
 pub struct Words(pub usize);
 
 /// Where a path goes on after each choice. Where no way is named, no path goes.
-#[derive(Clone, Copy, Debug, PartialEq, Eq)]
+#[derive(Clone, Copy, PartialEq, Eq)]
 pub struct Ways {
     pub yes: Option<NodeId>,
     pub no: Option<NodeId>,
@@ -46,7 +46,7 @@ impl Ways {
 }
 
 /// What a function does at one point of its text.
-#[derive(Clone, Copy, Debug, PartialEq, Eq)]
+#[derive(Clone, Copy)]
 pub struct Node {
     pub event: Event,
     pub ways: Ways,

@@ -7,7 +7,7 @@ use brc_c_store::{Rules, Store};
 use std::alloc::{AllocError, Global};
 
 /// A node at which a path returns, and the store in which it does.
-#[derive(Debug, Drop)]
+#[derive(Drop)]
 pub struct Arrival {
     pub node: NodeId,
     pub store: Store,

@@ -9,7 +9,7 @@ use brc_lang::CheckCode;
 
 /// What the text's state has at a block: whether the lock is locked, and which registers own references, or have
 /// borrowed items.
-#[derive(Clone, Copy, Debug)]
+#[derive(Clone, Copy)]
 pub(crate) struct Held {
     pub(crate) is_locked: bool,
     pub(crate) owned: RegisterSet,
@@ -39,7 +39,7 @@ impl Held {
 }
 
 /// The instruction of a block that has two exits.
-#[derive(Clone, Copy, Debug, PartialEq, Eq)]
+#[derive(Clone, Copy, PartialEq, Eq)]
 pub(crate) enum Branch {
     Nothing,
     Ask,
@@ -49,7 +49,7 @@ pub(crate) enum Branch {
 }
 
 /// Where the first path to a block comes from.
-#[derive(Clone, Copy, Debug)]
+#[derive(Clone, Copy)]
 pub(crate) struct Origin {
     pub(crate) block: usize,
     /// The way after the event of that block, or `None` if the event comes only now.
@@ -57,7 +57,7 @@ pub(crate) struct Origin {
 }
 
 /// The rule that a block's event breaks, and the line that shows it, from the block's first one.
-#[derive(Clone, Copy, Debug)]
+#[derive(Clone, Copy)]
 pub(crate) struct Break {
     pub(crate) code: CheckCode,
     pub(crate) at: usize,
@@ -66,7 +66,7 @@ pub(crate) struct Break {
 }
 
 /// A node in a store, and the lines that are written for it. Blocks name each other by their numbers.
-#[derive(Clone, Copy, Debug)]
+#[derive(Clone, Copy)]
 pub(crate) struct Block {
     pub(crate) node: NodeId,
     /// The number of its point. The function's entry and forks have none.

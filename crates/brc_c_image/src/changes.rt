@@ -2,7 +2,7 @@ use brc_c_paths::{difference, ends_items, items_of, known_items};
 use brc_c_store::{Event, Register, RegisterSet, Rules, Store};
 
 /// What an event changes in the text's state.
-#[derive(Clone, Copy, Debug)]
+#[derive(Clone, Copy)]
 pub(crate) struct Changes {
     /// The registers whose references are given up.
     pub(crate) dropped: RegisterSet,

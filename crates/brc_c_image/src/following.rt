@@ -12,7 +12,7 @@ use brc_c_store::{Choice, Event, Next, Store, after};
 use std::alloc::AllocError;
 
 /// A way after an event.
-#[derive(Clone, Copy, Debug)]
+#[derive(Clone, Copy)]
 enum Way {
     Never,
     TooMany,
@@ -20,7 +20,7 @@ enum Way {
 }
 
 /// Where paths go on, the first way first.
-#[derive(Clone, Copy, Debug)]
+#[derive(Clone, Copy)]
 struct Exits {
     changes: Changes,
     first: Option<usize>,

@@ -23,7 +23,7 @@ use brc_lang::CheckCode;
 use std::alloc::{AllocError, Global};
 
 /// The text of a module.
-#[derive(Debug, Drop)]
+#[derive(Drop)]
 pub struct Text {
     pub bytes: Vec<u8>,
     /// The number of the instruction that is at fault, from 0. Without a fault it has no meaning.
@@ -36,7 +36,7 @@ pub struct Text {
 }
 
 /// What a function has too much of to be judged.
-#[derive(Clone, Copy, Debug, PartialEq, Eq)]
+#[derive(Clone, Copy)]
 pub enum Size {
     /// More than 256 instructions where nothing can be left out.
     Instructions,
@@ -47,7 +47,7 @@ pub enum Size {
 }
 
 /// The modules whose verdicts are the function's.
-#[derive(Debug, Drop)]
+#[derive(Drop)]
 pub enum Image {
     TooLarge(Size),
     /// No path breaks a rule. Each text has a part of the blocks: it makes what the state has where it begins, and

@@ -5,7 +5,7 @@ use crate::outlining::Numbers;
 use std::alloc::{AllocError, Global};
 
 /// The search's points as those of an outline.
-#[derive(Debug, Drop)]
+#[derive(Drop)]
 pub(crate) struct Labels {
     /// The search's point that each point of the outline is. The one where a further part begins is none.
     pub(crate) points: Vec<Option<usize>>,

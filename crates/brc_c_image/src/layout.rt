@@ -2,7 +2,7 @@ use crate::blocks::Blocks;
 use brc_lang::CheckCode;
 
 /// Blocks that follow each other in the order, by their places: those from the first one up to the end.
-#[derive(Clone, Copy, Debug, PartialEq, Eq)]
+#[derive(Clone, Copy)]
 pub(crate) struct Part {
     pub(crate) first: usize,
     pub(crate) end: usize,

@@ -8,7 +8,7 @@ pub(crate) const LENT: u8 = 1;
 pub(crate) const UNLOCKED: u8 = 2;
 
 /// Where a line leads if it doesn't lead to the next one.
-#[derive(Clone, Copy, Debug, PartialEq, Eq)]
+#[derive(Clone, Copy)]
 pub(crate) enum Target {
     /// The first line of a block, by the block's number.
     Block(usize),
@@ -21,7 +21,7 @@ pub(crate) enum Target {
 }
 
 /// A line of a text: an instruction, with its operands. Variables have their numbers.
-#[derive(Clone, Copy, Debug, PartialEq, Eq)]
+#[derive(Clone, Copy)]
 pub(crate) enum Line {
     Lock,
     Unlock,

@@ -5,7 +5,7 @@ use crate::blocks::Blocks;
 use std::alloc::{AllocError, Global};
 
 /// A block of which some exits were taken already.
-#[derive(Clone, Copy, Debug)]
+#[derive(Clone, Copy)]
 struct Open {
     block: usize,
     taken: u8,

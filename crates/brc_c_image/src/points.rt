@@ -9,7 +9,7 @@ use std::collections::HashMap;
 use std::mem;
 
 /// What the search knows of a point beside what it is.
-#[derive(Clone, Copy, Debug)]
+#[derive(Clone, Copy)]
 struct Place {
     block: usize,
     /// The point before this one that has the same hash.
@@ -17,7 +17,7 @@ struct Place {
 }
 
 /// A point whose event is followed.
-#[derive(Debug, Drop)]
+#[derive(Drop)]
 pub(crate) struct Waiting {
     pub(crate) block: usize,
     pub(crate) node: NodeId,
@@ -26,7 +26,7 @@ pub(crate) struct Waiting {
 }
 
 /// A point that was found, and its block.
-#[derive(Clone, Copy, Debug)]
+#[derive(Clone, Copy)]
 pub(crate) struct Found {
     pub(crate) number: usize,
     pub(crate) block: usize,

@@ -9,7 +9,7 @@ use brc_c_table::Takes;
 use std::alloc::{AllocError, Global};
 
 /// How returns fall into exits: success, and failure if there is one.
-#[derive(Clone, Copy, Debug, PartialEq, Eq)]
+#[derive(Clone, Copy)]
 pub(crate) enum Split {
     One,
     /// NULL is a failure.
@@ -38,7 +38,7 @@ impl Split {
 }
 
 /// What an exit does with an argument.
-#[derive(Clone, Copy, Debug, PartialEq, Eq)]
+#[derive(Clone, Copy)]
 struct Vote {
     is_stolen: bool,
     /// How many returns differ.
@@ -48,7 +48,7 @@ struct Vote {
 }
 
 /// The exits of a function, and how it takes each argument.
-#[derive(Debug, Drop)]
+#[derive(Drop)]
 pub(crate) struct Exits {
     pub(crate) split: Split,
     pub(crate) takes: Vec<Takes>,

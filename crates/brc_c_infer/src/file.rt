@@ -28,7 +28,7 @@ pub(crate) struct Files<'a> {
 }
 
 /// A function of a program: the number of its file, and its place there.
-#[derive(Clone, Copy, Debug)]
+#[derive(Clone, Copy)]
 pub(crate) struct Numbered {
     pub(crate) file: usize,
     pub(crate) place: usize,

@@ -4,7 +4,7 @@ use crate::calls::Calls;
 use std::alloc::{AllocError, Global};
 
 /// A function of which some callees were entered already.
-#[derive(Clone, Copy, Debug)]
+#[derive(Clone, Copy)]
 struct Open {
     number: usize,
     entered: usize,

@@ -10,7 +10,7 @@ use brc_c_flow::{Left, LeftObject, OutNames, OwnOut, RowFlow};
 use std::alloc::{AllocError, Global};
 
 /// What an exit leaves, and how many returns differ from that.
-#[derive(Clone, Copy, Debug)]
+#[derive(Clone, Copy)]
 struct Vote {
     left: Left,
     others: usize,
@@ -26,14 +26,14 @@ impl Vote {
 }
 
 /// What a function does where an argument points to, and how far the returns differ from that.
-#[derive(Clone, Copy, Debug)]
+#[derive(Clone, Copy)]
 pub(crate) struct OutVote {
     pub(crate) out: OwnOut,
     pub(crate) cost: usize,
 }
 
 /// How many returns of an exit leave an object of each sort.
-#[derive(Clone, Copy, Debug)]
+#[derive(Clone, Copy)]
 struct Counts {
     new: usize,
     borrowed: usize,

@@ -7,7 +7,7 @@ use brc_c_store::{ObjectId, Store, Value};
 use std::alloc::{AllocError, Global};
 
 /// What a path leaves where an argument points to.
-#[derive(Clone, Copy, Debug, PartialEq, Eq)]
+#[derive(Clone, Copy)]
 pub(crate) enum OutRecord {
     /// No object, or one that is freed.
     Nothing,
@@ -22,7 +22,7 @@ pub(crate) enum OutRecord {
 }
 
 /// What a path has done where an argument points to.
-#[derive(Clone, Copy, Debug)]
+#[derive(Clone, Copy)]
 pub(crate) struct OutState {
     /// What became of the reference that was there.
     pub(crate) before: Fate,

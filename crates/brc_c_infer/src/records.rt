@@ -7,7 +7,7 @@ use brc_c_store::{Base, Local, ObjectId, Signs, Store, Value};
 use std::alloc::{AllocError, Global};
 
 /// Whose the object is that a return gives.
-#[derive(Clone, Copy, Debug, PartialEq, Eq)]
+#[derive(Clone, Copy, PartialEq, Eq)]
 pub(crate) enum Kind {
     /// None: it gives NULL, a number or nothing.
     Nothing,
@@ -28,7 +28,7 @@ pub(crate) enum Kind {
 }
 
 /// What a path has done with the reference that the caller has passed.
-#[derive(Clone, Copy, Debug, PartialEq, Eq)]
+#[derive(Clone, Copy, PartialEq, Eq)]
 pub(crate) enum Fate {
     /// The caller has it still.
     Left,
@@ -38,7 +38,7 @@ pub(crate) enum Fate {
 }
 
 /// A return in a store.
-#[derive(Debug, Drop)]
+#[derive(Drop)]
 pub(crate) struct Record {
     /// The number of the return among those of the function.
     pub(crate) site: usize,

@@ -7,7 +7,7 @@ use brc_c_table::Gives;
 use std::alloc::{AllocError, Global};
 
 /// What a function gives.
-#[derive(Clone, Copy, Debug)]
+#[derive(Clone, Copy)]
 pub(crate) struct Given {
     pub(crate) gives: Gives,
     /// Whether something is assumed of the object.
@@ -15,7 +15,7 @@ pub(crate) struct Given {
 }
 
 /// How many returns give an object of each sort.
-#[derive(Clone, Copy, Debug)]
+#[derive(Clone, Copy)]
 struct Count {
     own: usize,
     own_singletons: usize,

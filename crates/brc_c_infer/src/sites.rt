@@ -4,7 +4,7 @@ use brc_c_flow::RowFlow;
 use std::alloc::{AllocError, Global};
 
 /// Some of the returns of a function, by their numbers.
-#[derive(Debug, Drop)]
+#[derive(Drop)]
 pub(crate) struct Sites {
     marked: Vec<bool>,
 }

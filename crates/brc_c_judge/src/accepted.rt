@@ -8,7 +8,7 @@ use std::marker::Model;
 
 /// The text of a module that the checker accepts, and that has exactly the paths of its outline. Only a verdict makes
 /// one.
-#[derive(Debug, Drop)]
+#[derive(Drop)]
 pub struct Accepted {
     text: Text,
 }

@@ -8,7 +8,7 @@ use brc_c_paths::Fault;
 use std::marker::Model;
 
 /// A fault, and the text of a module in which the checker reports it. Only a verdict makes one.
-#[derive(Debug, Drop)]
+#[derive(Drop)]
 pub struct Confirmed {
     fault: Fault,
     text: Text,

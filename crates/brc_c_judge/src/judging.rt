@@ -14,7 +14,7 @@ use brc_lang::{CheckCode, FaultCode, Module, one_reading, read};
 use std::alloc::{AllocError, Global};
 
 /// What a text is to show: a code that is reported at an instruction.
-#[derive(Clone, Copy, Debug, PartialEq, Eq)]
+#[derive(Clone, Copy)]
 pub struct Claim {
     /// The number of the instruction, from 0.
     pub at: usize,
@@ -22,7 +22,7 @@ pub struct Claim {
 }
 
 /// A claim that the checker confirms. Only `judge` makes one.
-#[derive(Clone, Copy, Debug)]
+#[derive(Clone, Copy)]
 pub struct Finding {
     claim: Claim,
 }
@@ -35,7 +35,7 @@ impl Finding {
 }
 
 /// What the checker says of a text.
-#[derive(Clone, Copy, Debug)]
+#[derive(Clone, Copy)]
 pub enum Judged {
     /// It is accepted.
     Right,

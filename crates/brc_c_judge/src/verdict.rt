@@ -14,7 +14,7 @@ use brc_c_store::Rules;
 use std::alloc::{AllocError, Global};
 
 /// What is found of a function.
-#[derive(Debug, Drop)]
+#[derive(Drop)]
 pub enum Verdict {
     /// The checker accepts its modules: the first one, and those of its further parts.
     Right(Accepted, Vec<Accepted>),
@@ -47,7 +47,7 @@ pub fn judge_function(
 }
 
 /// What is found of one text.
-#[derive(Debug, Drop)]
+#[derive(Drop)]
 enum Found {
     Accepted(Accepted),
     Unconfirmed,

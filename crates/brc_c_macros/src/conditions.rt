@@ -2,7 +2,7 @@ use brc_c_text::{Place, Symbol};
 use std::alloc::{AllocError, Global};
 
 /// Lines that are left out because nothing defines a name that `#if` asks for.
-#[derive(Clone, Copy, Debug, PartialEq, Eq)]
+#[derive(Clone, Copy)]
 pub struct Lost {
     pub name: Symbol,
     /// The number of the source, and the lines of the directives before and after those lines.
@@ -12,7 +12,7 @@ pub struct Lost {
 }
 
 /// An `#if` that isn't closed yet.
-#[derive(Clone, Copy, Debug)]
+#[derive(Clone, Copy)]
 struct Open {
     /// Whether the lines around it are read.
     is_outer_read: bool,
@@ -27,7 +27,7 @@ struct Open {
 }
 
 /// What the condition of a branch says.
-#[derive(Clone, Copy, Debug)]
+#[derive(Clone, Copy)]
 pub(crate) struct Verdict {
     pub(crate) holds: bool,
     /// The name without a definition on which that rests.

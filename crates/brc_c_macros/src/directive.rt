@@ -1,7 +1,7 @@
 use brc_c_text::{Keyword, Lexeme, LexemeKind, Punctuator, Symbols};
 
 /// What a line that begins with `#` does.
-#[derive(Clone, Copy, Debug, PartialEq, Eq)]
+#[derive(Clone, Copy)]
 pub(crate) enum Action {
     If,
     Ifdef,
@@ -17,7 +17,7 @@ pub(crate) enum Action {
 }
 
 /// A directive: what it does, and the lexemes after its name.
-#[derive(Clone, Copy, Debug)]
+#[derive(Clone, Copy)]
 pub(crate) struct Directive<'a> {
     pub(crate) action: Action,
     pub(crate) rest: &'a [Lexeme],

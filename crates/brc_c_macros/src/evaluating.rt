@@ -5,7 +5,7 @@ use brc_c_text::{Lexeme, LexemeKind, Punctuator, Symbols};
 use std::alloc::{AllocError, Global};
 
 /// What waits for its right operand.
-#[derive(Clone, Copy, Debug, PartialEq, Eq)]
+#[derive(Clone, Copy, PartialEq, Eq)]
 enum Waiting {
     Open,
     Prefix(Punctuator),

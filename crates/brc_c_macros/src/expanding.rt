@@ -13,7 +13,7 @@ pub const USE_LIMIT: usize = 65536;
 const NESTING_LIMIT: usize = 64;
 
 /// A lexeme that is read, and the macros in whose bodies it is.
-#[derive(Clone, Copy, Debug)]
+#[derive(Clone, Copy)]
 pub(crate) struct Reading {
     pub(crate) lexeme: Lexeme,
     /// The innermost of them by its number from 1, or 0 if there is none.

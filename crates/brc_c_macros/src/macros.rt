@@ -5,7 +5,7 @@ use std::alloc::{AllocError, Global};
 use std::collections::{HashMap, HashSet};
 
 /// A macro.
-#[derive(Clone, Copy, Debug)]
+#[derive(Clone, Copy)]
 pub struct Macro {
     /// How many parameters it has, or `None` if it has no parentheses.
     pub parameters: Option<usize>,
@@ -18,7 +18,7 @@ pub struct Macro {
 }
 
 /// A lexeme of a macro's body, and the parameter that it is.
-#[derive(Clone, Copy, Debug)]
+#[derive(Clone, Copy)]
 pub(crate) struct Part {
     pub(crate) lexeme: Lexeme,
     pub(crate) parameter: Option<usize>,

@@ -30,7 +30,7 @@ pub(crate) struct Sources {
 }
 
 /// What comes next.
-#[derive(Clone, Copy, Debug)]
+#[derive(Clone, Copy)]
 pub(crate) enum Next {
     /// A line, by its first lexeme and the one after its last.
     Line(usize, usize),

@@ -64,7 +64,7 @@ fn led_to(outline: &Outline, choices: &[usize]) -> Option<usize>
 }
 
 /// The last step to a point on the first way there that is found.
-#[derive(Clone, Copy, Debug)]
+#[derive(Clone, Copy)]
 struct Arrival {
     from: usize,
     choice: usize,

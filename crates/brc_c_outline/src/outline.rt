@@ -2,7 +2,7 @@ use brc_lang::CheckCode;
 use brc_model::State;
 
 /// The rule that is broken at a point.
-#[derive(Clone, Copy, Debug)]
+#[derive(Clone, Copy)]
 pub struct Broken {
     pub code: CheckCode,
     /// The instruction that reports it.
@@ -10,7 +10,7 @@ pub struct Broken {
 }
 
 /// A point of an outline: a node of a C function's graph in one store.
-#[derive(Debug, Drop)]
+#[derive(Drop)]
 pub struct Point {
     /// Its first instruction.
     pub start: usize,
@@ -23,7 +23,7 @@ pub struct Point {
 }
 
 /// What a function of a module is to show. Nothing of it is trusted.
-#[derive(Debug, Drop)]
+#[derive(Drop)]
 pub struct Outline {
     /// Paths begin at the first one.
     pub points: Vec<Point>,

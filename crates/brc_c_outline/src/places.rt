@@ -10,7 +10,7 @@ use brc_lang::{CheckCode, Instr, Variable};
 use brc_model::{Exit, Slot, State};
 
 /// Where a walk is: at an instruction in a state, at the end of the call, or at one that has reported a code.
-#[derive(Clone, Copy, Debug)]
+#[derive(Clone, Copy)]
 pub enum Place {
     At(usize, State),
     Ended,

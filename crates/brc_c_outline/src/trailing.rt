@@ -8,7 +8,7 @@ use brc_model::{Exit, State};
 use std::alloc::{AllocError, Global};
 
 /// An instruction that a walk from a point has come to.
-#[derive(Debug, Drop)]
+#[derive(Drop)]
 struct Open {
     at: usize,
     state: State,

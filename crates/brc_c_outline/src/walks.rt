@@ -1,7 +1,7 @@
 use brc_model::{Exit, State};
 
 /// The walks along a module from the first instruction of a point.
-#[derive(Debug, Drop)]
+#[derive(Drop)]
 pub struct Walks {
     /// The exits that lead to the start of the next point, for each way.
     pub ways: Vec<Vec<Exit>>,
@@ -10,14 +10,14 @@ pub struct Walks {
 }
 
 /// To which point an instruction belongs, and in which state paths reach it.
-#[derive(Clone, Copy, Debug)]
+#[derive(Clone, Copy)]
 pub struct Label {
     pub point: usize,
     pub state: State,
 }
 
 /// Where a function of a module shows an outline. Nothing of it is trusted.
-#[derive(Debug, Drop)]
+#[derive(Drop)]
 pub struct Trail {
     /// The walks from each point.
     pub walks: Vec<Walks>,

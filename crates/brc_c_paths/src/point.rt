@@ -7,7 +7,7 @@ use brc_c_graph::NodeId;
 use brc_c_store::{Choice, Store};
 
 /// A node in a store in which a path comes there, and where paths go on, by the places of the points in a list.
-#[derive(Debug, Drop)]
+#[derive(Drop)]
 pub struct Point {
     pub node: NodeId,
     pub store: Store,
@@ -17,7 +17,7 @@ pub struct Point {
 }
 
 /// The point to which a path goes after each choice, if it goes there.
-#[derive(Clone, Copy, Debug)]
+#[derive(Clone, Copy)]
 pub struct PointWays {
     pub yes: Option<usize>,
     pub no: Option<usize>,

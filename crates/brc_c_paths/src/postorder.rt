@@ -12,7 +12,7 @@ pub(crate) struct Postorder {
 }
 
 /// How far a walk has come with a node.
-#[derive(Clone, Copy, Debug, PartialEq, Eq)]
+#[derive(Clone, Copy)]
 enum State {
     New,
     Open,
@@ -20,7 +20,7 @@ enum State {
 }
 
 /// A node of which some ways were taken already.
-#[derive(Clone, Copy, Debug)]
+#[derive(Clone, Copy)]
 struct Open {
     node: NodeId,
     taken: u8,

@@ -18,7 +18,7 @@ use brc_lang::CheckCode;
 use std::alloc::{AllocError, Global};
 
 /// The end of a path.
-#[derive(Debug, Drop)]
+#[derive(Drop)]
 enum PathEnd {
     At(NodeId, Store),
     Ended,

@@ -19,7 +19,7 @@ use std::alloc::{AllocError, Global};
 pub const MOST_SECTIONS: usize = 8;
 
 /// Where a path goes after an event.
-#[derive(Debug, Drop)]
+#[derive(Drop)]
 pub(crate) enum Way {
     Nowhere,
     /// Further than is followed: no register is left for a reference, or too many sections are open.

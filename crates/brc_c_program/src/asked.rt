@@ -1,5 +1,5 @@
 /// The rules that a command asks for.
-#[derive(Clone, Copy, Debug, PartialEq, Eq)]
+#[derive(Clone, Copy)]
 pub enum AskedRules {
     Both,
     GlobalLock,
@@ -7,7 +7,7 @@ pub enum AskedRules {
 }
 
 /// The form in which a command writes what is found.
-#[derive(Clone, Copy, Debug, PartialEq, Eq)]
+#[derive(Clone, Copy)]
 pub enum AskedFormat {
     /// Lines for people, as a compiler writes them.
     Text,
@@ -18,7 +18,7 @@ pub enum AskedFormat {
 }
 
 /// What a command asks for.
-#[derive(Clone, Copy, Debug)]
+#[derive(Clone, Copy)]
 pub struct Asked<'a> {
     /// The files of the program.
     pub files: &'a [&'a str],

@@ -19,7 +19,7 @@ const CODES: [CheckCode; 12] = [
 ];
 
 /// What a comment says that begins with `brc:`.
-#[derive(Clone, Copy, Debug)]
+#[derive(Clone, Copy)]
 pub(crate) enum Said<'a> {
     /// Findings of the code are taken away, for the reason.
     Allows { code: CheckCode, reason: &'a str },

@@ -5,7 +5,7 @@ use serde_json::{Map, Value, put};
 use std::alloc::{AllocError, Global};
 
 /// How many functions and findings there are.
-#[derive(Clone, Copy, Debug)]
+#[derive(Clone, Copy)]
 pub(crate) struct Counts {
     functions: u64,
     right: u64,
@@ -26,7 +26,7 @@ pub(crate) struct Counts {
 }
 
 /// The status of a command for which there is memory.
-#[derive(Clone, Copy, Debug, PartialEq, Eq)]
+#[derive(Clone, Copy)]
 pub enum Status {
     /// There is no error.
     NoError,

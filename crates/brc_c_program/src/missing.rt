@@ -46,14 +46,14 @@ const SYSTEMS: [&[u8]; 39] = [
 ];
 
 /// Why a header is taken as empty.
-#[derive(Clone, Copy, Debug, PartialEq, Eq)]
+#[derive(Clone, Copy)]
 pub(crate) enum Absence {
     NotFound,
     TooLong,
 }
 
 /// The first header that is taken as empty.
-#[derive(Clone, Copy, Debug)]
+#[derive(Clone, Copy)]
 pub(crate) struct First {
     /// The number of the source that includes it.
     pub(crate) from: usize,

@@ -10,7 +10,7 @@ use brc_report::Paint;
 use std::alloc::{AllocError, Global};
 
 /// The module of a function by a set of rules.
-#[derive(Debug, Drop)]
+#[derive(Drop)]
 pub(crate) struct Written {
     pub(crate) rules: Rules,
     pub(crate) text: Vec<u8>,

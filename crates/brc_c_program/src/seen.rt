@@ -4,7 +4,7 @@ use brc_c_text::Place;
 use std::alloc::{AllocError, Global};
 
 /// Where a function isn't read, and why.
-#[derive(Debug, Drop)]
+#[derive(Drop)]
 pub(crate) struct Obstacle {
     pub(crate) place: Place,
     pub(crate) reason: String,

@@ -16,7 +16,7 @@ use std::alloc::{AllocError, AllocFailed, Global};
 use std::collections::HashSet;
 
 /// Why a file isn't read at all.
-#[derive(Clone, Copy, Debug, PartialEq, Eq)]
+#[derive(Clone, Copy)]
 pub(crate) enum UnitFault {
     Text(TextFault),
     Macro(MacroFault),

@@ -3,7 +3,7 @@ use brc_c_text::{Keyword, Lexeme, LexemeKind, Place, Punctuator, Symbol};
 use brc_c_tree::{Expected, Reason};
 
 /// A place among lexemes.
-#[derive(Clone, Copy, Debug)]
+#[derive(Clone, Copy)]
 pub(crate) struct Cursor<'a> {
     lexemes: &'a [Lexeme],
     at: usize,

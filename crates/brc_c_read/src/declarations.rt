@@ -11,7 +11,7 @@ use brc_c_tree::{Alias, Prototype, RecordName, SourceTree, TypeName, Variable};
 use std::alloc::Global;
 
 /// A name that is declared outside functions.
-#[derive(Clone, Copy, Debug, PartialEq, Eq)]
+#[derive(Clone, Copy)]
 struct Declared {
     name: Symbol,
     type_name: TypeName,

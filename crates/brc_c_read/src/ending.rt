@@ -12,7 +12,7 @@ use brc_c_tree::{
 const NAME_LIMIT: usize = 8;
 
 /// A variable whose end calls a function.
-#[derive(Clone, Copy, Debug)]
+#[derive(Clone, Copy)]
 pub(crate) struct Ending {
     pub(crate) function: Symbol,
     /// The variable's symbol in the tree.
@@ -20,7 +20,7 @@ pub(crate) struct Ending {
 }
 
 /// How many of the variables whose end calls a function stay where a statement leaves blocks.
-#[derive(Clone, Copy, Debug)]
+#[derive(Clone, Copy)]
 pub(crate) struct Staying {
     pub(crate) at_break: usize,
     pub(crate) at_continue: usize,

@@ -17,7 +17,7 @@ pub(crate) const CONDITIONAL: Level = 3;
 
 pub(crate) const PREFIX: Level = 14;
 
-#[derive(Clone, Copy, Debug, PartialEq, Eq)]
+#[derive(Clone, Copy, PartialEq, Eq)]
 pub(crate) enum Infix {
     Binary(Binary),
     Assign(Option<Binary>),

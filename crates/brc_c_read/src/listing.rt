@@ -9,7 +9,7 @@ use std::alloc::{AllocError, Global};
 const DECLARED_LIMIT: usize = 64;
 
 /// Where an item is among the lexemes.
-#[derive(Clone, Copy, Debug, PartialEq, Eq)]
+#[derive(Clone, Copy)]
 pub(crate) enum Item {
     /// What ends with a semicolon, before which `end` is. Its first braces, if it has any, enclose what is between
     /// `open` and `close`.

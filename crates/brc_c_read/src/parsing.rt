@@ -12,7 +12,7 @@ use std::alloc::{AllocError, Global};
 use std::collections::{HashMap, HashSet};
 
 /// A variable of a block that is being read.
-#[derive(Clone, Copy, Debug)]
+#[derive(Clone, Copy)]
 struct InScope {
     name: Symbol,
     /// The symbol that it has in the tree.

@@ -5,7 +5,7 @@ use brc_c_text::Place;
 use brc_c_tree::{Binary, Expression, ExpressionId, TypeName, Unary};
 
 /// An operator, with the operands that come before it.
-#[derive(Clone, Copy, Debug, PartialEq, Eq)]
+#[derive(Clone, Copy, PartialEq, Eq)]
 pub(crate) enum Operator {
     Unary(Unary),
     Step { is_up: bool },
@@ -20,7 +20,7 @@ pub(crate) enum Operator {
     Colon(ExpressionId, ExpressionId),
 }
 
-#[derive(Clone, Copy, Debug, PartialEq, Eq)]
+#[derive(Clone, Copy)]
 pub(crate) struct Pending {
     pub(crate) operator: Operator,
     pub(crate) place: Place,

@@ -6,7 +6,7 @@ use brc_c_text::{Keyword, Lexeme, LexemeKind, Punctuator};
 use brc_c_tree::{Expected, Reason, Tag, TypeName, names_objects};
 
 /// The specifiers of a declaration.
-#[derive(Clone, Copy, Debug, PartialEq, Eq)]
+#[derive(Clone, Copy)]
 pub(crate) struct Specifiers {
     pub(crate) type_name: TypeName,
     pub(crate) is_static: bool,

@@ -12,7 +12,7 @@ use brc_lang::CheckCode;
 use std::alloc::{AllocError, Global};
 
 /// A fault of one reference.
-#[derive(Clone, Copy, Debug)]
+#[derive(Clone, Copy)]
 pub(crate) struct Blame {
     pub(crate) code: CheckCode,
     pub(crate) node: Node,

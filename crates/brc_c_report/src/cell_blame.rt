@@ -9,7 +9,7 @@ use brc_lang::CheckCode;
 use std::alloc::{AllocError, Global};
 
 /// A cell at the end of a path.
-#[derive(Clone, Copy, Debug)]
+#[derive(Clone, Copy)]
 pub(crate) struct Place {
     pub(crate) holder: Option<ObjectId>,
     pub(crate) field: Field,

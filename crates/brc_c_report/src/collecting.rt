@@ -16,7 +16,7 @@ use brc_c_text::Place;
 use std::alloc::{AllocError, Global};
 
 /// A function that was judged.
-#[derive(Clone, Copy, Debug)]
+#[derive(Clone, Copy)]
 pub struct Judged<'a> {
     pub graph: &'a Graph,
     /// The function's name.

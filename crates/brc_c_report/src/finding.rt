@@ -4,7 +4,7 @@ use brc_c_text::Place;
 use brc_lang::CheckCode;
 
 /// What is wrong with a reference.
-#[derive(Clone, Copy, Debug, PartialEq, Eq)]
+#[derive(Clone, Copy, PartialEq, Eq)]
 pub enum Wrong {
     /// Nobody gives it up (C4, C5).
     Lost,
@@ -21,7 +21,7 @@ pub enum Wrong {
 }
 
 /// What makes faults one finding: the reference, and what is wrong with it.
-#[derive(Clone, Copy, Debug, PartialEq, Eq)]
+#[derive(Clone, Copy, PartialEq, Eq)]
 pub struct Key {
     /// Where the reference was made.
     pub made: Place,
@@ -31,14 +31,14 @@ pub struct Key {
 }
 
 /// A line beside a finding.
-#[derive(Debug, Drop)]
+#[derive(Drop)]
 pub struct Note {
     pub place: Place,
     pub text: String,
 }
 
 /// A reference of a function, and what is wrong with it.
-#[derive(Debug, Drop)]
+#[derive(Drop)]
 pub struct Finding {
     pub key: Key,
     pub code: CheckCode,

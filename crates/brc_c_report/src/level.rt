@@ -1,5 +1,5 @@
 /// Why a finding is a warning only.
-#[derive(Clone, Copy, Debug, PartialEq, Eq)]
+#[derive(Clone, Copy, PartialEq, Eq)]
 pub enum Reservation {
     /// A call that may run other code ended the reference; nobody gave it up.
     IfCalledCodeDoes,
@@ -24,7 +24,7 @@ impl Reservation {
 }
 
 /// How certain a finding is.
-#[derive(Clone, Copy, Debug, PartialEq, Eq)]
+#[derive(Clone, Copy, PartialEq, Eq)]
 pub enum Level {
     /// A fault by the rules of a global lock.
     Error,

@@ -2,7 +2,7 @@ use crate::level::Level;
 use brc_report::Paint;
 
 /// What a line says of its place: the word behind it. At a terminal it has the colour that gcc gives it.
-#[derive(Clone, Copy, Debug, PartialEq, Eq)]
+#[derive(Clone, Copy)]
 pub enum LineKind {
     Error,
     Warning,

@@ -2,7 +2,7 @@ use brc_c_graph::NodeId;
 use brc_c_store::Local;
 
 /// What a path has done with an object.
-#[derive(Clone, Copy, Debug)]
+#[derive(Clone, Copy)]
 pub(crate) struct Origin {
     /// Where the object came into the function.
     pub(crate) made: NodeId,

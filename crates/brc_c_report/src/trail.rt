@@ -8,7 +8,7 @@ use brc_c_store::{Choice, Event, Local, Next, ObjectId, Rules, Source, Store, af
 use std::alloc::{AllocError, Global};
 
 /// A choice that can't be computed.
-#[derive(Clone, Copy, Debug)]
+#[derive(Clone, Copy)]
 pub(crate) struct Chosen {
     pub(crate) node: NodeId,
     pub(crate) choice: Choice,
@@ -17,7 +17,7 @@ pub(crate) struct Chosen {
 }
 
 /// A name that has NULL since a call failed.
-#[derive(Clone, Copy, Debug)]
+#[derive(Clone, Copy)]
 pub(crate) struct Failed {
     pub(crate) local: Local,
     pub(crate) call: NodeId,

@@ -2,11 +2,11 @@ use crate::value::{Local, ObjectId, Value};
 
 /// What keeps a reference beyond the call: the place of its name among those of the function. All fields of one name
 /// are one, whatever objects they belong to.
-#[derive(Clone, Copy, Debug, PartialEq, Eq, Hash)]
+#[derive(Clone, Copy, PartialEq, Eq)]
 pub struct Field(pub usize);
 
 /// What a cell owes. It is a label of the graph: nothing of it follows from a store.
-#[derive(Clone, Copy, Debug, PartialEq, Eq, Hash)]
+#[derive(Clone, Copy, PartialEq, Eq)]
 pub struct Owes {
     /// Whether the first value that is stored there replaces a reference that has to be given up.
     pub old: bool,
@@ -23,7 +23,7 @@ pub struct Owes {
 }
 
 /// A field of an object, or a variable that is there after the call, too.
-#[derive(Clone, Copy, Debug, PartialEq, Eq, Hash)]
+#[derive(Clone, Copy, PartialEq, Eq)]
 pub struct Cell {
     /// The name that has the object, or `None` if there is none.
     pub holder: Option<Local>,
@@ -32,7 +32,7 @@ pub struct Cell {
 }
 
 /// A cell that the function has read or set, and what it has.
-#[derive(Clone, Copy, Debug, PartialEq, Eq, Hash)]
+#[derive(Clone, Copy, PartialEq, Eq)]
 pub struct Touched {
     pub holder: Option<ObjectId>,
     pub field: Field,

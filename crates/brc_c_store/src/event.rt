@@ -3,7 +3,7 @@ use crate::signs::{Signs, Test};
 use crate::value::{Fact, Local, Singleton};
 
 /// Which way a path goes on after an event.
-#[derive(Clone, Copy, Debug, PartialEq, Eq, Hash)]
+#[derive(Clone, Copy, Debug, PartialEq, Eq)]
 pub enum Choice {
     /// The only way, the one where a condition holds, or where a call succeeds.
     Yes,
@@ -14,7 +14,7 @@ pub enum Choice {
 }
 
 /// Which ways there are after a call.
-#[derive(Clone, Copy, Debug, PartialEq, Eq, Hash)]
+#[derive(Clone, Copy, PartialEq, Eq)]
 pub enum Calling {
     Succeeds,
     MayFail,
@@ -23,7 +23,7 @@ pub enum Calling {
 }
 
 /// What a call gives if it succeeds.
-#[derive(Clone, Copy, Debug, PartialEq, Eq, Hash)]
+#[derive(Clone, Copy, PartialEq, Eq)]
 pub enum Gives {
     /// No object.
     Nothing,
@@ -40,7 +40,7 @@ pub enum Gives {
 }
 
 /// What is assigned.
-#[derive(Clone, Copy, Debug, PartialEq, Eq, Hash)]
+#[derive(Clone, Copy, PartialEq, Eq)]
 pub enum Source {
     /// Nothing: the name is declared.
     Nothing,
@@ -54,7 +54,7 @@ pub enum Source {
 
 /// What a function does at a point, as far as references go. A call of the C API is several events: each argument is
 /// asked for or given, then comes the call itself, and where it succeeds the rest of what it does.
-#[derive(Clone, Copy, Debug, PartialEq, Eq, Hash)]
+#[derive(Clone, Copy, PartialEq, Eq)]
 pub enum Event {
     /// Nothing: paths meet here.
     Pass,

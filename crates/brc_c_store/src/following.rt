@@ -25,7 +25,7 @@ use crate::value::{Fact, Local, ObjectId, Value};
 use std::alloc::AllocError;
 
 /// What follows an event.
-#[derive(Debug, Drop)]
+#[derive(Drop)]
 pub enum Next {
     /// No path goes this way.
     Never,

@@ -6,7 +6,7 @@ use crate::register::{Register, RegisterSet};
 use crate::value::{ObjectId, Singleton};
 
 /// Whose reference to an object the function may use, beside its own ones.
-#[derive(Clone, Copy, Debug, PartialEq, Eq, Hash)]
+#[derive(Clone, Copy, PartialEq, Eq)]
 pub enum Base {
     /// Nobody's: without a register of its own the object may be freed.
     Gone,
@@ -39,7 +39,7 @@ impl Base {
 }
 
 /// An object that a function knows.
-#[derive(Clone, Copy, Debug, PartialEq, Eq, Hash)]
+#[derive(Clone, Copy, PartialEq, Eq)]
 pub struct Object {
     /// The registers that own its references.
     pub registers: RegisterSet,

@@ -4,7 +4,7 @@ ghost use Rattle.brc_c_store.specs.Registers.{without_register, union_of, first_
 ghost use Rattle.brc_c_store.specs.Registers.{size_of, others_of};
 
 /// A register that holds a reference or a borrowed item: one of the module's variables `v3` to `v15`.
-#[derive(Clone, Copy, Debug, PartialEq, Eq, Hash)]
+#[derive(Clone, Copy, PartialEq, Eq)]
 pub struct Register(u8);
 
 const FIRST: u8 = 3;
@@ -27,7 +27,7 @@ impl Register {
 }
 
 /// A set of registers.
-#[derive(Clone, Copy, Debug, PartialEq, Eq, Hash)]
+#[derive(Clone, Copy, PartialEq, Eq)]
 pub struct RegisterSet(u16);
 
 impl RegisterSet {

@@ -3,7 +3,7 @@ ghost use Rattle.brc_c_store.specs.Signs.{sign_of, exactly, has_no_sign, signs_l
 ghost use Rattle.brc_c_store.specs.Signs.{is_equal, is_open};
 
 /// Which signs a number may have. Minus one is a sign of its own, since functions of C say by it that they fail.
-#[derive(Clone, Copy, Debug, PartialEq, Eq, Hash)]
+#[derive(Clone, Copy, PartialEq, Eq)]
 pub struct Signs {
     pub minus_one: bool,
     /// Below minus one.
@@ -128,7 +128,7 @@ impl Signs {
     }
 }
 
-#[derive(Clone, Copy, Debug, PartialEq, Eq, Hash)]
+#[derive(Clone, Copy, PartialEq, Eq)]
 pub enum Comparison {
     Equal,
     NotEqual,
@@ -154,7 +154,7 @@ impl Comparison {
 }
 
 /// A comparison of a number with a constant.
-#[derive(Clone, Copy, Debug, PartialEq, Eq, Hash)]
+#[derive(Clone, Copy, PartialEq, Eq)]
 pub struct Test {
     pub comparison: Comparison,
     pub constant: i64,

@@ -16,28 +16,28 @@ use crate::value::{Fact, Local, ObjectId, Value};
 use std::alloc::{AllocError, Global};
 
 /// A name and its value.
-#[derive(Clone, Copy, Debug, PartialEq, Eq, Hash)]
+#[derive(Clone, Copy, PartialEq, Eq)]
 pub struct Named {
     pub local: Local,
     pub value: Value,
 }
 
 /// A critical section that is open, with the objects that it locks.
-#[derive(Clone, Copy, Debug, PartialEq, Eq, Hash)]
+#[derive(Clone, Copy, PartialEq, Eq)]
 pub struct Section {
     pub first: Option<ObjectId>,
     pub second: Option<ObjectId>,
 }
 
 /// A condition and what was found for it.
-#[derive(Clone, Copy, Debug, PartialEq, Eq, Hash)]
+#[derive(Clone, Copy, PartialEq, Eq)]
 pub struct KnownFact {
     pub fact: Fact,
     pub holds: bool,
 }
 
 /// What is known at a point of a path.
-#[derive(Clone, Debug, PartialEq, Eq, Hash, Drop)]
+#[derive(Clone, PartialEq, Eq, Drop)]
 pub struct Store {
     /// The names that have a value, by their numbers.
     pub values: Vec<Named>,

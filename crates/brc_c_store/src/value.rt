@@ -4,25 +4,25 @@ ghost use Rattle.brc_c_store.specs.Values.{object_in};
 use crate::signs::Signs;
 
 /// A name of a function that its text assigns: a parameter, a variable, or an intermediate value.
-#[derive(Clone, Copy, Debug, PartialEq, Eq, Hash)]
+#[derive(Clone, Copy, PartialEq, Eq)]
 pub struct Local(pub usize);
 
 /// An object of a store, by its place there.
-#[derive(Clone, Copy, Debug, PartialEq, Eq, Hash)]
+#[derive(Clone, Copy, PartialEq, Eq)]
 pub struct ObjectId(pub usize);
 
 /// An object that everybody knows by name, as `Py_None` and `PyExc_TypeError`: the place of its name among those of the
 /// function.
-#[derive(Clone, Copy, Debug, PartialEq, Eq, Hash)]
+#[derive(Clone, Copy, PartialEq, Eq)]
 pub struct Singleton(pub usize);
 
 /// A condition that a function asks more than once in the same words: the place of its words among those of the
 /// function.
-#[derive(Clone, Copy, Debug, PartialEq, Eq, Hash)]
+#[derive(Clone, Copy, PartialEq, Eq)]
 pub struct Fact(pub usize);
 
 /// What a name has.
-#[derive(Clone, Copy, Debug, PartialEq, Eq, Hash)]
+#[derive(Clone, Copy, PartialEq, Eq)]
 pub enum Value {
     /// Nothing is assigned to it.
     Unset,

@@ -5,7 +5,7 @@ use std::alloc::{AllocError, AllocFailed};
 use thiserror::Error;
 
 /// What is wrong with a line of a table, and what to write.
-#[derive(Clone, Copy, Debug, PartialEq, Eq, Error)]
+#[derive(Clone, Copy, Debug, Error)]
 pub enum RowFault {
     #[error("a row has the words NAME RESULT ARGUMENTS FAILURE CODE, and a number behind `item`, `part` or `same`")]
     WordCount,
@@ -54,7 +54,7 @@ impl<T: Drop> From<AllocFailed<T>> for RowFault {
 }
 
 /// Why a table isn't read: its first line at fault, and what is wrong with it.
-#[derive(Clone, Copy, Debug, PartialEq, Eq, Error)]
+#[derive(Clone, Copy, Debug, Error)]
 #[error("{line}: {fault}")]
 pub struct TableFault {
     /// The line's number, from 1.

@@ -4,7 +4,7 @@
 use brc_lang::Sequence;
 
 /// What is known of a function, or of a field that is called through a pointer.
-#[derive(Debug, Drop)]
+#[derive(Drop)]
 pub struct Row {
     /// Its name, a name of C; of a field without the arrow.
     pub name: Sequence<u8>,
@@ -46,7 +46,7 @@ pub enum Gives {
 
 /// How an argument is passed. A *stolen* reference is the callee's afterwards, and a *borrowed* one is still the
 /// caller's.
-#[derive(Clone, Copy, Debug, PartialEq, Eq)]
+#[derive(Clone, Copy, PartialEq, Eq)]
 pub enum Takes {
     /// `b`: borrowed.
     Borrowed,
@@ -98,7 +98,7 @@ pub enum Takes {
 }
 
 /// How a failure shows.
-#[derive(Clone, Copy, Debug, PartialEq, Eq)]
+#[derive(Clone, Copy)]
 pub enum Fails {
     /// `null`: the result is NULL.
     Null,

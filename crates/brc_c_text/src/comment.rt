@@ -1,5 +1,5 @@
 /// A comment, with what begins and ends it.
-#[derive(Clone, Copy, Debug, PartialEq, Eq)]
+#[derive(Clone, Copy)]
 pub struct Comment {
     /// Where its first byte is, and the byte after its last one.
     pub start: usize,

@@ -33,7 +33,7 @@ pub struct Place {
 }
 
 /// A token without its source: its symbol says what it spells.
-#[derive(Clone, Copy, Debug, PartialEq, Eq)]
+#[derive(Clone, Copy, Debug)]
 pub struct Lexeme {
     pub kind: LexemeKind,
     /// Whether it is the first one of its line, where continued lines are one.

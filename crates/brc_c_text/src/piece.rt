@@ -6,7 +6,7 @@ use crate::punctuator::punctuator_at;
 use crate::quoted::{past_block_comment, past_line_comment, past_quoted};
 use crate::token::TokenKind;
 
-#[derive(Clone, Copy, Debug, PartialEq, Eq)]
+#[derive(Clone, Copy)]
 pub(crate) enum PieceKind {
     /// Blanks, or a backslash and the end of its line.
     Blank,
@@ -17,7 +17,7 @@ pub(crate) enum PieceKind {
 }
 
 /// What a piece is, and the place after it.
-#[derive(Clone, Copy, Debug, PartialEq, Eq)]
+#[derive(Clone, Copy)]
 pub(crate) struct Piece {
     pub(crate) kind: PieceKind,
     pub(crate) end: usize,

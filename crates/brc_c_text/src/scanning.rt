@@ -86,7 +86,7 @@ impl Scanned {
 }
 
 /// Where a place is among lines.
-#[derive(Clone, Copy, Debug)]
+#[derive(Clone, Copy)]
 struct Lines {
     /// The number of its line, from 1. A source has fewer bytes than numbers have values, so no number is ever full.
     number: u32,

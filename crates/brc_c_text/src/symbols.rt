@@ -33,7 +33,7 @@ impl Symbol {
 }
 
 /// Where a symbol's bytes are, and the keyword that they spell.
-#[derive(Clone, Copy, Debug)]
+#[derive(Clone, Copy)]
 struct Entry {
     start: usize,
     end: usize,

@@ -1,7 +1,7 @@
 use crate::punctuator::Punctuator;
 
 /// What a token is.
-#[derive(Clone, Copy, Debug, PartialEq, Eq)]
+#[derive(Clone, Copy, PartialEq, Eq)]
 pub enum TokenKind {
     /// An identifier or a keyword.
     Name,
@@ -17,7 +17,7 @@ pub enum TokenKind {
 }
 
 /// A token: what it is, and where it is.
-#[derive(Clone, Copy, Debug, PartialEq, Eq)]
+#[derive(Clone, Copy)]
 pub struct Token {
     pub kind: TokenKind,
     /// Whether it is the first one of its line, where continued lines are one.

@@ -37,7 +37,7 @@ pub enum Binary {
 }
 
 /// An expression. It names its operands by their places in the function's tree.
-#[derive(Clone, Copy, Debug, PartialEq, Eq)]
+#[derive(Clone, Copy)]
 pub enum Expression {
     Name(Symbol),
     Number(Symbol),

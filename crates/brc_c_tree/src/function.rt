@@ -5,7 +5,7 @@ use crate::type_name::TypeName;
 use brc_c_text::{Place, Symbol};
 
 /// A parameter of a function.
-#[derive(Clone, Copy, Debug, PartialEq, Eq)]
+#[derive(Clone, Copy)]
 pub struct Parameter {
     pub name: Option<Symbol>,
     pub type_name: TypeName,

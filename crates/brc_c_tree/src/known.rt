@@ -1,5 +1,5 @@
 /// The macros of Python's that are statements.
-#[derive(Clone, Copy, Debug, PartialEq, Eq)]
+#[derive(Clone, Copy, Debug)]
 pub enum Known {
     BeginCriticalSection,
     EndCriticalSection,

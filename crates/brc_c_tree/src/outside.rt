@@ -6,7 +6,7 @@ use brc_c_text::{Place, Symbol};
 use std::alloc::Global;
 
 /// A field of a struct or a union. Those of one inside it are fields of both.
-#[derive(Clone, Copy, Debug, PartialEq, Eq)]
+#[derive(Clone, Copy)]
 pub struct Field {
     pub name: Symbol,
     pub type_name: TypeName,
@@ -21,7 +21,7 @@ pub struct Record {
 }
 
 /// A name of a record: its tag, or one that `typedef` gives it.
-#[derive(Clone, Copy, Debug, PartialEq, Eq)]
+#[derive(Clone, Copy)]
 pub struct RecordName {
     pub name: Symbol,
     /// How many stars the type of this name has before the record.
@@ -31,14 +31,14 @@ pub struct RecordName {
 }
 
 /// A name that `typedef` gives to another type.
-#[derive(Clone, Copy, Debug, PartialEq, Eq)]
+#[derive(Clone, Copy)]
 pub struct Alias {
     pub name: Symbol,
     pub type_name: TypeName,
 }
 
 /// A function that is declared without a body.
-#[derive(Clone, Copy, Debug, PartialEq, Eq)]
+#[derive(Clone, Copy)]
 pub struct Prototype {
     pub name: Symbol,
     pub result: TypeName,
@@ -46,7 +46,7 @@ pub struct Prototype {
 }
 
 /// A variable outside functions.
-#[derive(Clone, Copy, Debug, PartialEq, Eq)]
+#[derive(Clone, Copy)]
 pub struct Variable {
     pub name: Symbol,
     pub type_name: TypeName,

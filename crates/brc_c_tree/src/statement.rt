@@ -4,7 +4,7 @@ use crate::type_name::TypeName;
 use brc_c_text::{Place, Symbol};
 
 /// A statement. It names its parts by their places in the function's tree.
-#[derive(Clone, Copy, Debug, PartialEq, Eq)]
+#[derive(Clone, Copy)]
 pub enum Statement {
     Block(List),
     Expression(ExpressionId),
@@ -49,7 +49,7 @@ pub enum Statement {
 }
 
 /// A variable of a function.
-#[derive(Clone, Copy, Debug, PartialEq, Eq)]
+#[derive(Clone, Copy)]
 pub struct Declaration {
     pub name: Symbol,
     /// Its type. An array's has a star for each of its dimensions.

@@ -4,7 +4,7 @@ use brc_c_text::Place;
 use std::alloc::{AllocError, Global};
 
 /// The place of an expression in its tree.
-#[derive(Clone, Copy, Debug, PartialEq, Eq, Hash)]
+#[derive(Clone, Copy, PartialEq, Eq)]
 pub struct ExpressionId(usize);
 
 impl ExpressionId {
@@ -15,7 +15,7 @@ impl ExpressionId {
 }
 
 /// The place of a statement in its tree.
-#[derive(Clone, Copy, Debug, PartialEq, Eq, Hash)]
+#[derive(Clone, Copy)]
 pub struct StatementId(usize);
 
 impl StatementId {
@@ -26,7 +26,7 @@ impl StatementId {
 }
 
 /// Neighbours in one of a tree's lists.
-#[derive(Clone, Copy, Debug, PartialEq, Eq)]
+#[derive(Clone, Copy, PartialEq, Eq)]
 pub struct List {
     start: usize,
     end: usize,

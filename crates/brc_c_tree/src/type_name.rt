@@ -1,7 +1,7 @@
 use brc_c_text::Symbol;
 
 /// What the symbol of a type is a tag of.
-#[derive(Clone, Copy, Debug, PartialEq, Eq)]
+#[derive(Clone, Copy, PartialEq, Eq)]
 pub enum Tag {
     Struct,
     Union,
@@ -9,7 +9,7 @@ pub enum Tag {
 }
 
 /// A type, as far as the reader asks for it.
-#[derive(Clone, Copy, Debug, PartialEq, Eq)]
+#[derive(Clone, Copy, PartialEq, Eq)]
 pub struct TypeName {
     /// The last of its symbols that is no qualifier, or `int` if there is none.
     pub symbol: Symbol,

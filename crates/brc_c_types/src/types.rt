@@ -4,7 +4,7 @@ use std::alloc::{AllocError, Global};
 use std::collections::HashMap;
 
 /// What a name of a record says.
-#[derive(Clone, Copy, Debug)]
+#[derive(Clone, Copy)]
 pub(crate) struct Named {
     /// How many stars the type of this name has before the record.
     pub(crate) stars: u32,
@@ -13,7 +13,7 @@ pub(crate) struct Named {
 }
 
 /// A field, by the number of its record and its name.
-#[derive(Clone, Copy, Debug, PartialEq, Eq, Hash)]
+#[derive(Clone, Copy, PartialEq, Eq, Hash)]
 pub(crate) struct FieldKey {
     pub(crate) record: usize,
     pub(crate) name: Symbol,

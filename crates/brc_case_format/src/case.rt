@@ -2,7 +2,7 @@ use crate::wanted::{How, Stream, Wanted};
 use std::alloc::{AllocError, Global};
 
 /// What a loader or a saver answers for a file.
-#[derive(Clone, Copy, Debug, PartialEq, Eq)]
+#[derive(Clone, Copy)]
 pub enum Answer {
     Text,
     /// Memory is refused when it is loaded.

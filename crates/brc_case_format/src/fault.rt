@@ -46,7 +46,7 @@ impl From<AllocError> for Why {
 }
 
 /// The first line of a file of cases that can't be read.
-#[derive(Clone, Copy, Debug, PartialEq, Eq, Drop)]
+#[derive(Clone, Copy, Drop)]
 pub struct CaseFault {
     /// The line's number, from 1.
     pub line: usize,

@@ -8,7 +8,7 @@ use brc_run::System;
 use std::alloc::{AllocError, Global};
 
 /// How many cases hold, and how many don't.
-#[derive(Clone, Copy, Debug)]
+#[derive(Clone, Copy)]
 pub struct Counts {
     pub holding: u64,
     pub differing: u64,

@@ -6,7 +6,7 @@ use std::io::{ErrorKind, Write};
 pub const ENDLESS: usize = usize::MAX;
 
 /// How many bytes the outputs of a command take.
-#[derive(Clone, Copy, Debug)]
+#[derive(Clone, Copy)]
 pub struct Room {
     pub out: usize,
     pub err: usize,

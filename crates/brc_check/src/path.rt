@@ -2,7 +2,7 @@ use brc_lang::Sequence;
 use brc_model::Exit;
 
 /// How paths lead to a refusal: the exits that a path takes, in order, from the function's first instruction.
-#[derive(Debug, Drop)]
+#[derive(Drop)]
 pub enum Path {
     /// The last of the exits reports the code at the point.
     Reports(Sequence<Exit>),

@@ -9,7 +9,7 @@ use brc_lang::{CheckCode, Instr};
 use brc_model::{Exit, State};
 
 /// The end of a step.
-#[derive(Clone, Copy, Debug)]
+#[derive(Clone, Copy)]
 pub enum Step {
     /// A point, and the state in which the path reaches it.
     To(usize, State),

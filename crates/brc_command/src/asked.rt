@@ -14,7 +14,7 @@ pub const NO_BOUND: u64 = u64::MAX;
 pub const MOST_NAMES: usize = 16;
 
 /// The request of a command line.
-#[derive(Clone, Copy, Debug)]
+#[derive(Clone, Copy)]
 pub enum Asked<'a> {
     /// Run a function of a module.
     Run(Run<'a>),
@@ -52,7 +52,7 @@ pub enum Asked<'a> {
 }
 
 /// The run that a command line asks for.
-#[derive(Clone, Copy, Debug)]
+#[derive(Clone, Copy)]
 pub struct Run<'a> {
     /// The module's file.
     pub file: &'a str,

@@ -41,7 +41,7 @@ pub fn with_picture<S: Save>(
 }
 
 /// What is left of a run once its steps are seen.
-#[derive(Clone, Copy, Debug)]
+#[derive(Clone, Copy)]
 enum Rest {
     /// The step can be followed by others.
     Goes,

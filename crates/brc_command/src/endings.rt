@@ -12,7 +12,7 @@ use std::io;
 use std::io::Write;
 
 /// How a run that wasn't checked before ends.
-#[derive(Debug, Drop)]
+#[derive(Drop)]
 pub enum Ending {
     /// All steps are taken, and the report is written.
     Whole,

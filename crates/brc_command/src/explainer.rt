@@ -74,7 +74,7 @@ pub trait Explain {
 }
 
 /// The program's explainer. What its words say is tested.
-#[derive(Clone, Copy, Debug)]
+#[derive(Clone, Copy)]
 pub struct Explainer;
 
 impl Explain for Explainer {

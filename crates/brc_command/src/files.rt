@@ -36,7 +36,7 @@ use std::io;
 use std::io::Write;
 
 /// How what is found of files is written.
-#[derive(Clone, Copy, Debug)]
+#[derive(Clone, Copy)]
 pub enum Format<'a> {
     /// In lines, as `Asked::Check` writes them. If there are several files, each line begins with its file's name.
     Text,

@@ -27,7 +27,7 @@ use brc_lang::{Module, ReadFault, Sequence, one_reading};
 use std::alloc::{AllocError, Global};
 
 /// What is found of the module of a file.
-#[derive(Debug, Drop)]
+#[derive(Drop)]
 pub enum Finding<'a> {
     /// It is accepted.
     Accepted,
@@ -40,7 +40,7 @@ pub enum Finding<'a> {
 }
 
 /// A refusal, how to find it in the text, and the module's other refusals.
-#[derive(Debug, Drop)]
+#[derive(Drop)]
 pub struct Located {
     pub refused: Refused,
     /// The line of the instruction at fault, counted from 1.
@@ -54,7 +54,7 @@ pub struct Located {
 }
 
 /// The refusal of another function than the one that is shown.
-#[derive(Clone, Copy, Debug)]
+#[derive(Clone, Copy)]
 pub struct Other {
     pub refused: Refused,
     /// The line of the instruction at fault, counted from 1.
@@ -62,7 +62,7 @@ pub struct Other {
 }
 
 /// Why a text spells no module.
-#[derive(Debug, Drop)]
+#[derive(Drop)]
 pub struct Unreadable {
     pub fault: ReadFault,
     /// What is said of it beside. No contract says what that is.

@@ -8,7 +8,7 @@ use thiserror::Error;
 pub const STANDARD_INPUT: &str = "-";
 
 /// Why a file can't be loaded.
-#[derive(Clone, Copy, Debug, PartialEq, Eq, Error)]
+#[derive(Clone, Copy, Debug, Error)]
 pub enum LoadError {
     /// The file can't be read.
     #[error("unreadable file")]
@@ -19,7 +19,7 @@ pub enum LoadError {
 }
 
 /// Why a file can't be read, if it is one of the reasons that people meet.
-#[derive(Clone, Copy, Debug, PartialEq, Eq)]
+#[derive(Clone, Copy)]
 pub enum Unread {
     Missing,
     Folder,

@@ -14,7 +14,7 @@ use std::alloc::Global;
 const FIRST_LINE: usize = 11;
 
 /// What a file is read for.
-#[derive(Clone, Copy, Debug)]
+#[derive(Clone, Copy)]
 pub enum Wanted {
     Module,
     Schedule,

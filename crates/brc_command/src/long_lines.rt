@@ -49,7 +49,7 @@ fn last_line(bytes: &[u8]) -> Line {
 }
 
 /// What is kept of a line.
-#[derive(Clone, Copy, Debug)]
+#[derive(Clone, Copy)]
 struct Line {
     length: usize,
     spaces: usize,

@@ -3,7 +3,7 @@
 use thiserror::Error;
 
 /// The file can't be written whole.
-#[derive(Clone, Copy, Debug, PartialEq, Eq, Error)]
+#[derive(Clone, Copy, Debug, Error)]
 #[error("cannot write")]
 pub struct SaveError;
 

@@ -45,7 +45,7 @@ pub trait Terminal: Gate + Sync {
 }
 
 /// No terminal: texts aren't marked, and nothing is shown.
-#[derive(Clone, Copy, Debug)]
+#[derive(Clone, Copy)]
 pub struct NoTerminal;
 
 impl Gate for NoTerminal {

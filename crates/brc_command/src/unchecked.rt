@@ -10,7 +10,7 @@ pub const MOST_STATES: u32 = 10_000_000;
 pub const MOST_SECONDS: u32 = 1_000_000;
 
 /// A request about runs of a module.
-#[derive(Clone, Copy, Debug)]
+#[derive(Clone, Copy)]
 pub enum Unchecked<'a> {
     /// Look for a run of the file's module that goes wrong.
     Explain {
@@ -28,7 +28,7 @@ pub enum Unchecked<'a> {
 }
 
 /// How far a search for a run goes.
-#[derive(Clone, Copy, Debug)]
+#[derive(Clone, Copy)]
 pub struct Bounds {
     /// The most workers, 1 to 32.
     pub workers: u8,

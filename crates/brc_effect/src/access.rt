@@ -17,7 +17,7 @@ use brc_word::values::{EMPTY, FREE, FULL, GONE, LEAVING, NOBODY, ONE_REFERENCE, 
 use brc_word::{closed, dying, local_word, locked, mark_mask, merged, other_marks, released};
 
 /// One atomic operation on one word.
-#[derive(Clone, Copy, Debug)]
+#[derive(Clone, Copy)]
 pub enum Access {
     /// Loads the word.
     Load,

@@ -21,7 +21,7 @@ mod retain;
 mod swap;
 
 /// The duties that replace a duty once it is done, in the order in which the thread does them.
-#[derive(Clone, Copy, Debug)]
+#[derive(Clone, Copy)]
 pub enum Next {
     Nothing,
     One(Duty),
@@ -32,7 +32,7 @@ pub enum Next {
 }
 
 /// The effect of a step.
-#[derive(Clone, Copy, Debug)]
+#[derive(Clone, Copy)]
 pub struct Effect {
     /// The duties that the thread does next, before the rest of its agenda.
     pub next: Next,
@@ -42,7 +42,7 @@ pub struct Effect {
 }
 
 /// What a step changes in its thread, beside the agenda and the head of the dying chain: one of these at most.
-#[derive(Clone, Copy, Debug)]
+#[derive(Clone, Copy)]
 pub enum Change {
     Nothing,
     Becomes(Status),
@@ -55,7 +55,7 @@ pub enum Change {
 }
 
 /// The thread that does a duty: the parts of it that the duty's effect depends on.
-#[derive(Clone, Copy, Debug)]
+#[derive(Clone, Copy)]
 pub struct Doer {
     pub blocks: Blocks,
     pub number: u8,

@@ -5,7 +5,7 @@ use crate::words::word_at;
 use brc_lang::{Version, is_word, number_between, split_line, split_word};
 
 /// A line of a text, and what is above it.
-#[derive(Clone, Copy, Debug)]
+#[derive(Clone, Copy)]
 pub struct Situation<'a> {
     /// The version that the text's first line names.
     pub version: Version,
@@ -93,7 +93,7 @@ fn version_of(text: &[u8]) -> Version {
 }
 
 /// The line that opens a function.
-#[derive(Clone, Copy, Debug)]
+#[derive(Clone, Copy)]
 pub struct Heading<'a> {
     /// The line's number, from 1.
     pub number: u64,
@@ -138,7 +138,7 @@ pub fn count_instructions(body: &[u8]) -> usize {
 }
 
 /// An instruction whose target leads the wrong way.
-#[derive(Clone, Copy, Debug)]
+#[derive(Clone, Copy)]
 pub struct WrongTarget<'a> {
     /// The instruction's number, from 0.
     pub at: usize,

@@ -20,7 +20,7 @@ use std::io;
 use std::io::Write;
 
 /// What is said of a fault.
-#[derive(Debug, Drop)]
+#[derive(Drop)]
 pub struct Details {
     /// Where the word at fault begins, if it is known.
     pub place: Option<Place>,

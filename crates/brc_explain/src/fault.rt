@@ -5,7 +5,7 @@ use std::alloc::AllocError;
 use std::io;
 
 /// Why an explanation isn't written to its end.
-#[derive(Clone, Copy, Debug, PartialEq, Eq)]
+#[derive(Clone, Copy)]
 pub enum ExplainFault {
     /// Memory was refused.
     NoMemory,

@@ -6,7 +6,7 @@ use std::io;
 use std::io::Write;
 
 /// What a word behind an instruction's name has to be.
-#[derive(Clone, Copy, Debug, PartialEq, Eq)]
+#[derive(Clone, Copy, PartialEq, Eq)]
 pub enum Operand {
     Variable,
     /// A number from the first to the second.
@@ -19,7 +19,7 @@ pub enum Operand {
 }
 
 /// The form of an instruction.
-#[derive(Clone, Copy, Debug)]
+#[derive(Clone, Copy)]
 pub struct Form {
     /// The first word.
     pub name: &'static str,

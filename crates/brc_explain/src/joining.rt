@@ -12,7 +12,7 @@ use std::io;
 use std::io::Write;
 
 /// In what a variable differs where two paths meet.
-#[derive(Clone, Copy, Debug, PartialEq, Eq)]
+#[derive(Clone, Copy, PartialEq, Eq)]
 enum Difference {
     /// It owns on one path, and is empty on the other.
     OwnedOrEmpty,

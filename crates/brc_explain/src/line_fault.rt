@@ -7,7 +7,7 @@ use crate::words::{empty_word, word_at, word_count};
 use brc_lang::{Version, is_name, is_word, number_between};
 
 /// What is wrong with a line, and what would be read there.
-#[derive(Clone, Copy, Debug)]
+#[derive(Clone, Copy)]
 pub struct LineFault {
     /// The part of the line that is at fault.
     pub span: Span,
@@ -20,7 +20,7 @@ pub struct LineFault {
 }
 
 /// What would be read at a place.
-#[derive(Clone, Copy, Debug, PartialEq, Eq)]
+#[derive(Clone, Copy, PartialEq, Eq)]
 pub enum Wanted {
     /// The name of an instruction.
     Name,

@@ -14,7 +14,7 @@ use std::io;
 use std::io::Write;
 
 /// What a listing shows beside its rows.
-#[derive(Clone, Copy, Debug)]
+#[derive(Clone, Copy)]
 pub struct Remarks<'a> {
     /// What stands behind the row at fault.
     pub code: &'static str,

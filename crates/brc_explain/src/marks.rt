@@ -7,7 +7,7 @@ use crate::words::word_at;
 use brc_lang::{FaultCode, ReadFault, is_word};
 
 /// A place in a text.
-#[derive(Clone, Copy, Debug)]
+#[derive(Clone, Copy)]
 pub struct Place {
     /// The line, counted from 1.
     pub line: u64,
@@ -16,7 +16,7 @@ pub struct Place {
 }
 
 /// The part of a text that is at fault.
-#[derive(Clone, Copy, Debug)]
+#[derive(Clone, Copy)]
 pub struct Mark {
     /// The number of its line, counted from 1.
     pub line: u64,

@@ -3,7 +3,7 @@
 use brc_lang::{Argument, Instr, Variable};
 
 /// An instruction's variables by what it does with them, but for the arguments of a call.
-#[derive(Clone, Copy, Debug, PartialEq, Eq)]
+#[derive(Clone, Copy)]
 pub struct Roles {
     /// The one that it fills.
     pub filled: Option<Variable>,

@@ -16,7 +16,7 @@ use brc_lang::{Function, Module};
 use std::alloc::{AllocError, Global};
 
 /// A point of a function, and the code that is reported there.
-#[derive(Clone, Copy, Debug)]
+#[derive(Clone, Copy)]
 struct Reported {
     at: usize,
     code: CheckCode,

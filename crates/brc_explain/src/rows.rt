@@ -12,7 +12,7 @@ use brc_lang::{Function, Instr, Sequence};
 use std::alloc::{AllocError, Global};
 
 /// The row of an instruction in a listing.
-#[derive(Clone, Copy, Debug)]
+#[derive(Clone, Copy)]
 pub struct Row {
     pub at: usize,
     /// The state before the instruction, or `None` if no path is known to reach it.
@@ -22,7 +22,7 @@ pub struct Row {
 }
 
 /// Which way a step leads.
-#[derive(Clone, Copy, Debug)]
+#[derive(Clone, Copy)]
 pub enum Way {
     /// To the next instruction, or where the instruction leads in any case.
     Onward,
@@ -46,7 +46,7 @@ impl Way {
 }
 
 /// The row of a step in a path.
-#[derive(Clone, Copy, Debug)]
+#[derive(Clone, Copy)]
 pub struct StepRow {
     pub at: usize,
     pub way: Way,
@@ -57,7 +57,7 @@ pub struct StepRow {
 }
 
 /// The rows of one path, or of two.
-#[derive(Debug, Drop)]
+#[derive(Drop)]
 pub enum StepRows {
     One(Sequence<StepRow>),
     Two(Sequence<StepRow>, Sequence<StepRow>),

@@ -63,7 +63,7 @@ const CALL: Wanted = Wanted::Said("`call T NAME TIMES`: a line for each worker T
 const STEPS: Wanted = Wanted::Said("`step T ok N`, `step T fault N`, `claim T ROW` or `stop T`");
 
 /// What belongs into a line, if the lines above it have no fault.
-#[derive(Clone, Copy, Debug)]
+#[derive(Clone, Copy)]
 enum Expected {
     Workers,
     Rows,
@@ -73,7 +73,7 @@ enum Expected {
 }
 
 /// A word behind the first one of a line.
-#[derive(Clone, Copy, Debug)]
+#[derive(Clone, Copy)]
 enum PlanWord {
     /// A number from the first to the second.
     Number(u32, u32),

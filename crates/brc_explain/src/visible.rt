@@ -7,7 +7,7 @@ use std::io;
 use std::io::Write;
 
 /// A part of a line: the bytes from `from` up to the one before `to`. If it is empty, it is the place before `from`.
-#[derive(Clone, Copy, Debug, PartialEq, Eq)]
+#[derive(Clone, Copy)]
 pub struct Span {
     pub from: usize,
     pub to: usize,

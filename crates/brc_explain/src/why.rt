@@ -83,7 +83,7 @@ fn is_right(instr: Instr, kind: Kind) -> bool {
 }
 
 /// A variable whose object is of a kind that its instruction doesn't want there.
-#[derive(Clone, Copy, Debug)]
+#[derive(Clone, Copy)]
 pub struct Misfit {
     pub variable: Variable,
     /// The kind that is wanted, in words.

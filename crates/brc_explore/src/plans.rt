@@ -17,7 +17,7 @@ use std::alloc::Global;
 const FEW_ROWS: u16 = 8;
 
 /// How far a search goes.
-#[derive(Clone, Copy, Debug)]
+#[derive(Clone, Copy)]
 pub struct Bounds {
     /// The most workers, 1 to 32.
     pub workers: u8,

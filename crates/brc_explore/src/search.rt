@@ -17,7 +17,7 @@ use std::collections::{HashSet, VecDeque};
 const STATES_BETWEEN: usize = 256;
 
 /// Which threads may take the next step.
-#[derive(Clone, Copy, Debug, PartialEq, Eq)]
+#[derive(Clone, Copy)]
 pub enum Order {
     /// The workers; main, once they are gone.
     WorkersFirst,
@@ -39,7 +39,7 @@ pub trait Watch {
 }
 
 /// An exit of a `borrow` or a `fetch`, whose two exits lead to different instructions.
-#[derive(Clone, Copy, Debug, PartialEq, Eq)]
+#[derive(Clone, Copy, PartialEq, Eq)]
 pub struct ItemRead {
     /// The function's number.
     pub function: usize,

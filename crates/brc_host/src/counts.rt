@@ -3,7 +3,7 @@ ghost use Rattle.std.specs.Prelude.{◌≡◌, is_err};
 use crate::host::Fault;
 
 /// What a host counts. Each count stops at the greatest number.
-#[derive(Clone, Copy, Debug, PartialEq, Eq)]
+#[derive(Clone, Copy)]
 pub struct HostCounts {
     /// The calls that have failed.
     pub failures: u64,

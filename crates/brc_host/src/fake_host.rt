@@ -9,13 +9,13 @@ use brc_lang::Mode;
 use std::marker::Model;
 
 /// A file or a connection of a `FakeHost`.
-#[derive(Debug, Drop)]
+#[derive(Drop)]
 pub struct FakeResource(());
 
 /// A host that fails in the calls of a plan, and in no others. It reaches no file and no peer.
 ///
 /// Its calls are numbered from 0, each call of `open`, `connect`, `read`, `write` and `close`.
-#[derive(Debug, Drop)]
+#[derive(Drop)]
 pub struct FakeHost<'p> {
     plan: &'p [u64],
     // None after 2^64 calls: no plan has the number of a later one.

@@ -3,7 +3,7 @@ use crate::sequence::Sequence;
 use crate::version::Version;
 
 /// What stands above a line of a text, as far as its reader has to know.
-#[derive(Debug, Drop)]
+#[derive(Drop)]
 pub(crate) struct Above {
     pub version: Version,
     /// The numbers of each static line.

@@ -7,7 +7,7 @@ use crate::variable::Variable;
 use std::marker::Model;
 
 /// The arguments of a call: a copied list of at most `MOST` of them.
-#[derive(Clone, Copy, Debug, PartialEq, Eq)]
+#[derive(Clone, Copy, Debug)]
 pub struct Arguments {
     items: [Argument; 4],
     len: u8,

@@ -1,5 +1,5 @@
 /// A reader's position between two lines of a text.
-#[derive(Clone, Copy, Debug)]
+#[derive(Clone, Copy)]
 pub struct Cursor<'a> {
     /// The text below.
     pub rest: &'a [u8],

@@ -66,7 +66,7 @@ impl From<AllocError> for FaultCode {
 }
 
 /// Why a text isn't read: its first faulty line, and the fault.
-#[derive(Clone, Copy, Debug, PartialEq, Eq, Error)]
+#[derive(Clone, Copy, Debug, Error)]
 #[error("line {line} {code}")]
 pub struct ReadFault {
     /// The line's number, from 1.

@@ -32,7 +32,7 @@ pub struct Function {
 ///
 /// References follow the ownership rules of the Python/C API (Introduction, Reference Count Details). A target is the
 /// number of a later instruction of the function; that of `again` is its own number or an earlier one.
-#[derive(Clone, Copy, Debug, PartialEq, Eq)]
+#[derive(Clone, Copy, Debug)]
 pub enum Instr {
     /// `num vD K else @L`: makes a number of the value K and owns it in vD; goes on at L if the worker has no row left.
     Num {

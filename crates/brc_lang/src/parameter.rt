@@ -7,7 +7,7 @@ use crate::kind::Kind;
 use crate::variable::Variable;
 
 /// How a reference is passed to a function (Python/C API, Introduction, Reference Count Details).
-#[derive(Clone, Copy, Debug, PartialEq, Eq)]
+#[derive(Clone, Copy, Debug)]
 pub enum Passing {
     /// The caller lends the reference, and keeps it.
     Borrow,
@@ -16,14 +16,14 @@ pub enum Passing {
 }
 
 /// A parameter: how its reference is passed, and the kind of its object, `Any` where each kind is taken.
-#[derive(Clone, Copy, Debug, PartialEq, Eq)]
+#[derive(Clone, Copy, Debug)]
 pub struct Parameter {
     pub passing: Passing,
     pub kind: Kind,
 }
 
 /// An argument of a call: the caller's variable, and the parameter that it is for.
-#[derive(Clone, Copy, Debug, PartialEq, Eq)]
+#[derive(Clone, Copy, Debug)]
 pub struct Argument {
     pub from: Variable,
     pub parameter: Parameter,

@@ -5,7 +5,7 @@ use brc_lang::Kind;
 use brc_model::{Address, Duty, Exit, Layout};
 
 /// What a step does.
-#[derive(Clone, Copy, Debug)]
+#[derive(Clone, Copy)]
 pub enum Event {
     /// It changes the thread alone.
     Silent,
@@ -22,7 +22,7 @@ pub enum Event {
 }
 
 /// A part of a thread's exit.
-#[derive(Clone, Copy, Debug, PartialEq, Eq)]
+#[derive(Clone, Copy, PartialEq, Eq)]
 pub enum ExitPart {
     /// The thread releases its reference to the root, and deallocates what dies by that.
     Root,
@@ -35,7 +35,7 @@ pub enum ExitPart {
 }
 
 /// A part of a thread's work, of one step or more.
-#[derive(Clone, Copy, Debug, PartialEq, Eq)]
+#[derive(Clone, Copy, PartialEq, Eq)]
 pub enum Part {
     /// The instruction with this number, from 0, of the function that the thread's innermost call runs.
     Instruction { at: usize },
@@ -48,7 +48,7 @@ pub enum Part {
 }
 
 /// What a thread's next step does.
-#[derive(Clone, Copy, Debug)]
+#[derive(Clone, Copy)]
 pub struct Sight {
     /// How many rows each thread has. It decides which rows have their marks in a mark word.
     pub layout: Layout,

@@ -1,5 +1,5 @@
 /// The address of a word that threads share. `row` is the row of the word's object.
-#[derive(Clone, Copy, Debug)]
+#[derive(Clone, Copy)]
 pub enum Address {
     /// The object's owner, and the owner's local count.
     Local { row: u32 },

@@ -1,5 +1,5 @@
 /// The work of a worker: one function, called a number of times.
-#[derive(Clone, Copy, Debug, PartialEq, Eq)]
+#[derive(Clone, Copy)]
 pub struct Call {
     /// The function's number, from 0.
     pub function: usize,
@@ -8,7 +8,7 @@ pub struct Call {
 }
 
 /// What a schedule chooses for a step.
-#[derive(Clone, Copy, Debug, PartialEq, Eq)]
+#[derive(Clone, Copy, PartialEq, Eq)]
 pub enum Choice {
     /// The thread takes its next step. If that is a host call, the call succeeds.
     Ok,

@@ -16,7 +16,7 @@ use std::io::Write;
 pub type ExampleLine = (&'static str, &'static str);
 
 /// The page of a code. Its paragraphs are lists of lines.
-#[derive(Clone, Copy, Debug)]
+#[derive(Clone, Copy)]
 pub struct Page {
     /// The code, as `C5`.
     pub code: &'static str,

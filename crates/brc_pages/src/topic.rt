@@ -6,7 +6,7 @@ ghost use Rattle.brc_pages.specs.Topics.{topic_named, read_topic_named};
 use brc_lang::{CheckCode, FaultCode, is_word};
 
 /// A code that can be explained.
-#[derive(Clone, Copy, Debug, PartialEq, Eq)]
+#[derive(Clone, Copy)]
 pub enum Topic {
     /// Why a module is refused: C1 to C12.
     Check(CheckCode),

@@ -7,7 +7,7 @@ use brc_world::Event;
 use std::alloc::{AllocError, Global};
 
 /// A reference that moves from one thread to another.
-#[derive(Clone, Copy, Debug)]
+#[derive(Clone, Copy)]
 pub struct Arrow {
     /// The row of the object.
     pub row: u64,
@@ -32,7 +32,7 @@ pub struct Stop {
 }
 
 /// Where a reference waits for a thread.
-#[derive(Clone, Copy, Debug, PartialEq, Eq)]
+#[derive(Clone, Copy, PartialEq, Eq)]
 enum Place {
     /// In the queue of the object's owner.
     Queue { row: u64 },
@@ -41,7 +41,7 @@ enum Place {
 }
 
 /// A reference that a thread has put somewhere.
-#[derive(Clone, Copy, Debug)]
+#[derive(Clone, Copy)]
 struct Waiting {
     place: Place,
     row: u64,

@@ -30,7 +30,7 @@ pub struct Bar {
 }
 
 /// Some lines in which an object has one state.
-#[derive(Clone, Copy, Debug)]
+#[derive(Clone, Copy)]
 pub struct Band {
     pub life: Life,
     pub first: u32,

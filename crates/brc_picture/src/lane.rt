@@ -10,7 +10,7 @@ const LEAST_WIDTH: usize = 14;
 const MOST_WIDTH: usize = 54;
 
 /// A thread's lane.
-#[derive(Clone, Copy, Debug)]
+#[derive(Clone, Copy)]
 pub struct Lane {
     pub thread: u8,
     /// How many characters a line of it has.

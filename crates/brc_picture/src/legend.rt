@@ -33,7 +33,7 @@ const SIGNS: &[(Sign, &str)] = &[
 ];
 
 /// A sign that isn't a colour.
-#[derive(Clone, Copy, Debug)]
+#[derive(Clone, Copy)]
 enum Sign {
     /// The dotted line from a step to its object.
     Guide,
@@ -43,7 +43,7 @@ enum Sign {
 }
 
 /// A sign of the legend with its words.
-#[derive(Clone, Copy, Debug)]
+#[derive(Clone, Copy)]
 enum Caption {
     State(Life, &'static str),
     Owner(u32),
@@ -110,7 +110,7 @@ impl Caption {
 }
 
 /// Where the next caption is, from the legend's top.
-#[derive(Clone, Copy, Debug)]
+#[derive(Clone, Copy)]
 struct Pen {
     left: u64,
     line: u64,

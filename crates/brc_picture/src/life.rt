@@ -7,7 +7,7 @@ use brc_world::Event;
 use std::alloc::{AllocError, Global};
 
 /// The state of an object.
-#[derive(Clone, Copy, Debug, PartialEq, Eq)]
+#[derive(Clone, Copy)]
 pub enum Life {
     /// Its kind is stored, but nobody owns it yet.
     Unborn,
@@ -58,7 +58,7 @@ fn changed_life(outcome: Option<Outcome>) -> Option<(u32, Life)> {
 }
 
 /// The states of objects, by their rows. Those that it doesn't know are alive.
-#[derive(Debug, Drop)]
+#[derive(Drop)]
 pub struct Lives {
     by_row: Sequence<Life>,
 }

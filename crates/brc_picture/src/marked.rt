@@ -59,7 +59,7 @@ pub fn write_arrow<W: Write>(lanes: &[Lane], arrow: &Arrow, out: &mut W) -> io::
 }
 
 /// Where an arrow begins, bends down, runs down, has bent to the other lane, and ends.
-#[derive(Clone, Copy, Debug)]
+#[derive(Clone, Copy)]
 struct Course {
     begins: u64,
     bends: u64,

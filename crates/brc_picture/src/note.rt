@@ -6,7 +6,7 @@ use brc_word::values::FREE;
 use brc_world::Event;
 
 /// What a step left in a word of an object.
-#[derive(Clone, Copy, Debug)]
+#[derive(Clone, Copy)]
 pub struct Note {
     /// The step's line.
     pub line: u32,
@@ -14,7 +14,7 @@ pub struct Note {
 }
 
 /// The word that a step left.
-#[derive(Clone, Copy, Debug)]
+#[derive(Clone, Copy)]
 pub enum Left {
     Local { word: u64 },
     Shared { word: u64 },

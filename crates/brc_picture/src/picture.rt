@@ -15,7 +15,7 @@ use brc_world::Event;
 use std::alloc::{AllocError, Global};
 
 /// What goes wrong at the end of a run.
-#[derive(Clone, Copy, Debug)]
+#[derive(Clone, Copy)]
 pub enum Wrong<'a> {
     /// The thread's last step: for this reason. `row` is the object that it touches.
     Step {
@@ -63,7 +63,7 @@ pub struct Picture {
 }
 
 /// The line of a step.
-#[derive(Clone, Copy, Debug)]
+#[derive(Clone, Copy)]
 pub struct StepLine {
     pub line: u32,
     /// The step's number in the schedule.

@@ -43,7 +43,7 @@ pub const BAR: u64 = 80;
 const LEAST: u64 = 700;
 
 /// A part of the width.
-#[derive(Clone, Copy, Debug)]
+#[derive(Clone, Copy)]
 pub struct Across {
     pub left: u64,
     pub width: u64,

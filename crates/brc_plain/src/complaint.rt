@@ -2,7 +2,7 @@ use brc_lang::Variable;
 use brc_model::Holding;
 
 /// What is wrong about an event.
-#[derive(Clone, Copy, Debug)]
+#[derive(Clone, Copy)]
 pub enum Complaint {
     /// The thread reads a variable that is empty.
     Empty {
@@ -41,7 +41,7 @@ pub enum Complaint {
 }
 
 /// What a thread does with a reference that it doesn't hold.
-#[derive(Clone, Copy, Debug)]
+#[derive(Clone, Copy)]
 pub enum Use {
     GivesUp,
     Stores,

@@ -4,7 +4,7 @@ ghost use Rattle.brc_report.specs.Paint.{role_mark, mark_text, reset_text};
 /// How a text for people is shown: plain, or with the colours of a terminal.
 ///
 /// The colours are those of ECMA-48's Select Graphic Rendition, which every terminal of today reads.
-#[derive(Clone, Copy, Debug, PartialEq, Eq)]
+#[derive(Clone, Copy)]
 pub enum Paint {
     /// Without any mark: for files, pipes and tests.
     Plain,
@@ -13,7 +13,7 @@ pub enum Paint {
 }
 
 /// What a part of a text is for its reader. Which colour it has is up to `Paint`.
-#[derive(Clone, Copy, Debug, PartialEq, Eq)]
+#[derive(Clone, Copy)]
 pub enum Role {
     /// The name of a rule of the step relation.
     Rule,

@@ -1,7 +1,7 @@
 use brc_lang::{Kind, Sequence};
 
 /// The counts of a world: its threads and its objects.
-#[derive(Debug, Drop)]
+#[derive(Drop)]
 pub struct Tally {
     /// The number of workers.
     pub threads: u64,
@@ -22,7 +22,7 @@ pub struct Tally {
 }
 
 /// An object that is alive.
-#[derive(Clone, Copy, Debug, PartialEq, Eq)]
+#[derive(Clone, Copy)]
 pub struct Left {
     /// The object's row.
     pub row: u32,

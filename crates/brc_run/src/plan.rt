@@ -6,7 +6,7 @@ ghost use Rattle.brc_model.specs.Limits.{worker_limit, row_limit};
 use brc_model::Call;
 
 /// What a run is to do.
-#[derive(Clone, Copy, Debug)]
+#[derive(Clone, Copy)]
 pub struct Plan {
     /// The function that each worker calls, and how often.
     pub call: Call,

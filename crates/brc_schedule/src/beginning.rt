@@ -1,7 +1,7 @@
 use crate::schedule::Schedule;
 
 /// The text above a line of a schedule's text, as far as it has been read.
-#[derive(Debug, Drop)]
+#[derive(Drop)]
 pub enum Beginning {
     /// The first line alone.
     Opened,

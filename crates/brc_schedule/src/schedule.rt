@@ -2,7 +2,7 @@ use brc_lang::{Name, Sequence};
 use brc_model::Choice;
 
 /// The workers of a world, their calls, and the steps that the world takes in order.
-#[derive(Debug, Drop)]
+#[derive(Drop)]
 pub struct Schedule {
     /// The number of workers, 1 to 32.
     pub workers: u8,
@@ -15,7 +15,7 @@ pub struct Schedule {
 }
 
 /// The calls of a worker: the function's name, and how often the worker calls it.
-#[derive(Clone, Copy, Debug)]
+#[derive(Clone, Copy)]
 pub struct PlannedCall {
     pub name: Name,
     /// How often, 1 to 1,000,000.
@@ -23,7 +23,7 @@ pub struct PlannedCall {
 }
 
 /// Several steps of one thread with the same choice.
-#[derive(Clone, Copy, Debug)]
+#[derive(Clone, Copy)]
 pub struct Steps {
     /// Main is 0, the workers are 1, 2, ..
     pub thread: u8,

@@ -32,7 +32,7 @@ pub struct Log {
 }
 
 /// How many calls were made, and how many of them did what they are for.
-#[derive(Clone, Copy, Debug)]
+#[derive(Clone, Copy)]
 pub struct Made {
     pub births: u64,
     pub retains: u64,

@@ -31,7 +31,7 @@ pub struct Totals {
 }
 
 /// What a soak has come to.
-#[derive(Clone, Copy, Debug)]
+#[derive(Clone, Copy)]
 pub struct Soaked {
     /// As the ended heap and the hosts say.
     pub found: Totals,

@@ -14,7 +14,7 @@ use brc_host::FakeResource;
 use brc_list::Lists;
 
 /// How a try to swap a cell ended.
-#[derive(Clone, Copy, Debug, PartialEq, Eq)]
+#[derive(Clone, Copy)]
 pub enum Swapped {
     /// The hand doesn't hold the list or the new item, or would give its last reference to the list away.
     NotHeld,

@@ -5,7 +5,7 @@ ghost use Rattle.brc_table.specs.Contention.{together};
 
 /// How often threads have met at the counts of objects (PEP 703, Biased Reference Counting), as far as their shared
 /// words and the queues show it. Each number stops at the greatest.
-#[derive(Clone, Copy, Debug, PartialEq, Eq)]
+#[derive(Clone, Copy, PartialEq, Eq)]
 pub struct Contention {
     /// The references that were handed to an owner's queue.
     pub queued: u64,

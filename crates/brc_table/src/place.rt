@@ -61,7 +61,7 @@ fn in_marks(thread: u32, word: u32) -> usize
 }
 
 /// A layout, and where its cells are: after the tiles, as many for each row as a list may have.
-#[derive(Clone, Copy, Debug)]
+#[derive(Clone, Copy)]
 pub(crate) struct Cells {
     layout: Layout,
     /// The place of the first one.

@@ -2,7 +2,7 @@
 
 /// Where a hand's work about a row is. A call that makes one try serves both: work that comes next, with other duties
 /// after it, and work that was put aside.
-#[derive(Clone, Copy, Debug, PartialEq, Eq)]
+#[derive(Clone, Copy)]
 pub enum Work {
     /// It comes next, and other duties may come after it.
     Next,

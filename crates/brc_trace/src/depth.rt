@@ -7,7 +7,7 @@ use brc_lang::{Function, Instr};
 use brc_world::{Part, Sight};
 
 /// What a step does with the calls of its thread.
-#[derive(Clone, Copy, Debug, PartialEq, Eq)]
+#[derive(Clone, Copy)]
 pub enum Crossing {
     /// As many are open as before.
     Stays,

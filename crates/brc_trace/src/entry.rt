@@ -18,7 +18,7 @@ use brc_world::{Event, Part, Sight};
 use std::alloc::AllocError;
 
 /// A step that has a line in the trace.
-#[derive(Clone, Copy, Debug)]
+#[derive(Clone, Copy)]
 pub struct Entry {
     /// The step's number in the schedule, from 1.
     pub number: u64,

@@ -5,7 +5,7 @@ use brc_world::NoMemory;
 use std::alloc::AllocError;
 
 /// Why a trace stops.
-#[derive(Clone, Copy, Debug, PartialEq, Eq)]
+#[derive(Clone, Copy)]
 pub enum TraceFault {
     /// Memory was refused.
     NoMemory,

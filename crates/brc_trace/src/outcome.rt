@@ -13,7 +13,7 @@ use brc_word::{is_dead, is_fresh, is_immortal};
 use std::alloc::AllocError;
 
 /// What a step brings about for one object.
-#[derive(Clone, Copy, Debug, PartialEq, Eq)]
+#[derive(Clone, Copy)]
 pub struct Outcome {
     /// The object's row.
     pub row: u32,
@@ -21,7 +21,7 @@ pub struct Outcome {
 }
 
 /// What happens to an object or to a reference to it.
-#[derive(Clone, Copy, Debug, PartialEq, Eq)]
+#[derive(Clone, Copy)]
 pub enum Fate {
     /// The thread has a reference more.
     Gained,

@@ -10,7 +10,7 @@ use brc_world::{Part, Sight};
 use std::alloc::{AllocError, Global};
 
 /// What a thread does.
-#[derive(Clone, Copy, Debug, PartialEq, Eq)]
+#[derive(Clone, Copy)]
 pub struct Doing {
     /// The part of its work that a step belongs to.
     pub part: Part,
@@ -19,7 +19,7 @@ pub struct Doing {
 }
 
 /// What a trace remembers of the steps before.
-#[derive(Debug, Drop)]
+#[derive(Drop)]
 pub struct Past {
     /// By thread: the part of its work that its last step belonged to, and how many calls are open after it.
     pub threads: Sequence<Doing>,

@@ -13,7 +13,7 @@ use brc_world::Event;
 
 /// A way in which a step can go. All but the last three are the rules of the model's step relation, in their order:
 /// those of an object's life, and then those of a thread's exit.
-#[derive(Clone, Copy, Debug, PartialEq, Eq)]
+#[derive(Clone, Copy)]
 pub enum Rule {
     // a birth
     KindOfResource,

@@ -14,7 +14,7 @@ use brc_world::Sight;
 use std::alloc::{AllocError, Global};
 
 /// What tells the steps of a run: it remembers the steps before, and puts together the line of each.
-#[derive(Debug, Drop)]
+#[derive(Drop)]
 pub struct Teller {
     pub past: Past,
     pub line: Line,

@@ -57,7 +57,7 @@ pub fn trace<W: Write>(
 }
 
 /// What writes a trace: what it remembers of the steps before, and the memory in which it puts a line together.
-#[derive(Debug, Drop)]
+#[derive(Drop)]
 pub struct Tracer {
     pub past: Past,
     pub line: Line,

@@ -1,7 +1,7 @@
 //! How a call has ended.
 
 /// How a call has ended that a worker makes.
-#[derive(Clone, Copy, Debug)]
+#[derive(Clone, Copy)]
 pub(crate) enum End {
     /// It returns a reference to the row's object, which is its caller's from then on.
     Returned(u32),

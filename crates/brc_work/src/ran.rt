@@ -6,7 +6,7 @@ ghost use Rattle.brc_work.specs.Totals.{totals_of, with_totals, is_done};
 use crate::totals::Totals;
 
 /// How a worker's run has ended, with what the worker has counted.
-#[derive(Clone, Copy, Debug, PartialEq, Eq)]
+#[derive(Clone, Copy)]
 pub enum Ran {
     /// The worker has made all its calls.
     Done(Totals),

@@ -5,7 +5,7 @@ ghost use Rattle.brc_host.specs.HostCounts.{raised};
 ghost use Rattle.brc_work.specs.Totals.{no_totals};
 
 /// What a worker has counted of its calls. The counts of faults stop at the greatest number.
-#[derive(Clone, Copy, Debug, PartialEq, Eq)]
+#[derive(Clone, Copy, Debug)]
 pub struct Totals {
     /// The objects that it has given birth to.
     pub created: u32,

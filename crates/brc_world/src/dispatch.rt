@@ -40,7 +40,7 @@ mod stops;
 mod ways;
 
 /// The start of a thread's step.
-#[derive(Clone, Copy, Debug)]
+#[derive(Clone, Copy)]
 pub enum Start {
     /// The thread can't go on.
     Stuck,

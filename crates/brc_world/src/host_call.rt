@@ -10,7 +10,7 @@ use brc_lang::Variable;
 use brc_model::{Exit, Stage};
 
 /// A host call, by what its exit decides.
-#[derive(Clone, Copy, Debug)]
+#[derive(Clone, Copy)]
 pub enum HostCall {
     /// It asks for a resource (`open`, `connect`). On success the thread makes an object of it next. On a fault the
     /// variable, which gets no object, is empty, and the thread goes on at `otherwise`.

@@ -12,7 +12,7 @@ use brc_machine::objects::item_in;
 use brc_model::Stage;
 
 /// What a step asks of the word that its duty finds. The answer decides where the thread goes on.
-#[derive(Clone, Copy, Debug)]
+#[derive(Clone, Copy)]
 pub enum Question {
     /// Is the object of the kind, by its kind word? If so, the thread goes on where it is, and otherwise at
     /// `otherwise`.
@@ -28,7 +28,7 @@ pub enum Question {
 }
 
 /// What a thread does if its list has no cell with the index.
-#[derive(Clone, Copy, Debug)]
+#[derive(Clone, Copy)]
 pub enum Outside {
     /// It empties the variable, which gets no item, and goes on at `otherwise` (`borrow`, `fetch`).
     Empties { to: Variable, otherwise: u8 },

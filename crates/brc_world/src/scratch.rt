@@ -11,7 +11,7 @@ use std::alloc::Global;
 
 /// The memory in which a look at a thread's next step keeps a copy of the thread. It is of no thread and no world in
 /// particular. It keeps its memory from look to look, so it needs no more than the longest agenda does.
-#[derive(Debug, Drop)]
+#[derive(Drop)]
 pub struct Scratch {
     pub thread: Thread,
 }
