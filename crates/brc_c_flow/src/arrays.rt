@@ -179,7 +179,7 @@ const STEALING: [&[u8]; 4] = [
 ];
 
 fn steals_last(name: &[u8]) -> bool {
-    STEALING.iter().any(|known| *known == name)
+    STEALING.contains(&name)
 }
 
 impl<'a> Builder<'a> {

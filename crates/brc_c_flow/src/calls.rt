@@ -320,5 +320,5 @@ const ENDS: [&[u8]; 19] = [
 
 /// Returns whether a function of this name doesn't return.
 fn is_end(name: &[u8]) -> bool {
-    ENDS.iter().any(|known| *known == name)
+    ENDS.contains(&name)
 }

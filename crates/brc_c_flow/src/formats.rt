@@ -60,9 +60,7 @@ pub(crate) fn parse_item(text: &[u8], is_optional: bool) -> Option<Item> {
 }
 
 fn is_parsed(byte: u8) -> bool {
-    b"szyuwZbBhHiIlkLKnCcfdDp"
-        .iter()
-        .any(|known| *known == byte)
+    b"szyuwZbBhHiIlkLKnCcfdDp".contains(&byte)
 }
 
 /// Returns the first part of a format that says what a value is built of.
@@ -82,5 +80,5 @@ pub(crate) fn build_item(text: &[u8]) -> Option<Item> {
 }
 
 fn is_built(byte: u8) -> bool {
-    b"szyuiIbhBHlkLKncCfdDp".iter().any(|known| *known == byte)
+    b"szyuiIbhBHlkLKncCfdDp".contains(&byte)
 }

@@ -25,10 +25,7 @@ impl<'a> Builder<'a> {
             return false;
         };
         match self.name_in(function) {
-            Some(name) => {
-                let name = self.symbols.text(name);
-                OPENING.iter().any(|known| *known == name)
-            }
+            Some(name) => OPENING.contains(&self.symbols.text(name)),
             None => false,
         }
     }

@@ -279,5 +279,5 @@ const FREEING: [&[u8]; 6] = [
 ];
 
 pub(crate) fn is_freeing(name: &[u8]) -> bool {
-    FREEING.iter().any(|known| *known == name)
+    FREEING.contains(&name)
 }

@@ -123,7 +123,7 @@ fn target(layout: &Layout, place: usize, to: usize, laid: &mut Laid) -> Result<T
     if layout.place(to) > place && layout.has(to) {
         return Ok(Target::Block(to));
     }
-    if !laid.wanted.iter().any(|known| *known == to) {
+    if !laid.wanted.contains(&to) {
         laid.wanted.push(to)?;
     }
     Ok(Target::Detour(to))

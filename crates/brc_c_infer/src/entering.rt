@@ -64,10 +64,7 @@ fn first_node(graph: &Graph, names: OutNames) -> Option<NodeId> {
 
 fn reads(node: &Node, names: OutNames) -> bool {
     let is_end = copied_to(node, names.local) == Some(names.last);
-    !is_end
-        && names_read(node.event)
-            .iter()
-            .any(|read| *read == Some(names.local))
+    !is_end && names_read(node.event).contains(&Some(names.local))
 }
 
 /// Returns the name that gets what a name has.

@@ -9,7 +9,7 @@ use brc_c_table::Takes;
 use std::alloc::{AllocError, Global};
 
 /// How returns fall into exits: success, and failure if there is one.
-#[derive(Clone, Copy)]
+#[derive(Clone, Copy, PartialEq, Eq)]
 pub(crate) enum Split {
     One,
     /// NULL is a failure.

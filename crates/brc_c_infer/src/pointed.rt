@@ -7,7 +7,7 @@ use brc_c_store::{ObjectId, Store, Value};
 use std::alloc::{AllocError, Global};
 
 /// What a path leaves where an argument points to.
-#[derive(Clone, Copy)]
+#[derive(Clone, Copy, PartialEq, Eq)]
 pub(crate) enum OutRecord {
     /// No object, or one that is freed.
     Nothing,

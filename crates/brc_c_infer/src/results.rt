@@ -102,7 +102,7 @@ fn count_kinds(alloc: Global, flow: &RowFlow, records: &[Record]) -> Result<Coun
     };
     for record in records {
         let kind = (record.site, record.kind);
-        if !seen.iter().any(|known| *known == kind) {
+        if !seen.contains(&kind) {
             seen.push(kind)?;
             add(alloc, flow, record.kind, &mut count)?;
         }

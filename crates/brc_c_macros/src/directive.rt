@@ -1,7 +1,7 @@
 use brc_c_text::{Keyword, Lexeme, LexemeKind, Punctuator, Symbols};
 
 /// What a line that begins with `#` does.
-#[derive(Clone, Copy)]
+#[derive(Clone, Copy, PartialEq, Eq)]
 pub(crate) enum Action {
     If,
     Ifdef,

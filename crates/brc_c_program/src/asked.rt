@@ -1,5 +1,5 @@
 /// The rules that a command asks for.
-#[derive(Clone, Copy)]
+#[derive(Clone, Copy, PartialEq, Eq)]
 pub enum AskedRules {
     Both,
     GlobalLock,

@@ -26,7 +26,7 @@ pub(crate) struct Counts {
 }
 
 /// The status of a command for which there is memory.
-#[derive(Clone, Copy)]
+#[derive(Clone, Copy, PartialEq, Eq)]
 pub enum Status {
     /// There is no error.
     NoError,

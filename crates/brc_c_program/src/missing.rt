@@ -91,7 +91,7 @@ impl Missing {
             .names
             .iter()
             .any(|known| known.as_str().as_bytes() == name);
-        if is_known || SYSTEMS.iter().any(|known| *known == name) {
+        if is_known || SYSTEMS.contains(&name) {
             return Ok(());
         }
         self.names.push(String::from_utf8_lossy(self.alloc, name)?)?;

@@ -149,7 +149,7 @@ impl<F: Files> Headers for Sources<'_, '_, F> {
         from: usize,
         bytes: &mut Vec<u8>,
     ) -> Result<Option<usize>, AllocError> {
-        if PYTHONS.iter().any(|known| *known == name) {
+        if PYTHONS.contains(&name) {
             return Ok(None);
         }
         let found = self.find(name, from, bytes)?;

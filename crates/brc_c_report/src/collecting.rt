@@ -199,7 +199,7 @@ fn is_before(place: Place, other: Place) -> bool {
 
 /// Adds another place of a finding, unless it has it.
 fn add_other(found: &mut Finding, place: Place) -> Result<(), AllocError> {
-    if place == found.place || found.others.iter().any(|other| *other == place) {
+    if place == found.place || found.others.contains(&place) {
         return Ok(());
     }
     let mut at = found.others.len();

@@ -148,7 +148,7 @@ fn protecting(
 }
 
 fn closing(alloc: Global, blame: &Blame) -> Result<String, AllocError> {
-    if blame.node.event == Event::Unlock {
+    if matches!(blame.node.event, Event::Unlock) {
         return String::from_str(alloc, "end each section once");
     }
     if blame.code == CheckCode::LeftLocked {

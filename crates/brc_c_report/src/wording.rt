@@ -196,7 +196,7 @@ fn left_open(
     function: &str,
     blame: &Blame,
 ) -> Result<String, AllocError> {
-    if blame.node.event == Event::Unlock {
+    if matches!(blame.node.event, Event::Unlock) {
         return format!(in alloc; "{function} ends a critical section where none is open");
     }
     let line = match blame.made {

@@ -54,7 +54,7 @@ pub enum Source {
 
 /// What a function does at a point, as far as references go. A call of the C API is several events: each argument is
 /// asked for or given, then comes the call itself, and where it succeeds the rest of what it does.
-#[derive(Clone, Copy, PartialEq, Eq)]
+#[derive(Clone, Copy)]
 pub enum Event {
     /// Nothing: paths meet here.
     Pass,

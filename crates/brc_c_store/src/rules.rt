@@ -1,5 +1,5 @@
 /// The rules that a function is judged by.
-#[derive(Clone, Copy)]
+#[derive(Clone, Copy, PartialEq, Eq)]
 pub enum Rules {
     /// Those of a Python with a global lock, which the function holds unless it allows threads.
     GlobalLock,

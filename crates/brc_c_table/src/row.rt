@@ -98,7 +98,7 @@ pub enum Takes {
 }
 
 /// How a failure shows.
-#[derive(Clone, Copy)]
+#[derive(Clone, Copy, PartialEq, Eq)]
 pub enum Fails {
     /// `null`: the result is NULL.
     Null,

@@ -81,6 +81,16 @@ impl Case {
         Ok(made)
     }
 
+    /// Returns whether something that the command has to write has no text, though without one it says nothing.
+    pub(crate) fn waits_for_text(&self) -> bool {
+        for wanted in &self.wanted {
+            if wanted.waits_for_text() {
+                return true;
+            }
+        }
+        false
+    }
+
     /// Returns whether the command may write this text on the stream. If the case says nothing of a stream or of all of
     /// them, the command writes nothing there.
     pub fn is_met(&self, stream: Stream, name: &str, found: &[u8]) -> bool {

@@ -87,11 +87,10 @@ impl Reader {
 
     /// Fails if what the case last has to write waits for its content.
     fn ends_content(&self) -> Result<(), Why> {
-        if self.place != Place::Wanted {
-            return Ok(());
-        }
-        match self.cases.last().and_then(|case| case.wanted.last()) {
-            Some(wanted) if wanted.waits_for_text() => Err(Why::NoContent),
+        match self.cases.last() {
+            Some(case) if self.place == Place::Wanted && case.waits_for_text() => {
+                Err(Why::NoContent)
+            }
             _ => Ok(()),
         }
     }
@@ -246,7 +245,12 @@ impl Reader {
             text: field_of(self.alloc, text)?,
             answer: field_of(self.alloc, answer)?,
         };
+        let alloc = self.alloc;
         let case = self.case(&[Place::Rows])?;
+        // With an empty field, `has` would be met by any text.
+        if case.of_row(alloc, &row)?.waits_for_text() {
+            return Err(Why::NoContent);
+        }
         push(&mut case.rows, row)
     }
 

@@ -1,5 +1,5 @@
 /// Where a command writes.
-#[derive(Clone, Copy)]
+#[derive(Clone, Copy, PartialEq, Eq)]
 pub enum Stream {
     Out,
     Err,
@@ -10,7 +10,7 @@ pub enum Stream {
 }
 
 /// How a text has to be met.
-#[derive(Clone, Copy)]
+#[derive(Clone, Copy, PartialEq, Eq)]
 pub enum How {
     /// The whole text is this, or another one that may stand in its place.
     Whole,

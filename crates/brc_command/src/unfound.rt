@@ -20,7 +20,7 @@ pub struct Search {
 }
 
 /// Why a search has ended.
-#[derive(Clone, Copy)]
+#[derive(Clone, Copy, PartialEq, Eq)]
 pub enum SearchEnd {
     /// It has seen all states to which the calls that it tried lead.
     Whole,

@@ -47,6 +47,11 @@ const FAULTS: &[(&str, usize, Why)] = &[
         5,
         Why::NoContent,
     ),
+    (
+        "case one\n$ brc\nstatus 0\nout has\n\"<answer>\"\nrows\n- row\n",
+        7,
+        Why::NoContent,
+    ),
     ("text \n", 1, Why::NoName),
     ("case\n", 1, Why::NoName),
     ("text one\n\ntext one\n", 3, Why::NameTwice),

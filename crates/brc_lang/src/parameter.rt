@@ -7,7 +7,7 @@ use crate::kind::Kind;
 use crate::variable::Variable;
 
 /// How a reference is passed to a function (Python/C API, Introduction, Reference Count Details).
-#[derive(Clone, Copy, Debug)]
+#[derive(Clone, Copy, Debug, PartialEq, Eq)]
 pub enum Passing {
     /// The caller lends the reference, and keeps it.
     Borrow,

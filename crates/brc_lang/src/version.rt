@@ -9,7 +9,7 @@ const FEW_CELLS: u8 = 8;
 pub const MOST_CELLS: u8 = 64;
 
 /// The version of the language in which a module is written.
-#[derive(Clone, Copy, Debug)]
+#[derive(Clone, Copy, Debug, PartialEq, Eq)]
 pub enum Version {
     /// `module 1`: no function calls another one.
     One,

@@ -7,7 +7,7 @@ use brc_world::Event;
 use std::alloc::{AllocError, Global};
 
 /// The state of an object.
-#[derive(Clone, Copy)]
+#[derive(Clone, Copy, PartialEq, Eq)]
 pub enum Life {
     /// Its kind is stored, but nobody owns it yet.
     Unborn,

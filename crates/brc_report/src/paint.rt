@@ -4,7 +4,7 @@ ghost use Rattle.brc_report.specs.Paint.{role_mark, mark_text, reset_text};
 /// How a text for people is shown: plain, or with the colours of a terminal.
 ///
 /// The colours are those of ECMA-48's Select Graphic Rendition, which every terminal of today reads.
-#[derive(Clone, Copy)]
+#[derive(Clone, Copy, PartialEq, Eq)]
 pub enum Paint {
     /// Without any mark: for files, pipes and tests.
     Plain,
