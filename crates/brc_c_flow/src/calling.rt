@@ -180,10 +180,14 @@ impl<'a> Builder<'a> {
 
     /// Returns whether the function speaks of a field by which the one goes that it calls.
     fn shares_field(&self, called: Symbol) -> bool {
-        self.tree.expressions().iter().any(|(expression, _)| match *expression {
-            Expression::Field { name, .. } => self.usage.goes_by(called, name),
-            _ => false,
-        })
+        for (expression, _) in self.tree.expressions() {
+            if let Expression::Field { name, .. } = *expression {
+                if self.usage.goes_by(called, name) {
+                    return true;
+                }
+            }
+        }
+        false
     }
 
     /// Returns the name of the function or the field that is called.
@@ -255,13 +259,22 @@ fn sets_items(name: &[u8]) -> bool {
 
 /// Returns whether an argument is given away on each way after the call.
 fn is_any_given_or_lost(how: &[Passing]) -> bool {
-    how.iter()
-        .any(|passing| matches!(*passing, Passing::GivenOrLost))
+    for passing in how {
+        if matches!(*passing, Passing::GivenOrLost) {
+            return true;
+        }
+    }
+    false
 }
 
 /// Returns whether what a call gives, or what it gets beside objects, may say which way the function goes.
 fn shows_way(callee: Callee<'_>, operands: &[Operand]) -> bool {
-    callee.row.gives != Gives::Void || operands.iter().any(|operand| operand.object().is_none())
+    for operand in operands {
+        if operand.object().is_none() {
+            return true;
+        }
+    }
+    callee.row.gives != Gives::Void
 }
 
 /// Returns whether a call with this argument is about an object.

@@ -84,12 +84,14 @@ impl<'a> Builder<'a> {
     }
 
     fn frees(&self) -> bool {
-        self.tree.expressions().iter().any(|(expression, _)| match *expression {
-            Expression::Name(name) | Expression::Field { name, .. } => {
-                is_freeing(self.symbols.text(name))
+        for (expression, _) in self.tree.expressions() {
+            if let Expression::Name(name) | Expression::Field { name, .. } = *expression {
+                if is_freeing(self.symbols.text(name)) {
+                    return true;
+                }
             }
-            _ => false,
-        })
+        }
+        false
     }
 
     fn speaks_of_cells(&self) -> bool {
@@ -174,7 +176,12 @@ pub(crate) fn begins_or_ends(name: &[u8], parameters: usize) -> bool {
 }
 
 fn has_part_of(text: &[u8], parts: &[&[u8]]) -> bool {
-    parts.iter().any(|part| has_part(text, part))
+    for part in parts {
+        if has_part(text, part) {
+            return true;
+        }
+    }
+    false
 }
 
 /// Returns whether a text has this part.

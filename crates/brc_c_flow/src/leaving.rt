@@ -117,15 +117,19 @@ impl<'a> Builder<'a> {
 
     /// Returns whether the function reads or sets a field of this name, or asks for it at its ends.
     fn speaks_of_field(&self, field: Symbol) -> bool {
-        let is_asked = self
-            .asked_fields
-            .iter()
-            .any(|asked| asked.null.field == field);
-        is_asked
-            || self.tree.expressions().iter().any(|(expression, _)| match *expression {
-                Expression::Field { name, .. } => name == field,
-                _ => false,
-            })
+        for asked in self.asked_fields.iter() {
+            if asked.null.field == field {
+                return true;
+            }
+        }
+        for (expression, _) in self.tree.expressions() {
+            if let Expression::Field { name, .. } = *expression {
+                if name == field {
+                    return true;
+                }
+            }
+        }
+        false
     }
 }
 

@@ -89,14 +89,20 @@ impl<'a> Builder<'a> {
 
     /// Returns whether the function sets what a pointer points to, or passes the pointer to one that does.
     fn is_set_through(&self, name: Symbol) -> bool {
-        self.tree.expressions().iter().any(|(expression, _)| match *expression {
-            Expression::Assign { left, .. } => self.is_behind(left, name),
-            Expression::Call {
-                function,
-                arguments,
-            } => self.sets_through(function, arguments, name),
-            _ => false,
-        })
+        for (expression, _) in self.tree.expressions() {
+            let is_set = match *expression {
+                Expression::Assign { left, .. } => self.is_behind(left, name),
+                Expression::Call {
+                    function,
+                    arguments,
+                } => self.sets_through(function, arguments, name),
+                _ => false,
+            };
+            if is_set {
+                return true;
+            }
+        }
+        false
     }
 
     fn sets_through(&self, function: ExpressionId, arguments: List, name: Symbol) -> bool {

@@ -110,9 +110,12 @@ impl<'a> Builder<'a> {
 
     /// Returns whether the function asks whether a variable has NULL.
     fn is_asked(&self, local: Local) -> bool {
-        self.tested
-            .iter()
-            .any(|name| self.local_of(*name) == Some(local))
+        for name in self.tested.iter() {
+            if self.local_of(*name) == Some(local) {
+                return true;
+            }
+        }
+        false
     }
 
     /// Returns what a call has that makes no object: a number, if it matters.

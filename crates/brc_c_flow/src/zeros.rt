@@ -56,17 +56,18 @@ fn body_of(tree: &Tree, block: StatementId) -> Option<&[StatementId]> {
 
 /// Returns whether variables get nothing but names, numbers and strings.
 fn has_constants(tree: &Tree, list: List) -> bool {
-    tree.declarations(list)
-        .iter()
-        .all(|declared| match declared.value {
-            Some(value) => {
-                matches!(
-                    tree.expression(value),
-                    Some(Expression::Name(_) | Expression::Number(_) | Expression::Text(_))
-                )
+    for declared in tree.declarations(list) {
+        if let Some(value) = declared.value {
+            let is_constant = matches!(
+                tree.expression(value),
+                Some(Expression::Name(_) | Expression::Number(_) | Expression::Text(_))
+            );
+            if !is_constant {
+                return false;
             }
-            None => true,
-        })
+        }
+    }
+    true
 }
 
 /// Returns the variable of which a condition asks whether it is 0.
