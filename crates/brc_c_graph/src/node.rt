@@ -5,7 +5,7 @@ use brc_c_store::{Choice, Event};
 use brc_c_text::Place;
 
 /// A node of a graph, by its place there. A path begins at the first one.
-#[derive(Clone, Copy, Debug, PartialEq, Eq)]
+#[derive(Clone, Copy, PartialEq, Eq)]
 pub struct NodeId(pub usize);
 
 impl NodeId {

@@ -5,14 +5,14 @@ use brc_c_store::Choice;
 use brc_lang::CheckCode;
 
 /// A step of a path: a node, and the way after its event.
-#[derive(Clone, Copy, Debug, PartialEq, Eq)]
+#[derive(Clone, Copy, PartialEq, Eq)]
 pub struct Step {
     pub node: NodeId,
     pub choice: Choice,
 }
 
 /// A rule that a path breaks.
-#[derive(Debug, Drop)]
+#[derive(Drop)]
 pub struct Fault {
     pub code: CheckCode,
     /// The node whose event breaks it.

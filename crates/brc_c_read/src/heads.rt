@@ -9,8 +9,8 @@ use brc_c_text::{Keyword, Lexeme, LexemeKind, Punctuator, Symbols};
 use brc_c_tree::{Parameter, Tag, TypeName};
 use std::alloc::Global;
 
-#[derive(Clone, Copy, Debug)]
 /// A function's name, what comes before it, and what its parentheses enclose.
+#[derive(Clone, Copy)]
 pub(crate) struct Head<'a> {
     pub(crate) name: Lexeme,
     pub(crate) before: &'a [Lexeme],

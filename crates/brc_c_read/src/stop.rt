@@ -3,7 +3,7 @@ use brc_c_tree::{NotRead, Reason};
 use std::alloc::{AllocError, AllocFailed};
 
 /// Why reading a function stops.
-#[derive(Clone, Copy, Debug)]
+#[derive(Clone, Copy)]
 pub(crate) enum Stop {
     NotRead(NotRead),
     NoMemory,

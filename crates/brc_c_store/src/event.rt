@@ -3,7 +3,7 @@ use crate::signs::{Signs, Test};
 use crate::value::{Fact, Local, Singleton};
 
 /// Which way a path goes on after an event.
-#[derive(Clone, Copy, Debug, PartialEq, Eq)]
+#[derive(Clone, Copy, PartialEq, Eq)]
 pub enum Choice {
     /// The only way, the one where a condition holds, or where a call succeeds.
     Yes,

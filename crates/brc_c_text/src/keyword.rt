@@ -1,5 +1,5 @@
 /// The keywords of C, as far as the reader asks for them.
-#[derive(Clone, Copy, Debug, PartialEq, Eq)]
+#[derive(Clone, Copy, PartialEq, Eq)]
 pub enum Keyword {
     Asm,
     Break,

@@ -5,7 +5,7 @@ use crate::token::{Token, TokenKind};
 use std::alloc::{AllocError, Global};
 
 /// What a lexeme is.
-#[derive(Clone, Copy, Debug, PartialEq, Eq)]
+#[derive(Clone, Copy, PartialEq, Eq)]
 pub enum LexemeKind {
     /// An identifier that is no keyword.
     Name,
@@ -23,7 +23,7 @@ pub enum LexemeKind {
 }
 
 /// A place in the sources of a program.
-#[derive(Clone, Copy, Debug, PartialEq, Eq)]
+#[derive(Clone, Copy, PartialEq, Eq)]
 pub struct Place {
     /// The number of the source.
     pub source: usize,
@@ -33,7 +33,7 @@ pub struct Place {
 }
 
 /// A token without its source: its symbol says what it spells.
-#[derive(Clone, Copy, Debug)]
+#[derive(Clone, Copy)]
 pub struct Lexeme {
     pub kind: LexemeKind,
     /// Whether it is the first one of its line, where continued lines are one.

@@ -4,7 +4,7 @@ use std::collections::HashMap;
 
 /// A symbol of a program: what a token spells. Two tokens have the same symbol exactly if they have the same bytes.
 /// Where several variables of a function have one name, each has a symbol of its own.
-#[derive(Clone, Copy, Debug, PartialEq, Eq, Hash)]
+#[derive(Clone, Copy, PartialEq, Eq, Hash)]
 pub struct Symbol {
     number: usize,
     variable: u32,

@@ -10,7 +10,7 @@ pub const TOKEN_LIMIT: usize = 32768;
 pub const NESTING_LIMIT: usize = 64;
 
 /// What the grammar has at a place.
-#[derive(Clone, Copy, Debug)]
+#[derive(Clone, Copy)]
 pub enum Expected {
     Punctuator(Punctuator),
     Keyword(Keyword),
@@ -20,7 +20,7 @@ pub enum Expected {
 }
 
 /// Why a function isn't read.
-#[derive(Clone, Copy, Debug)]
+#[derive(Clone, Copy)]
 pub enum Reason {
     /// Another lexeme is there than the grammar has.
     Instead {
@@ -51,7 +51,7 @@ pub enum Reason {
 }
 
 /// The place at which a function isn't understood, and why.
-#[derive(Clone, Copy, Debug)]
+#[derive(Clone, Copy)]
 pub struct NotRead {
     pub place: Place,
     pub reason: Reason,

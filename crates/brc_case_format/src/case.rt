@@ -120,7 +120,12 @@ impl Case {
 
     /// Returns whether the command is also carried out over outputs that stop taking bytes.
     pub fn stops(&self) -> bool {
-        self.wanted.iter().any(|wanted| wanted.how == How::Stops)
+        for wanted in &self.wanted {
+            if wanted.how == How::Stops {
+                return true;
+            }
+        }
+        false
     }
 
     /// Returns whether the command may write this on standard error and end with this status if its output has stopped

@@ -41,7 +41,7 @@ pub fn read_content(
 ) -> Result<(), Why> {
     if let Some(text) = line.strip_prefix('|') {
         into.extend_from_slice(text.strip_prefix(' ').unwrap_or(text).as_bytes())?;
-        into.push(b'\n').map_err(|_| Why::NoMemory)?;
+        into.push(b'\n')?;
         return Ok(());
     }
     let (what, times) = split_times(line)?;
@@ -95,7 +95,7 @@ pub fn unquoted(alloc: Global, text: &str) -> Result<Vec<u8>, Why> {
         let (next, meant) = after(at, *byte)?;
         at = next;
         if let Some(meant) = meant {
-            made.push(meant).map_err(|_| Why::NoMemory)?;
+            made.push(meant)?;
         }
     }
     match at {

@@ -1,4 +1,4 @@
-use std::alloc::AllocError;
+use std::alloc::{AllocError, AllocFailed};
 use std::fmt;
 use thiserror::Error;
 
@@ -41,6 +41,12 @@ pub enum Why {
 
 impl From<AllocError> for Why {
     fn from(_: AllocError) -> Why {
+        Why::NoMemory
+    }
+}
+
+impl<T: Drop> From<AllocFailed<T>> for Why {
+    fn from(_: AllocFailed<T>) -> Why {
         Why::NoMemory
     }
 }

@@ -116,7 +116,7 @@ impl Reader {
             return Err(Why::NameTwice);
         }
         let name = String::from_str(self.alloc, name)?;
-        push(&mut texts.entries, (name, Vec::new(self.alloc)))?;
+        texts.entries.push((name, Vec::new(self.alloc)))?;
         self.place = Place::Text;
         Ok(())
     }
@@ -129,7 +129,7 @@ impl Reader {
             return Err(Why::NoName);
         }
         let case = Case::named(self.alloc, line, name)?;
-        push(&mut self.cases, case)?;
+        self.cases.push(case)?;
         self.place = Place::Name;
         Ok(())
     }
@@ -178,7 +178,7 @@ impl Reader {
             text: Vec::new(self.alloc),
         };
         let case = self.case(&[Place::Words, Place::File])?;
-        push(&mut case.files, file)?;
+        case.files.push(file)?;
         self.place = Place::File;
         Ok(())
     }
@@ -211,7 +211,7 @@ impl Reader {
             text: Vec::new(self.alloc),
         };
         let case = self.case(&[Place::Status, Place::Wanted])?;
-        push(&mut case.wanted, wanted)?;
+        case.wanted.push(wanted)?;
         self.place = Place::Wanted;
         Ok(())
     }
@@ -251,7 +251,7 @@ impl Reader {
         if case.of_row(alloc, &row)?.waits_for_text() {
             return Err(Why::NoContent);
         }
-        push(&mut case.rows, row)
+        Ok(case.rows.push(row)?)
     }
 
     fn add_content(&mut self, texts: &mut Texts, line: &str) -> Result<(), Why> {
@@ -290,10 +290,6 @@ impl Reader {
     }
 }
 
-fn push<T: Drop>(into: &mut Vec<T>, item: T) -> Result<(), Why> {
-    into.push(item).map_err(|_| Why::NoMemory)
-}
-
 /// Returns the bytes of a field, which is bare or in quotes.
 fn field_of(alloc: Global, field: &str) -> Result<Vec<u8>, Why> {
     if field.starts_with('"') {
@@ -315,7 +311,7 @@ fn word_of(alloc: Global, field: &str) -> Result<String, Why> {
 /// Appends the bytes of a field.
 fn add_field(alloc: Global, field: Option<&str>, words: &mut Vec<Vec<u8>>) -> Result<(), Why> {
     let bytes = field_of(alloc, field.unwrap_or(""))?;
-    push(words, bytes)
+    Ok(words.push(bytes)?)
 }
 
 /// Returns the words of a command line. A blank within quotes parts no words.

@@ -68,7 +68,12 @@ impl Wanted {
 
 /// Returns whether the text has the part.
 fn contains(text: &[u8], part: &[u8]) -> bool {
-    part.is_empty() || text.windows(part.len().max(1)).any(|seen| seen == part)
+    for seen in text.windows(part.len().max(1)) {
+        if seen == part {
+            return true;
+        }
+    }
+    part.is_empty()
 }
 
 /// Returns whether no line of the text is wider than 80 columns.

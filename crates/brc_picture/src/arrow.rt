@@ -25,7 +25,7 @@ impl Arrow {
 }
 
 /// An end of an arrow: a step.
-#[derive(Clone, Copy, Debug)]
+#[derive(Clone, Copy)]
 pub struct Stop {
     pub thread: u8,
     pub line: u32,
