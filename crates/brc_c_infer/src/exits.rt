@@ -35,6 +35,16 @@ impl Split {
             Split::Missing => !returned.signs.is_empty() && !returned.signs.above,
         }
     }
+
+    /// Returns whether one of these returns is a failure.
+    pub(crate) fn has_failure(self, records: &[Record]) -> bool {
+        for record in records {
+            if self.fails(record) {
+                return true;
+            }
+        }
+        false
+    }
 }
 
 /// What an exit does with an argument.
@@ -86,7 +96,7 @@ fn exits_by(
         outs: Vec::new(alloc),
         cost: 0,
     };
-    let has_failure = records.iter().any(|record| split.fails(record));
+    let has_failure = split.has_failure(records);
     for (number, argument) in flow.arguments.iter().enumerate() {
         if argument.local.is_none() {
             exits.takes.push(Takes::NoObject)?;

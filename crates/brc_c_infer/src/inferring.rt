@@ -126,10 +126,12 @@ impl<'a> Work<'a> {
             return false;
         }
         let made = self.made.get(number).copied().unwrap_or(0);
+        for callee in self.calls.callees(number) {
+            if self.changed.get(*callee).copied().unwrap_or(0) > made {
+                return true;
+            }
+        }
         made == 0
-            || self.calls.callees(number).iter().any(|callee| {
-                self.changed.get(*callee).copied().unwrap_or(0) > made
-            })
     }
 
     fn make_row(&mut self, number: usize) -> Result<(), AllocError> {

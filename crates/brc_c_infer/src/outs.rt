@@ -3,7 +3,7 @@
 use crate::entering::is_read;
 use crate::exits::Split;
 use crate::pointed::OutRecord;
-use crate::records::{Fate, Record};
+use crate::records::{Fate, Record, is_replaced};
 use crate::sites::Sites;
 use crate::tracing::container_of;
 use brc_c_flow::{Left, LeftObject, OutNames, OwnOut, RowFlow};
@@ -51,12 +51,9 @@ pub(crate) fn vote_on_out(
     number: usize,
     names: OutNames,
 ) -> Result<OutVote, AllocError> {
-    let is_replaced = records.iter().any(|record| match record.outs.get(number) {
-        Some(out) => out.before == Fate::GivenUp,
-        None => false,
-    });
+    let is_replaced = is_replaced(records, number);
     let from = container_of(alloc, flow, names.local)?;
-    let has_failure = records.iter().any(|record| split.fails(record));
+    let has_failure = split.has_failure(records);
     let left = argument_left(records, split, number);
     let counts = counts_of(alloc, flow, records, split, false, number, left)?;
     let success = vote_of(&counts, from, true);

@@ -99,11 +99,12 @@ fn is_moved(flow: &RowFlow, returned: Returned, store: &Store, names: OutNames) 
     if store.object_of(names.last) == Some(id) {
         return false;
     }
+    for other in flow.outs.iter() {
+        if store.object_of(other.last) == Some(id) {
+            return true;
+        }
+    }
     returned_object(returned, store) == Some(id)
-        || flow
-            .outs
-            .iter()
-            .any(|other| store.object_of(other.last) == Some(id))
 }
 
 fn returned_object(returned: Returned, store: &Store) -> Option<ObjectId> {

@@ -118,14 +118,22 @@ fn give_returned(records: &mut Vec<Record>, number: usize) {
     }
 }
 
+/// Returns whether a function gives up what was where an argument points to.
+pub(crate) fn is_replaced(records: &[Record], number: usize) -> bool {
+    for record in records {
+        if let Some(out) = record.outs.get(number) {
+            if out.before == Fate::GivenUp {
+                return true;
+            }
+        }
+    }
+    false
+}
+
 /// Counts an argument as stolen that is left where another one points to, if the function gives up what was there: a
 /// reference is owned there.
 fn steal_stored(records: &mut Vec<Record>, number: usize) {
-    let is_replaced = records.iter().any(|record| match record.outs.get(number) {
-        Some(out) => out.before == Fate::GivenUp,
-        None => false,
-    });
-    if !is_replaced {
+    if !is_replaced(records, number) {
         return;
     }
     for record in records.iter_mut() {

@@ -67,11 +67,14 @@ fn plain_given(files: &Files<'_>, function: &Function, records: &[Record]) -> Gi
 
 /// Returns what is known of what arguments point to: nothing, if a return has moved it elsewhere.
 fn outs_of(alloc: Global, records: &[Record], outs: Vec<OwnOut>) -> Vec<OwnOut> {
-    let moves = records.iter().any(|record| record
-        .outs
-        .iter()
-        .any(|out| out.after == OutRecord::Moved));
-    if moves { Vec::new(alloc) } else { outs }
+    for record in records {
+        for out in record.outs.iter() {
+            if out.after == OutRecord::Moved {
+                return Vec::new(alloc);
+            }
+        }
+    }
+    outs
 }
 
 /// Returns the fields of arguments that are NULL at each return.
@@ -209,14 +212,20 @@ fn takes_of(
 
 /// Returns whether other code may run in a function: a call in it runs some, or other threads are allowed to.
 fn runs_code(graph: &Graph) -> bool {
-    graph.nodes().iter().any(|node| match node.event {
-        Event::Detach => true,
-        Event::EndItems => match node.words {
-            Some(words) => !sets_items(graph.words(words)),
-            None => true,
-        },
-        _ => false,
-    })
+    for node in graph.nodes() {
+        let runs = match node.event {
+            Event::Detach => true,
+            Event::EndItems => match node.words {
+                Some(words) => !sets_items(graph.words(words)),
+                None => true,
+            },
+            _ => false,
+        };
+        if runs {
+            return true;
+        }
+    }
+    false
 }
 
 /// Returns whether a function of the table ends items only since it replaces one.
