@@ -180,17 +180,29 @@ impl Macros {
 
 /// Returns whether a body has `(*)`, or takes a slot of a table of functions.
 fn casts(symbols: &Symbols, body: &[Lexeme]) -> bool {
-    let has_star = body.windows(3).any(|three| {
-        three.len() == 3
-            && three[0].is(Punctuator::LeftParen)
-            && three[1].is(Punctuator::Star)
-            && three[2].is(Punctuator::RightParen)
-    });
-    has_star
-        || body.iter().any(|lexeme| lexeme.kind == LexemeKind::Name
-            && has_slot(symbols.text(lexeme.symbol)))
+    for three in body.windows(3) {
+        if let [open, star, close] = three {
+            if open.is(Punctuator::LeftParen)
+                && star.is(Punctuator::Star)
+                && close.is(Punctuator::RightParen)
+            {
+                return true;
+            }
+        }
+    }
+    for lexeme in body {
+        if lexeme.kind == LexemeKind::Name && has_slot(symbols.text(lexeme.symbol)) {
+            return true;
+        }
+    }
+    false
 }
 
 fn has_slot(name: &[u8]) -> bool {
-    name.windows(4).any(|part| part == b"SLOT".as_slice())
+    for part in name.windows(4) {
+        if part == b"SLOT".as_slice() {
+            return true;
+        }
+    }
+    false
 }

@@ -138,7 +138,12 @@ fn tag_of(keyword: Keyword) -> Option<Tag> {
 }
 
 pub(crate) fn is_static(before: &[Lexeme]) -> bool {
-    before.iter().any(|lexeme| lexeme.kind == LexemeKind::Keyword(Keyword::Static))
+    for lexeme in before {
+        if lexeme.kind == LexemeKind::Keyword(Keyword::Static) {
+            return true;
+        }
+    }
+    false
 }
 
 /// Reads the parameters in a head's parentheses.

@@ -157,7 +157,12 @@ fn is_head(head: &[Lexeme]) -> bool {
     let Some(last) = without_names(head).last() else {
         return false;
     };
-    last.is(Punctuator::RightParen) && !head.iter().any(|lexeme| lexeme.is(Punctuator::Equal))
+    for lexeme in head {
+        if lexeme.is(Punctuator::Equal) {
+            return false;
+        }
+    }
+    last.is(Punctuator::RightParen)
 }
 
 /// Returns a head without the names at its end, which are macros for attributes.

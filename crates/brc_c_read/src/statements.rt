@@ -159,11 +159,12 @@ fn begins_declaration(keyword: Keyword) -> bool {
 }
 
 fn is_capital(name: &[u8]) -> bool {
-    name.len() > 1
-        && name[0].is_ascii_uppercase()
-        && name.iter().all(|byte| byte.is_ascii_uppercase()
-            || byte.is_ascii_digit()
-            || *byte == b'_')
+    for byte in name {
+        if !byte.is_ascii_uppercase() && !byte.is_ascii_digit() && *byte != b'_' {
+            return false;
+        }
+    }
+    name.len() > 1 && name[0].is_ascii_uppercase()
 }
 
 fn is_pythons(name: &[u8]) -> bool {

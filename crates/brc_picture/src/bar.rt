@@ -176,8 +176,10 @@ impl Bars {
         entry: &Entry,
         before: &Lives,
     ) -> Result<(), AllocError> {
-        if self.bars.as_slice().iter().any(|bar| bar.row == row) {
-            return Ok(());
+        for bar in &self.bars {
+            if bar.row == row {
+                return Ok(());
+            }
         }
         self.bars.push(Bar::new(alloc, row, line, entry, before))?;
         Ok(())

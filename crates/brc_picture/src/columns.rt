@@ -45,11 +45,20 @@ fn columns_with(column: Option<u32>) -> u32 {
 /// Returns the first column in which these lines are free.
 fn free_column(bars: &[Bar], first: u32, end: u32) -> Option<u32> {
     for column in 0..MOST_COLUMNS {
-        if !bars.iter().any(|bar| is_beside(bar, column, first, end)) {
+        if is_free(bars, column, first, end) {
             return Some(column);
         }
     }
     None
+}
+
+fn is_free(bars: &[Bar], column: u32, first: u32, end: u32) -> bool {
+    for bar in bars {
+        if is_beside(bar, column, first, end) {
+            return false;
+        }
+    }
+    true
 }
 
 /// Whether the bar is in the column, and too near to these lines.

@@ -19,11 +19,21 @@ pub struct Lane {
     pub tracks: u32,
 }
 
+/// Whether the thread takes one of these steps.
+fn is_there(entries: &[Entry], thread: u8) -> bool {
+    for entry in entries {
+        if entry.thread == thread {
+            return true;
+        }
+    }
+    false
+}
+
 /// Returns the lanes of the threads that take these steps, main's first.
 pub fn lanes_of(alloc: Global, entries: &[Entry]) -> Result<Vec<Lane>, AllocError> {
     let mut lanes = Vec::new(alloc);
     for thread in 0..u8::MAX {
-        if entries.iter().any(|entry| entry.thread == thread) {
+        if is_there(entries, thread) {
             lanes.push(Lane {
                 thread,
                 width: LEAST_WIDTH,

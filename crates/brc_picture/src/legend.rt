@@ -166,11 +166,12 @@ fn caption_at(picture: &Picture, number: usize) -> Option<Caption> {
 
 /// Returns the owner's caption, if a bar is the owner's.
 fn owner_at(picture: &Picture, owner: u32) -> Option<Caption> {
-    if picture.bars.as_slice().iter().any(|bar| bar.owner == owner) {
-        Some(Caption::Owner(owner))
-    } else {
-        None
+    for bar in &picture.bars {
+        if bar.owner == owner {
+            return Some(Caption::Owner(owner));
+        }
     }
+    None
 }
 
 /// Returns how many objects have no bar.

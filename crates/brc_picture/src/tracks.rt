@@ -42,14 +42,20 @@ pub fn left_of(lanes: &[Lane], arrow: &Arrow) -> u8 {
 /// Returns the first track right of the thread's lane that no arrow beside this one has.
 fn free_track(lanes: &[Lane], arrows: &[Arrow], thread: u8, arrow: &Arrow) -> u32 {
     for track in 0..MOST_TRACKS {
-        if !arrows
-            .iter()
-            .any(|other| is_taken(lanes, thread, track, other, arrow))
-        {
+        if is_free(lanes, arrows, thread, track, arrow) {
             return track;
         }
     }
     MOST_TRACKS - 1
+}
+
+fn is_free(lanes: &[Lane], arrows: &[Arrow], thread: u8, track: u32, arrow: &Arrow) -> bool {
+    for other in arrows {
+        if is_taken(lanes, thread, track, other, arrow) {
+            return false;
+        }
+    }
+    true
 }
 
 /// Whether the other arrow is in the track right of the thread's lane, and has a line in common with this one.
