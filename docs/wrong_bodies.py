@@ -24,6 +24,7 @@ the refused ones, and with status 1 if one isn't refused.
 """
 import functools
 import re
+import shutil
 import subprocess
 import sys
 import tempfile
@@ -126,8 +127,11 @@ def check():
 
 
 def cloned(folder):
-    """Clones the last commit, with all wrong bodies in must-fail/."""
+    """Clones the last commit, with all wrong bodies in must-fail/, and the libraries that `rt` has built here: it builds anew
+    those whose stamp says that they are of other bytes."""
     subprocess.run(["git", "clone", "-q", ROOT, folder], check=True)
+    for built in ROOT.glob("crates/*/out/rlib"):
+        shutil.copytree(built, folder / built.relative_to(ROOT))
     for path in folder.glob("crates/*/also-must-fail/*.edit"):
         (path.parents[1] / "must-fail").mkdir(exist_ok=True)
         path.rename(path.parents[1] / "must-fail" / path.name)
@@ -157,8 +161,9 @@ def try_all(crates):
             finally:
                 free.put(clone)
 
+        # Those with the most come first, so that none of them is tried alone at the end.
         with ThreadPoolExecutor(lanes.lanes()) as pool:
-            refused = sum(pool.map(tried, named))
+            refused = sum(pool.map(tried, sorted(named, key=number.get, reverse=True)))
     wanted = sum(number[crate] for crate in named)
     print(f"{refused} of {wanted} wrong bodies refused")
     return 0 if refused == wanted else 1

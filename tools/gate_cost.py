@@ -4,11 +4,12 @@
     python3 tools/gate_cost.py LOG [--anew] [CRATE..]
 
 It clones the last commit, runs `rt ci` there (where the kit keeps what earlier runs passed, from nothing only with
---anew), and puts what it prints into the file LOG. Each second it reads how much processor time the compiler's
-processes have taken, by the crate that they work on and by what they do for it: its code, its tests, the second check
-that its wrong bodies begin with, and the wrong bodies. Last it prints the table, and without the name of a crate it
-writes it between the two marks of docs/lists/PERFORMANCE.md; then come the closing line of the gate and the times. The
-machine has to be idle, or the times say little. ./test prints the table of its own run.
+--anew; a kit that keeps nothing takes no such word), and puts what it prints into the file LOG. Each second it reads how
+much processor time the compiler's processes have taken, by the crate that they work on and by what they do for it: its
+code, its tests, the second check that its wrong bodies begin with, and the wrong bodies. Last it prints the table, and
+if the gate passed, without the name of a crate, it writes it between the two marks of docs/lists/PERFORMANCE.md; then
+come the closing line of the gate and the times. The machine has to be idle, or the times say little. ./test prints the
+table of its own run.
 
 What a process takes in its last second isn't seen, nor what starts and ends between two looks: the row "the rest" has
 that, and compiling, linking and running.
@@ -150,7 +151,7 @@ def main():
         clone = Path(room) / "clone"
         subprocess.run(["git", "clone", "-q", ROOT, clone], check=True)
         ran = measured(clone, sys.argv[2:], log)
-    if not [word for word in sys.argv[2:] if word != "--anew"]:
+    if ran.status == 0 and not [word for word in sys.argv[2:] if word != "--anew"]:
         head, rest = PAGE.read_text().split(MARKS[0])
         PAGE.write_text(head + MARKS[0] + "\n" + ran.table + "\n" + MARKS[1] + rest.split(MARKS[1])[1])
     print(ran.table, ran.closing, f"{ran.took:.0f} core-seconds, {ran.wall:.0f} seconds", sep="\n")
