@@ -199,6 +199,7 @@ def try_crate(folder, say):
             refused += 1
             say(f"{folder.name}/{body.path.stem}: refused: {why[:160]}")
     for line in try_alone(folder, left) if left else []:
-        refused += ": refused, as it must be" in line
+        # Without a reason, or where only a proof names what the body no longer has, no contract has refused it.
+        refused += ": refused, as it must be: " in line
         say(line)
     return refused
