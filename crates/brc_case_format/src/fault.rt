@@ -15,7 +15,7 @@ pub enum Why {
     OutOfOrder,
     #[error("content belongs below `text`, `file`, `out`, `err`, `all` or `saved`, and not below `narrow`")]
     NoPlace,
-    #[error("content is missing: `has`, `lacks`, `begins`, `ends` and `err stops` want the text that is meant, for each row too")]
+    #[error("write the text that is meant below `has`, `lacks`, `begins`, `ends` or `err stops`, for each row too")]
     NoContent,
     #[error("a name is missing after the first word")]
     NoName,

@@ -79,8 +79,8 @@ fn write_end<W: Write>(end: SearchEnd, function: &Function, out: &mut W) -> io::
     }
 }
 
-/// Returns the first instruction in the refused function that was tried and never found an item, or if there is none the
-/// first one in another function.
+/// Returns the first instruction in the refused function that was tried and never found an item, or if there is none,
+/// the first one in another function.
 fn first_missing(search: &Search) -> Option<ItemRead> {
     let mut first: Option<ItemRead> = None;
     for read in search.reads.as_slice() {

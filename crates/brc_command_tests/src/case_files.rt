@@ -52,6 +52,16 @@ const FAULTS: &[(&str, usize, Why)] = &[
         7,
         Why::NoContent,
     ),
+    (
+        "case one\n$ brc\nstatus 0\nout has\n\"<answer>\"\nerr has\n\"no\"\nrows\n- row\n",
+        9,
+        Why::NoContent,
+    ),
+    (
+        "case one\n$ brc\nstatus 0\nout has\n\"yes\"\nerr has\n\"<answer>\"\nrows\n- row\n",
+        9,
+        Why::NoContent,
+    ),
     ("text \n", 1, Why::NoName),
     ("case\n", 1, Why::NoName),
     ("text one\n\ntext one\n", 3, Why::NameTwice),

@@ -18,7 +18,7 @@ pub struct Arrow {
 }
 
 impl Arrow {
-    /// Whether it leads to a lane further right.
+    /// Whether it ends in a lane to the right of the one in which it begins.
     pub fn is_to_the_right(&self) -> bool {
         self.from.thread < self.to.thread
     }

@@ -44,7 +44,7 @@ pub fn lanes_of(alloc: Global, entries: &[Entry]) -> Result<Vec<Lane>, AllocErro
     Ok(lanes)
 }
 
-/// Makes the thread's lane as wide as a line of so many characters needs.
+/// Makes the thread's lane wide enough for a line with this number of characters.
 pub fn widen(lanes: &mut [Lane], thread: u8, characters: usize) {
     for lane in lanes.iter_mut() {
         if lane.thread == thread && lane.width < characters {
