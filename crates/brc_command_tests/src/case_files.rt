@@ -48,17 +48,7 @@ const FAULTS: &[(&str, usize, Why)] = &[
         Why::NoContent,
     ),
     (
-        "case one\n$ brc\nstatus 0\nout has\n\"<answer>\"\nrows\n- row\n",
-        7,
-        Why::NoContent,
-    ),
-    (
         "case one\n$ brc\nstatus 0\nout has\n\"<answer>\"\nerr has\n\"no\"\nrows\n- row\n",
-        9,
-        Why::NoContent,
-    ),
-    (
-        "case one\n$ brc\nstatus 0\nout has\n\"yes\"\nerr has\n\"<answer>\"\nrows\n- row\n",
         9,
         Why::NoContent,
     ),
